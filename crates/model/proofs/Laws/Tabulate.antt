@@ -1,0 +1,36 @@
+-- Lists by a rule. Assumes nothing.
+use mathlib.Core.Path.{_≡_, refl, sym, ap, _∙_}
+use mathlib.Core.List.{List, _∷_}
+use Prim.Native.Nat.{ℕ, zero, suc, _≤_, _<_}
+use native.Mathlib.Nat.{le-of-suc-le-suc, not-suc-le-zero}
+use native.Mathlib.Omega.{arith}
+use lib.ListN.{length, getD, replicate, getD-replicate}
+use lib.Dec.{ltb}
+use borrow.Author.Tests.{le-ltb}
+use Rattle.model.specs.Kleene.{Kleene, No, Unknown}
+use Rattle.model.specs.Action.{tabulate}
+use Rattle.model.specs.Case.{caseOf}
+use Rattle.model.specs.Values.{firstCase, valueByte, ShowsUpTo}
+
+pub length-tabulate : {X : Type 0} (n : ℕ) (f : ℕ → X) → length (tabulate n f) ≡ n
+length-tabulate zero f = refl
+length-tabulate (suc n) f = ap suc (length-tabulate n (λ i. f (suc i)))
+
+pub getD-tabulate : {X : Type 0} (n : ℕ) (f : ℕ → X) (i : ℕ) (d : X) → i < n → getD (tabulate n f) i d ≡ f i
+getD-tabulate zero f i d h = absurd (not-suc-le-zero h)
+getD-tabulate (suc n) f zero d h = refl
+getD-tabulate (suc n) f (suc i) d h = getD-tabulate n (λ j. f (suc j)) i d (le-of-suc-le-suc h)
+
+pub tabulate-same : {X : Type 0} (n : ℕ) (f g : ℕ → X) → ((i : ℕ) → f i ≡ g i) → tabulate n f ≡ tabulate n g
+tabulate-same zero f g h = refl
+tabulate-same (suc n) f g h = λ i. h zero i ∷ tabulate-same n (λ j. f (suc j)) (λ j. g (suc j)) (λ j. h (suc j)) i
+
+-- an array that holds one value throughout
+pub uniform : (most : ℕ) (v : Kleene) → ShowsUpTo most (replicate most (valueByte v)) (λ n. tabulate n (λ i. v))
+uniform most v n h i l =
+    getD-replicate most i (valueByte v) 0 (omega arith) ∙ ap valueByte (sym (getD-tabulate n (λ j. v) i No l))
+
+-- the case that fixes no fact is the first case of the walk, whatever its number
+pub first-case : (w n v : ℕ) → caseOf w n 0 v ≡ firstCase n
+unfolding caseOf
+first-case w n v = tabulate-same n _ _ λ i. rw (le-ltb i 0 (omega arith))

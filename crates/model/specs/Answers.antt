@@ -1,0 +1,64 @@
+-- The answer enums of src/lib.rt: the paper's number and values for each of their cases. The contracts of the operations are
+-- equations between these and the definitions of Operations.
+use mathlib.Core.List.{List}
+use Prim.Native.Nat.{ℕ}
+use Rattle.model.specs.Answer.{Answer, refused, answered}
+use Rattle.model.specs.Run as Run
+use Rattle.model.specs.Walk.{Verdict, right, wrong, undecided}
+use Rattle.model.specs.Operations.{Counts}
+use Rattle.model.specs.declared.Refusal.{Refusal}
+use Rattle.model.specs.declared.Outcome.{Outcome}
+use Rattle.model.specs.declared.Outcome.the-variants.{Reached, Missed, Blocked}
+use Rattle.model.specs.declared.ProblemAnswer.{ProblemAnswer}
+use Rattle.model.specs.declared.ProblemAnswer.the-variants.{Refused as ProblemRefused, Accepted as ProblemAccepted}
+use Rattle.model.specs.declared.PlanAnswer.{PlanAnswer}
+use Rattle.model.specs.declared.PlanAnswer.the-variants.{Refused as PlanRefused, Accepted as PlanAccepted}
+use Rattle.model.specs.declared.RunAnswer.{RunAnswer}
+use Rattle.model.specs.declared.RunAnswer.the-variants.{Refused as RunRefused, Ended}
+use Rattle.model.specs.declared.JudgeAnswer.{JudgeAnswer}
+use Rattle.model.specs.declared.JudgeAnswer.the-variants.{Refused as JudgeRefused, Right, Wrong, Undecided}
+use Rattle.model.specs.declared.WriteAnswer.{WriteAnswer}
+use Rattle.model.specs.declared.WriteAnswer.the-variants.{Refused as WriteRefused, Written}
+use Rattle.model.specs.declared.FollowAnswer.{FollowAnswer}
+use Rattle.model.specs.declared.FollowAnswer.the-variants.{Refused as FollowRefused, Passes}
+
+-- "Each refusal carries a number and a place"
+abbrev pub refusal : {A : Type 0} → Refusal → Answer A
+refusal r = refused (r .number) (r .place)
+
+-- "the fact and action counts"
+abbrev pub problemAnswer : ProblemAnswer → Answer Counts
+problemAnswer (ProblemRefused r) = refusal r
+problemAnswer (ProblemAccepted n m) = answered (record { facts = n; actions = m })
+
+-- "the step count"
+abbrev pub planAnswer : PlanAnswer → Answer ℕ
+planAnswer (PlanRefused r) = refusal r
+planAnswer (PlanAccepted n) = answered n
+
+-- "reached, missed, or blocked with its step"
+abbrev pub outcome : Outcome → Run.Outcome
+outcome Reached = Run.reached
+outcome Missed = Run.missed
+outcome (Blocked i) = Run.blocked (record { step = i })
+
+abbrev pub runAnswer : RunAnswer → Answer Run.Outcome
+runAnswer (RunRefused r) = refusal r
+runAnswer (Ended o) = answered (outcome o)
+
+-- "right with lines and visits; wrong with state, outcome and visits; undecided with visits"
+abbrev pub judgeAnswer : JudgeAnswer → Answer (Verdict ℕ)
+judgeAnswer (JudgeRefused r) = refusal r
+judgeAnswer (Right ls a) = answered (right ls a)
+judgeAnswer (Wrong s o a) = answered (wrong s (outcome o) a)
+judgeAnswer (Undecided a) = answered (undecided a)
+
+-- "the length is returned"
+abbrev pub writeAnswer : WriteAnswer → Answer ℕ
+writeAnswer (WriteRefused r) = refusal r
+writeAnswer (Written n) = answered n
+
+-- "it passes, with the line count"
+abbrev pub followAnswer : FollowAnswer → Answer ℕ
+followAnswer (FollowRefused r) = refusal r
+followAnswer (Passes n) = answered n

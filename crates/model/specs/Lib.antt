@@ -1,0 +1,22 @@
+-- What every answer means, in the order of document 01: meaning first, bytes after it, operations last.
+pub mod Limits
+pub mod Kleene
+pub mod Formula
+pub mod Action
+pub mod Run
+pub mod Case
+pub mod Belief
+pub mod Walk
+pub mod Answer
+pub mod CaseList
+pub mod Read
+pub mod FormulaBytes
+pub mod ProblemBytes
+pub mod ListBytes
+pub mod Operations
+pub mod Values
+pub mod Answers
+pub mod Text
+pub mod DeskText
+pub mod WellFormed
+pub mod Trials

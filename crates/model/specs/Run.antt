@@ -1,0 +1,31 @@
+-- One run of a plan (document 01, "The store as facts").
+use mathlib.Core.Bool.{Bool, true, false, cond}
+use mathlib.Core.List.{List, [], _∷_}
+use Prim.Native.Nat.{ℕ, suc}
+use Rattle.model.specs.Kleene.{Logic}
+use Rattle.model.specs.Formula.{Formula, eval}
+use Rattle.model.specs.Action.{Action, applicable, step}
+
+-- where a run is blocked: "the first step, counted from 0, that is not applicable"
+pub record Stop : Type 0 where
+  pub step : ℕ
+
+-- "A run stops as blocked at the first step .. that is not applicable. Otherwise it is reached or missed by the goal at the end."
+pub data Outcome : Type 0 where
+  reached missed : Outcome
+  blocked : Stop → Outcome
+
+abbrev pub atEnd : Bool → Outcome
+atEnd true = reached
+atEnd false = missed
+
+-- what follows an applicable action, else the block
+unfoldable pub goesOn : Bool → Outcome → Stop → Outcome
+goesOn true rest s = rest
+goesOn false rest s = blocked s
+
+-- the run of what is left of a plan over n facts, at step i, from the values c
+module _ {X : Type 0} (L : Logic X) (n : ℕ) (goal : Formula) where
+  unfoldable pub run : List Action → ℕ → List X → Outcome
+  run [] i c = atEnd (L .holds (eval L c goal))
+  run (a ∷ plan) i c = let rest = run plan (suc i) (step L n a c) in goesOn (applicable L a c) rest (record { step = i })

@@ -1,0 +1,325 @@
+-- The trial cases of document 01 that are to be proved, on their bytes, and each refusal at and inside its edge: a call and what it
+-- gives.
+use mathlib.Core.List.{List, [], _∷_, _++_}
+use Prim.Native.Nat.{ℕ, zero, suc, _+_}
+use lib.ListN.{replicate}
+use Rattle.model.specs.declared.Limits.{Limits}
+use Rattle.model.specs.Limits.{version1}
+use Rattle.model.specs.Formula.{eval}
+use Rattle.model.specs.Action.{conditionIn, applicable, next, step}
+use Rattle.model.specs.Run.{Outcome, reached, missed, blocked, goesOn, run}
+use Rattle.model.specs.Case.{bit, stateOf, caseOf, runOf}
+use Rattle.model.specs.Walk.{Verdict, right, wrong, undecided, walkFrom, walk, lookAt, walked, judged}
+use Rattle.model.specs.Answer as Answer
+use Rattle.model.specs.Answer.{Answer, refused, answered}
+use Rattle.model.specs.CaseList.{first, refuseAt, ends, fault, follow}
+use Rattle.model.specs.Read.{andThen, _>>=_, _>>_, done, position, require, answerOf, bigEndianFrom, bytesOf, block, byte, counted, header, count}
+use Rattle.model.specs.FormulaBytes.{isLiteral, literalOf, groupHead, headFrom, head, members, whole, item, stated, formula}
+use Rattle.model.specs.ProblemBytes.{effect, effects, action, actions, problem, problemOf, steps, plan, planOf, actionAt}
+use Rattle.model.specs.ListBytes.{lineAt, linesFrom, caseList, listOf, lineBytes, linesBytes, encodeList}
+use Rattle.model.specs.Text.{ascii, hex}
+use Rattle.model.specs.DeskText.{digits, decimal, sentence, marks, linesText, listText, verdictText, answerText, deskText}
+use Rattle.model.specs.Operations.{Counts, Written, isState, readProblem, readPlan, taskOf, readTask, runState, judge, listBytes, linesFor, written, listFor, writeList, followList}
+
+pub data Call : Type 0 where
+  read-problem : List ℕ → Call
+  read-plan : List ℕ → List ℕ → Call
+  run-state : List ℕ → List ℕ → ℕ → Call
+  judge-with : List ℕ → List ℕ → ℕ → Call
+  write-list : Limits → List ℕ → List ℕ → ℕ → List ℕ → Call
+  follow-list : List ℕ → List ℕ → List ℕ → Call
+  desk : List ℕ → List ℕ → Call
+
+pub data Reply : Type 0 where
+  counts : Answer Counts → Reply
+  number : Answer ℕ → Reply
+  outcome : Answer Outcome → Reply
+  verdict : Answer (Verdict ℕ) → Reply
+  writes : Written → Reply
+  text : List ℕ → Reply
+
+-- what the definitions give; a proof that unfolds this computes with all of them
+unfoldable pub reply : Call → Reply
+unfolding eval conditionIn applicable next step goesOn run bit stateOf caseOf runOf walkFrom walk lookAt walked judged Answer._>>=_ first refuseAt ends fault follow andThen _>>=_ _>>_ done position require answerOf bigEndianFrom bytesOf block byte counted header count isLiteral literalOf groupHead headFrom head members whole item stated formula effect effects action actions problem problemOf steps plan planOf actionAt lineAt linesFrom caseList listOf lineBytes linesBytes encodeList isState readProblem readPlan taskOf readTask runState judge listBytes linesFor written listFor writeList followList ascii hex digits decimal sentence marks linesText listText verdictText answerText deskText
+reply (read-problem p) = counts (readProblem version1 p)
+reply (read-plan p q) = number (readPlan version1 p q)
+reply (run-state p q s) = outcome (runState version1 p q s)
+reply (judge-with p q g) = verdict (judge version1 p q g)
+reply (write-list F p q g out) = writes (writeList F p q g out)
+reply (follow-list p q l) = number (followList version1 p q l)
+reply (desk p q) = text (deskText version1 p q)
+
+pub record Row : Type 0 where
+  pub call : Call
+  pub gives : Reply
+
+infix 10 _⇒_
+abbrev pub _⇒_ : Call → Reply → Row
+c ⇒ r = record { call = c; gives = r }
+
+-- "P (after document 001)"
+abbrev P : List ℕ
+P =
+    hex
+    "01 00000020 03 02 0007 80 02 81 02 00 01 42 0001 02 0002 80 00 01 02 0001 00 0002 80 00 01 02 0001 01"
+
+-- P with "Action 0 given precondition fact 0", "Goal the empty "all"" and "Initial the empty "any""
+abbrev P-guarded : List ℕ
+P-guarded =
+    hex
+    "01 0000001f 03 02 0007 80 02 81 02 00 01 42 0001 02 0001 00 01 02 0001 00 0002 80 00 01 02 0001 01"
+
+abbrev P-goal : List ℕ
+P-goal =
+    hex
+    "01 00000021 03 02 0007 80 02 81 02 00 01 42 0002 80 00 0002 80 00 01 02 0001 00 0002 80 00 01 02 0001 01"
+
+abbrev P-no-start : List ℕ
+P-no-start =
+    hex
+    "01 0000001b 03 02 0002 81 00 0001 02 0002 80 00 01 02 0001 00 0002 80 00 01 02 0001 01"
+
+-- plans 0, 1; 0 alone; and the empty one
+abbrev both-steps : List ℕ
+both-steps = hex "01 00000002 00 01"
+
+abbrev step-0 : List ℕ
+step-0 = hex "01 00000001 00"
+
+abbrev no-step : List ℕ
+no-step = hex "01 00000000"
+
+-- "Its list", "its last line split into 10 and 11", "Last line dropped", "Last two swapped", "First line with kind 1"
+abbrev the-list : List ℕ
+the-list = hex "01 00000018 00 02 000000000000 01 02 400000000000 01 01 800000000000"
+
+abbrev split-list : List ℕ
+split-list =
+    hex "01 00000020 00 02 000000000000 01 02 400000000000 01 02 800000000000 01 02 c00000000000"
+
+abbrev short-list : List ℕ
+short-list = hex "01 00000010 00 02 000000000000 01 02 400000000000"
+
+abbrev swapped-list : List ℕ
+swapped-list = hex "01 00000018 00 02 000000000000 01 01 800000000000 01 02 400000000000"
+
+abbrev other-kind : List ℕ
+other-kind = hex "01 00000018 01 02 000000000000 01 02 400000000000 01 01 800000000000"
+
+abbrev grant : ℕ
+grant = 1000000
+
+abbrev wrote : ℕ → List ℕ → Reply
+wrote n bytes = writes (record { answer = answered n; buffer = bytes })
+
+abbrev kept : ℕ → ℕ → List ℕ → Reply
+kept n q out = writes (record { answer = refused n q; buffer = out })
+
+-- the starred cases, in document 01's order
+abbrev pub starred : List Row
+starred =
+    (judge-with P both-steps grant ⇒ verdict (answered (right 3 5)))
+    ∷ (write-list version1 P both-steps grant (replicate 30 7) ⇒ wrote 29 (the-list ++ (7 ∷ [])))
+    ∷ (follow-list P both-steps the-list ⇒ number (answered 3))
+    ∷ (judge-with P step-0 grant ⇒ verdict (answered (wrong 0x400000000000 missed 5)))
+    ∷ (judge-with P no-step grant ⇒ verdict (answered (wrong 0x400000000000 missed 5)))
+    ∷ (judge-with P both-steps 4 ⇒ verdict (answered (undecided 4)))
+    ∷ (judge-with P both-steps 0 ⇒ verdict (answered (undecided 0)))
+    ∷ (judge-with P-guarded both-steps grant ⇒ verdict (answered (wrong 0x400000000000 (blocked (record { step = 0 })) 5)))
+    ∷ (judge-with P-goal no-step grant ⇒ verdict (answered (right 1 1)))
+    ∷ (judge-with P-no-start both-steps grant ⇒ verdict (answered (right 1 1)))
+    ∷ (judge-with P-no-start step-0 grant ⇒ verdict (answered (right 1 1)))
+    ∷ (judge-with P-no-start no-step grant ⇒ verdict (answered (right 1 1)))
+    ∷ (write-list version1 P-no-start both-steps grant (replicate 13 0) ⇒ wrote 13 (hex "01 00000008 00 00 000000000000"))
+    ∷ (follow-list P both-steps split-list ⇒ number (answered 4))
+    ∷ (follow-list P both-steps short-list ⇒ number (refused 70 2))
+    ∷ (follow-list P both-steps swapped-list ⇒ number (refused 68 1))
+    ∷ (follow-list P both-steps other-kind ⇒ number (refused 69 0))
+    ∷ []
+
+-- sound blocks for the edges: `one-fact` is body bytes 01 00 0001 00 0001 00
+abbrev body : List ℕ → List ℕ
+body bytes = block 1 bytes
+
+abbrev accepts : ℕ → ℕ → Reply
+accepts n m = counts (answered (record { facts = n; actions = m }))
+
+abbrev refuses : ℕ → ℕ → Reply
+refuses n q = counts (refused n q)
+
+-- a problem of one fact whose initial formula has these bytes, length included
+abbrev initially : List ℕ → List ℕ
+initially f = body (hex "01 00" ++ (f ++ hex "0001 00"))
+
+-- a problem of one fact and one action with this effect count and these effects
+abbrev acting : List ℕ → List ℕ
+acting e = body (hex "01 01 0001 00 0001 00 0001 00" ++ e)
+
+-- so many effects, each on condition fact 0, from a literal byte on
+abbrev rising : ℕ → ℕ → List ℕ
+rising zero b = []
+rising (suc n) b = b ∷ 0 ∷ 1 ∷ 0 ∷ rising n (b + 1)
+
+-- so many actions with precondition fact 0 and no effect
+abbrev idle : ℕ → List ℕ
+idle zero = []
+idle (suc n) = 0 ∷ 1 ∷ 0 ∷ 0 ∷ idle n
+
+-- 48 facts, one action that sets fact 47 always, and 256 steps of it
+abbrev wide : List ℕ
+wide = body (hex "30 01 0002 80 00 0001 2f 0002 80 00 01 2f 0002 80 00")
+
+abbrev long-plan : ℕ → List ℕ
+long-plan n = block 1 (replicate n 0)
+
+-- 48 facts that are all true at the start, and no action
+abbrev deep : List ℕ
+deep =
+    body
+    (hex "30 00 0032 80 30 00 01 02 03 04 05 06 07 08 09 0a 0b 0c 0d 0e 0f 10 11 12 13 14 15 16 17" ++
+    hex "18 19 1a 1b 1c 1d 1e 1f 20 21 22 23 24 25 26 27 28 29 2a 2b 2c 2d 2e 2f 0001 2f")
+
+-- "An action that always sets and always clears 2", in P
+abbrev P-both : List ℕ
+P-both = hex "01 0000001d 03 01 0007 80 02 81 02 00 01 42 0001 02 0002 80 00 02 02 0002 80 00 42 0002 80 00"
+
+-- a version whose lists have two lines at most: 52 with few lines
+abbrev two-lines : Limits
+two-lines =
+    record {
+      version = 1;
+      width = 48;
+      facts = 48;
+      actions = 64;
+      effects = 96;
+      problem = 32768;
+      formula = 1024;
+      depth = 8;
+      steps = 256;
+      line = 8;
+      lines = 2;
+    }
+
+-- a list of P's lines
+abbrev lines : List ℕ → List ℕ
+lines bytes = block 1 bytes
+
+-- an "any" of 255 members
+abbrev 81ff : List ℕ
+81ff = hex "81 ff" ++ replicate 255 0
+
+-- each refusal in the order of its number, and the call just inside its edge
+abbrev pub edges : List Row
+edges =
+    -- 10 to 13
+    (read-problem (replicate 32769 1) ⇒ refuses 10 32768)
+    ∷ (read-problem (replicate 32768 1) ⇒ refuses 13 1)
+    ∷ (read-problem [] ⇒ refuses 11 0)
+    ∷ (read-problem (hex "01 000000") ⇒ refuses 11 4)
+    ∷ (read-problem (hex "02 00000001") ⇒ refuses 12 0)
+    ∷ (read-problem (hex "00 00000000") ⇒ refuses 12 0)
+    ∷ (read-problem (hex "01 00000001") ⇒ refuses 13 1)
+    ∷ (read-problem (hex "01 01000000") ⇒ refuses 13 1)
+    -- 14
+    ∷ (read-problem (hex "01 00000000") ⇒ refuses 14 5)
+    ∷ (read-problem (body (hex "01")) ⇒ refuses 14 6)
+    ∷ (read-problem (body (hex "01 00 00")) ⇒ refuses 14 8)
+    ∷ (read-problem (body (hex "01 00 0002 00")) ⇒ refuses 14 10)
+    ∷ (read-problem (body (hex "01 00 0001 00")) ⇒ refuses 14 10)
+    ∷ (read-problem (body (hex "01 01 0001 00 0001 00 0001 00")) ⇒ refuses 14 16)
+    ∷ (read-problem (acting (hex "01")) ⇒ refuses 14 17)
+    -- 15, 16
+    ∷ (read-problem (body (hex "00 00 0001 00 0001 00")) ⇒ refuses 15 5)
+    ∷ (read-problem (body (hex "31 00 0001 00 0001 00")) ⇒ refuses 15 5)
+    ∷ (read-problem (body (hex "30 00 0001 2f 0001 6f")) ⇒ accepts 48 0)
+    ∷ (read-problem (body (hex "01 41 0001 00 0001 00" ++ idle 65)) ⇒ refuses 16 6)
+    ∷ (read-problem (body (hex "01 40 0001 00 0001 00" ++ idle 64)) ⇒ accepts 1 64)
+    -- 17
+    ∷ (read-problem (initially (hex "0000")) ⇒ refuses 17 7)
+    ∷ (read-problem (initially (hex "0001 00")) ⇒ accepts 1 0)
+    ∷ (read-problem (initially (hex "0400 80 04" ++ (81ff ++ (81ff ++ (81ff ++ (hex "81 f9" ++ replicate 249 0)))))) ⇒ accepts 1 0)
+    ∷ (read-problem (initially (hex "0401 80 04" ++ (81ff ++ (81ff ++ (81ff ++ (hex "81 fa" ++ replicate 250 0)))))) ⇒ refuses 17 7)
+    -- 18
+    ∷ (read-problem (initially (hex "0001 01")) ⇒ refuses 18 9)
+    ∷ (read-problem (initially (hex "0001 40")) ⇒ accepts 1 0)
+    ∷ (read-problem (initially (hex "0001 41")) ⇒ refuses 18 9)
+    ∷ (read-problem (initially (hex "0001 82")) ⇒ refuses 18 9)
+    ∷ (read-problem (initially (hex "0004 80 01 80 00")) ⇒ refuses 18 11)
+    ∷ (read-problem (initially (hex "0004 80 01 81 00")) ⇒ accepts 1 0)
+    ∷ (read-problem (initially (hex "0003 81 01 81")) ⇒ refuses 18 11)
+    -- 19, also at the last stated byte
+    ∷ (read-problem (initially (hex "0010 80 01 81 01 80 01 81 01 80 01 81 01 80 01 81 00")) ⇒ accepts 1 0)
+    ∷ (read-problem (initially (hex "0012 80 01 81 01 80 01 81 01 80 01 81 01 80 01 81 01 80 00")) ⇒ refuses 19 25)
+    ∷ (read-problem (initially (hex "0011 80 01 81 01 80 01 81 01 80 01 81 01 80 01 81 01 80")) ⇒ refuses 19 25)
+    ∷ (read-problem (initially (hex "0012 80 01 81 01 80 01 81 01 80 01 81 01 80 01 81 01 81 00")) ⇒ refuses 18 25)
+    -- 20, 21
+    ∷ (read-problem (initially (hex "0001 80")) ⇒ refuses 20 10)
+    ∷ (read-problem (initially (hex "0002 80 01")) ⇒ refuses 20 11)
+    ∷ (read-problem (initially (hex "0003 80 02 00")) ⇒ refuses 20 12)
+    ∷ (read-problem (initially (hex "0002 80 ff")) ⇒ refuses 20 11)
+    ∷ (read-problem (initially (hex "0002 00 00")) ⇒ refuses 21 10)
+    ∷ (read-problem (initially (hex "0003 80 00 00")) ⇒ refuses 21 11)
+    -- 22
+    ∷ (read-problem (acting (hex "61")) ⇒ refuses 22 16)
+    ∷ (read-problem (body (hex "30 01 0001 00 0001 00 0001 00 60" ++ (rising 48 0 ++ rising 48 64))) ⇒ accepts 48 1)
+    -- 23, then 24
+    ∷ (read-problem (acting (hex "01 01 0001 00")) ⇒ refuses 23 17)
+    ∷ (read-problem (acting (hex "01 41 0001 00")) ⇒ refuses 23 17)
+    ∷ (read-problem (acting (hex "02 00 0001 00 40 0001 00")) ⇒ accepts 1 1)
+    ∷ (read-problem (acting (hex "02 00 0001 00 00 0001 00")) ⇒ refuses 24 21)
+    ∷ (read-problem (acting (hex "02 40 0001 00 00 0001 00")) ⇒ refuses 24 21)
+    ∷ (read-problem (acting (hex "02 40 0001 00 01 0001 00")) ⇒ refuses 23 21)
+    -- 25
+    ∷ (read-problem (body (hex "01 00 0001 00 0001 00 00")) ⇒ refuses 25 13)
+    ∷ (read-problem (body (hex "01 00 0001 00 0001 00")) ⇒ accepts 1 0)
+    -- 30 to 34, after the problem's
+    ∷ (read-plan P (replicate 262 0) ⇒ number (refused 30 261))
+    ∷ (read-plan P (long-plan 256) ⇒ number (answered 256))
+    ∷ (read-plan P (hex "01 0000") ⇒ number (refused 31 3))
+    ∷ (read-plan P (hex "02 00000000") ⇒ number (refused 32 0))
+    ∷ (read-plan P (hex "01 00000001") ⇒ number (refused 33 1))
+    ∷ (read-plan P (hex "01 00000002 01 02") ⇒ number (refused 34 6))
+    ∷ (read-plan P (hex "01 00000002 01 01") ⇒ number (answered 2))
+    ∷ (read-plan [] [] ⇒ number (refused 11 0))
+    -- 40
+    ∷ (run-state P both-steps 0x600000000000 ⇒ outcome (answered reached))
+    ∷ (run-state P both-steps 0x100000000000 ⇒ outcome (refused 40 0))
+    ∷ (run-state P both-steps 0x1000000000000 ⇒ outcome (refused 40 0))
+    ∷ (run-state P both-steps 0 ⇒ outcome (answered missed))
+    ∷ (run-state P-guarded both-steps 0 ⇒ outcome (answered (blocked (record { step = 0 }))))
+    ∷ (run-state P-both step-0 0 ⇒ outcome (answered reached))
+    ∷ (run-state P [] 0 ⇒ outcome (refused 31 0))
+    -- 50 to 53: no byte of the buffer is changed
+    ∷ (write-list version1 P both-steps 4 (replicate 29 7) ⇒ kept 50 4 (replicate 29 7))
+    ∷ (write-list version1 P step-0 grant (replicate 29 7) ⇒ kept 51 5 (replicate 29 7))
+    ∷ (write-list two-lines P both-steps grant (replicate 29 7) ⇒ kept 52 3 (replicate 29 7))
+    ∷ (write-list version1 P both-steps 5 (replicate 28 7) ⇒ kept 53 3 (replicate 28 7))
+    ∷ (write-list version1 P both-steps 5 (replicate 29 7) ⇒ wrote 29 the-list)
+    ∷ (write-list version1 [] both-steps 5 (replicate 3 7) ⇒ kept 11 0 (replicate 3 7))
+    -- 60 to 64
+    ∷ (follow-list P both-steps (replicate 65534 1) ⇒ number (refused 60 65533))
+    ∷ (follow-list P both-steps [] ⇒ number (refused 61 0))
+    ∷ (follow-list P both-steps (hex "02 00000000") ⇒ number (refused 62 0))
+    ∷ (follow-list P both-steps (hex "01 00000008") ⇒ number (refused 63 1))
+    ∷ (follow-list P both-steps (lines (replicate 9 0)) ⇒ number (refused 64 14))
+    ∷ (follow-list P [] [] ⇒ number (refused 31 0))
+    -- 65 to 70
+    ∷ (follow-list P both-steps (lines (hex "02 04 000000000001")) ⇒ number (refused 65 0))
+    ∷ (follow-list P both-steps (lines (hex "01 04 000000000001")) ⇒ number (refused 66 0))
+    ∷ (follow-list P both-steps (lines (hex "01 03 300000000000")) ⇒ number (refused 67 0))
+    ∷ (follow-list P both-steps (lines (hex "01 03 200000000000")) ⇒ number (refused 68 0))
+    ∷ (follow-list P both-steps (lines (hex "01 03 000000000000")) ⇒ number (refused 69 0))
+    ∷ (follow-list P both-steps (lines (hex "00 00 000000000000")) ⇒ number (refused 69 0))
+    ∷ (follow-list P both-steps (lines []) ⇒ number (refused 70 0))
+    ∷ (follow-list P both-steps (lines (hex "00 03 000000000000 00 03 200000000000")) ⇒ number (refused 70 2))
+    ∷ (follow-list P both-steps (the-list ++ hex "00") ⇒ number (refused 63 1))
+    -- 48 facts and 256 steps
+    ∷ (judge-with wide (long-plan 256) grant ⇒ verdict (answered (right 1 1)))
+    ∷ (judge-with deep no-step grant ⇒ verdict (answered (right 49 97)))
+    -- the desk program
+    ∷ (desk P both-steps ⇒ text (ascii "right lines 3 visited 5\nno-start 00?\ncarries 01?\ncarries 1??\n"))
+    ∷ (desk P step-0 ⇒ text (ascii "wrong 010 at end visited 5\n"))
+    ∷ (desk P-guarded both-steps ⇒ text (ascii "wrong 010 at step 0 visited 5\n"))
+    ∷ (desk [] both-steps ⇒ text (ascii "refused problem 11 at 0\n"))
+    ∷ (desk P (hex "01 00000002 01 02") ⇒ text (ascii "refused plan 34 at 6\n"))
+    ∷ []

@@ -1,0 +1,37 @@
+-- How the code holds the values of a case or a state: one byte a fact, `Values` of src/lib.rt.
+use mathlib.Core.Path.{_≡_}
+use mathlib.Core.List.{List}
+use Prim.Native.Nat.{ℕ, _-_, _≤_, _<_, min, max}
+use lib.ListN.{getD}
+use lib.Dec.{eqb}
+use Rattle.model.specs.Kleene.{Kleene, No, Unknown, Yes, Logic}
+use Rattle.model.specs.Action.{tabulate}
+
+-- the case that fixes no fact, and the state in which no fact is true
+abbrev pub firstCase : ℕ → List Kleene
+firstCase n = tabulate n (λ i. Unknown)
+
+abbrev pub emptyState : ℕ → List Kleene
+emptyState n = tabulate n (λ i. No)
+
+-- the byte of a value: in this order an "all" is the least of its members, and an "any" the greatest
+abbrev pub valueByte : Kleene → ℕ
+valueByte No = 0
+valueByte Unknown = 1
+valueByte Yes = 2
+
+-- reading a formula in bytes
+abbrev pub inBytes : Logic ℕ
+inBytes = record { always = 2; never = 0; both = min; either = max; denied = λ v. 2 - v; holds = λ v. eqb v 2 }
+
+-- every byte is a value's
+abbrev pub Valued : List ℕ → Type 0
+Valued bytes = (i : ℕ) → getD bytes i 0 ≤ 2
+
+-- the first n bytes hold the values of c
+abbrev pub Shows : ℕ → List ℕ → List Kleene → Type 0
+Shows n bytes c = (i : ℕ) → i < n → getD bytes i 0 ≡ valueByte (getD c i No)
+
+-- and so for every fact count up to `most`
+abbrev pub ShowsUpTo : ℕ → List ℕ → (ℕ → List Kleene) → Type 0
+ShowsUpTo most bytes c = (n : ℕ) → n ≤ most → Shows n bytes (c n)

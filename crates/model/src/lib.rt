@@ -1,0 +1,164 @@
+// What the checker reads and what it answers: the declared types with their limits, and no code that reads a byte.
+// What they mean is in specs/: begin at specs/Lib.antt.
+ghost use mathlib.Core.Path.{_≡_};
+ghost use Rattle.model.specs.Limits.{version1};
+ghost use Rattle.model.specs.Values.{ShowsUpTo, firstCase, emptyState};
+
+// The values of a case or a state as the code holds them, one byte a fact: 0 no, 1 unknown, 2 yes.
+pub type Values = [u8; 64];
+
+// A problem block that was read, and where its parts stand in it.
+pub struct Problem {
+    pub facts: u8,
+    pub actions: u8,
+    pub initial: usize,
+    pub goal: usize,
+    pub action: [usize; 64],
+}
+
+impl Problem {
+    pub const MAX_BYTES: usize = 32768;
+
+    pub const MAX_FACTS: u8 = 48;
+
+    pub const MAX_ACTIONS: u8 = 64;
+
+    pub const MAX_EFFECTS: u8 = 96;
+
+    pub const MAX_FORMULA_BYTES: usize = 1024;
+
+    pub const MAX_DEPTH: u8 = 8;
+
+    // The state in which no fact is true.
+    pub fn empty_state() -> Values
+        ensures { λ r. ⌜ ShowsUpTo 64 r emptyState ⌝ }
+    {
+        [0u8; 64]
+    }
+
+    // The case that fixes no fact: the walk starts there.
+    pub fn first_case() -> Values
+        ensures { λ r. ⌜ ShowsUpTo 64 r firstCase ⌝ }
+    {
+        [1u8; 64]
+    }
+}
+
+// A plan block that was read: its steps stand from byte 5 on, one byte each.
+pub struct Plan {
+    pub steps: usize,
+}
+
+impl Plan {
+    pub const MAX_STEPS: usize = 256;
+}
+
+// A list block that was read, up to refusal 64: its lines stand from byte 5 on.
+pub struct CaseList {
+    pub lines: usize,
+}
+
+impl CaseList {
+    pub const MAX_LINES: usize = 8191;
+
+    pub const LINE_BYTES: usize = 8;
+    // A state's number, and a line's value, in bits.
+    pub const WIDTH: u8 = 48;
+}
+
+// The numbers of one version of the formats. The definitions take them as a parameter.
+pub struct Limits {
+    pub version: u8,
+    // bits of a state
+    pub width: u8,
+    pub facts: u8,
+    pub actions: u8,
+    pub effects: u8,
+    // bytes of a problem block and of a formula
+    pub problem: usize,
+    pub formula: usize,
+    pub depth: u8,
+    pub steps: usize,
+    // bytes of a line
+    pub line: usize,
+    pub lines: usize,
+}
+
+impl Limits {
+    pub const VERSION: u8 = 1;
+
+    // The numbers of the definitions are the declared ones.
+    pub fn version1() -> Limits
+        ensures { λ r. ⌜ r ≡ version1 ⌝ }
+    {
+        Limits {
+            version: Limits::VERSION,
+            width: CaseList::WIDTH,
+            facts: Problem::MAX_FACTS,
+            actions: Problem::MAX_ACTIONS,
+            effects: Problem::MAX_EFFECTS,
+            problem: Problem::MAX_BYTES,
+            formula: Problem::MAX_FORMULA_BYTES,
+            depth: Problem::MAX_DEPTH,
+            steps: Plan::MAX_STEPS,
+            line: CaseList::LINE_BYTES,
+            lines: CaseList::MAX_LINES,
+        }
+    }
+}
+
+// A refusal's number and place.
+pub struct Refusal {
+    pub number: u8,
+    pub place: u64,
+}
+
+// How a run ends.
+pub enum Outcome {
+    Reached,
+    Missed,
+    // The first step that is not applicable, from 0.
+    Blocked { step: usize },
+}
+
+// The answers of the six operations.
+pub enum ProblemAnswer {
+    Refused(Refusal),
+    Accepted { facts: u8, actions: u8 },
+}
+
+pub enum PlanAnswer {
+    Refused(Refusal),
+    Accepted { steps: usize },
+}
+
+pub enum RunAnswer {
+    Refused(Refusal),
+    Ended(Outcome),
+}
+
+pub enum JudgeAnswer {
+    Refused(Refusal),
+    Right {
+        lines: u64,
+        visits: u64,
+    },
+    Wrong {
+        state: u64,
+        outcome: Outcome,
+        visits: u64,
+    },
+    Undecided {
+        visits: u64,
+    },
+}
+
+pub enum WriteAnswer {
+    Refused(Refusal),
+    Written { length: usize },
+}
+
+pub enum FollowAnswer {
+    Refused(Refusal),
+    Passes { lines: usize },
+}
