@@ -1,1 +1,14 @@
 pub mod Tabulate
+pub mod Agreement
+pub mod Cover
+pub mod Verdicts
+pub mod Beliefs
+pub mod Grants
+pub mod Following
+pub mod Reading
+pub mod FormulaCodec
+pub mod ProblemCodec
+pub mod ListCodec
+pub mod Tasks
+pub mod Judging
+pub mod Lists

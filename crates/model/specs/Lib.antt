@@ -19,4 +19,5 @@ pub mod Answers
 pub mod Text
 pub mod DeskText
 pub mod WellFormed
+pub mod Demands
 pub mod Trials

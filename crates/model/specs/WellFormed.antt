@@ -90,3 +90,6 @@ module _ (F : Limits) where
     pub steps : F .steps < 256 ^ 4
     pub line : 2 < F .line
     pub lines : F .line * F .lines < 256 ^ 4
+    -- a state has a bit for each fact, and fills a line's values
+    pub width : F .facts ≤ F .width
+    pub value : 2 ^ F .width ≡ 256 ^ (F .line - 2)

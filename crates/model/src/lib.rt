@@ -5,7 +5,7 @@ ghost use Rattle.model.specs.Limits.{version1};
 ghost use Rattle.model.specs.Values.{ShowsUpTo, firstCase, emptyState};
 
 // The values of a case or a state as the code holds them, one byte a fact: 0 no, 1 unknown, 2 yes.
-pub type Values = [u8; 64];
+pub type Values = [u8; Problem::SLOTS];
 
 // A problem block that was read, and where its parts stand in it.
 pub struct Problem {
@@ -13,7 +13,7 @@ pub struct Problem {
     pub actions: u8,
     pub initial: usize,
     pub goal: usize,
-    pub action: [usize; 64],
+    pub action: [usize; Problem::MAX_ACTIONS],
 }
 
 impl Problem {
@@ -21,26 +21,28 @@ impl Problem {
 
     pub const MAX_FACTS: u8 = 48;
 
-    pub const MAX_ACTIONS: u8 = 64;
+    pub const MAX_ACTIONS: usize = 64;
 
     pub const MAX_EFFECTS: u8 = 96;
 
     pub const MAX_FORMULA_BYTES: usize = 1024;
 
     pub const MAX_DEPTH: u8 = 8;
+    // Values that the code holds: a denial's byte is its fact's and 64 more, so no version has more facts.
+    pub const SLOTS: usize = 64;
 
     // The state in which no fact is true.
     pub fn empty_state() -> Values
         ensures { λ r. ⌜ ShowsUpTo 64 r emptyState ⌝ }
     {
-        [0u8; 64]
+        [0u8; Problem::SLOTS]
     }
 
     // The case that fixes no fact: the walk starts there.
     pub fn first_case() -> Values
         ensures { λ r. ⌜ ShowsUpTo 64 r firstCase ⌝ }
     {
-        [1u8; 64]
+        [1u8; Problem::SLOTS]
     }
 }
 
@@ -51,6 +53,8 @@ pub struct Plan {
 
 impl Plan {
     pub const MAX_STEPS: usize = 256;
+
+    pub const MAX_BYTES: usize = Limits::HEAD_BYTES + Plan::MAX_STEPS;
 }
 
 // A list block that was read, up to refusal 64: its lines stand from byte 5 on.
@@ -62,6 +66,8 @@ impl CaseList {
     pub const MAX_LINES: usize = 8191;
 
     pub const LINE_BYTES: usize = 8;
+
+    pub const MAX_BYTES: usize = Limits::HEAD_BYTES + CaseList::LINE_BYTES * CaseList::MAX_LINES;
     // A state's number, and a line's value, in bits.
     pub const WIDTH: u8 = 48;
 }
@@ -72,7 +78,7 @@ pub struct Limits {
     // bits of a state
     pub width: u8,
     pub facts: u8,
-    pub actions: u8,
+    pub actions: usize,
     pub effects: u8,
     // bytes of a problem block and of a formula
     pub problem: usize,
@@ -86,6 +92,8 @@ pub struct Limits {
 
 impl Limits {
     pub const VERSION: u8 = 1;
+    // Bytes before a block's body: its version and its length.
+    pub const HEAD_BYTES: usize = 5;
 
     // The numbers of the definitions are the declared ones.
     pub fn version1() -> Limits

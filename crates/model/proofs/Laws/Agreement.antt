@@ -1,0 +1,190 @@
+-- A relation between two logics that every connective keeps is kept by every reading, step and run. Two instances: a case that says
+-- more (`refining`), and a case with every fact fixed (`exact`). Assumes nothing.
+use mathlib.Core.Path.{_≡_, refl, sym, ap, ap₂, _∙_}
+use mathlib.Core.Bool.{Bool, true, false, _&&_, _||_, not}
+use mathlib.Core.List.{List, [], _∷_}
+use Prim.Native.Nat.{ℕ, zero, suc, _≤_, _<_, suc-le-suc}
+use lib.ListN.{getD}
+use native.Mathlib.Omega.{arith}
+use Rattle.model.specs.Kleene.{Kleene, No, Unknown, Yes, both, either, denied, isYes, known, Logic, two, three}
+use Rattle.model.specs.Formula.{Literal, fact, denial, Formula, Formulas, lit, all, any, none, more, valueOf, eval, evalAll, evalAny}
+use Rattle.model.specs.Action.{Action, conditionOf, tabulate, applicable, next, step}
+use Rattle.model.specs.Run.{Outcome, reached, missed, blocked, Stop, atEnd, goesOn, run}
+
+-- ---- a run that is reached
+
+pub goes-on-reached : (b : Bool) (r : Outcome) (s : Stop) → goesOn b r s ≡ reached → (b ≡ true) × (r ≡ reached)
+unfolding goesOn
+goes-on-reached true r s e = (refl, e)
+goes-on-reached false r s e = (cc, cc)
+
+pub at-end-reached : (b : Bool) → atEnd b ≡ reached → b ≡ true
+at-end-reached true e = refl
+at-end-reached false e = cc
+
+-- ---- the relation
+
+pub record Keeps {X Y : Type 0} (L : Logic X) (M : Logic Y) (R : X → Y → Type 0) : Type 0 where
+  pub always : R (L .always) (M .always)
+  pub never : R (L .never) (M .never)
+  pub both : {x x′ : X} {y y′ : Y} → R x y → R x′ y′ → R (L .both x x′) (M .both y y′)
+  pub either : {x x′ : X} {y y′ : Y} → R x y → R x′ y′ → R (L .either x x′) (M .either y y′)
+  pub denied : {x : X} {y : Y} → R x y → R (L .denied x) (M .denied y)
+
+module _ {X Y : Type 0} (L : Logic X) (M : Logic Y) (R : X → Y → Type 0) (K : Keeps L M R) where
+  -- fact by fact
+  abbrev pub Along : List X → List Y → Type 0
+  Along c s = (i : ℕ) → R (getD c i (L .never)) (getD s i (M .never))
+
+  module _ (c : List X) (s : List Y) (along : Along c s) where
+    literal-keeps : (l : Literal) → R (valueOf L c l) (valueOf M s l)
+    literal-keeps (fact f) = along f
+    literal-keeps (denial f) = K .denied (along f)
+
+    mutual
+      unfolding eval
+
+      pub eval-keeps : (φ : Formula) → R (eval L c φ) (eval M s φ)
+      eval-keeps (lit l) = literal-keeps l
+      eval-keeps (all ms) = all-keeps ms
+      eval-keeps (any ms) = any-keeps ms
+
+      all-keeps : (ms : Formulas) → R (evalAll L c ms) (evalAll M s ms)
+      all-keeps none = K .always
+      all-keeps (more m ms) = K .both (eval-keeps m) (all-keeps ms)
+
+      any-keeps : (ms : Formulas) → R (evalAny L c ms) (evalAny M s ms)
+      any-keeps none = K .never
+      any-keeps (more m ms) = K .either (eval-keeps m) (any-keeps ms)
+
+    pub next-keeps : (a : Action) (f : ℕ) → R (next L a c f) (next M a s f)
+    unfolding next
+    next-keeps a f =
+        K .either
+        (eval-keeps (conditionOf (fact f) (a .effects)))
+        (K .both (along f) (K .denied (eval-keeps (conditionOf (denial f) (a .effects)))))
+
+  pub tabulate-keeps :
+      (n : ℕ) (f : ℕ → X) (g : ℕ → Y) → ((i : ℕ) → i < n → R (f i) (g i)) → Along (tabulate n f) (tabulate n g)
+  tabulate-keeps zero f g h i = K .never
+  tabulate-keeps (suc n) f g h zero = h zero (omega arith)
+  tabulate-keeps (suc n) f g h (suc i) = tabulate-keeps n (λ j. f (suc j)) (λ j. g (suc j)) (λ j l. h (suc j) (suc-le-suc l)) i
+
+  pub step-keeps : (n : ℕ) (a : Action) (c : List X) (s : List Y) → Along c s → Along (step L n a c) (step M n a s)
+  unfolding step
+  step-keeps n a c s h = tabulate-keeps n _ _ λ i l. next-keeps c s h a i
+
+  -- where what holds on the left holds on the right, so does a run that is reached
+  pub run-keeps :
+      ((x : X) (y : Y) → R x y → L .holds x ≡ true → M .holds y ≡ true) →
+      (n : ℕ) (goal : Formula) (plan : List Action) (i : ℕ) (c : List X) (s : List Y) → Along c s →
+      run L n goal plan i c ≡ reached → run M n goal plan i s ≡ reached
+  unfolding run goesOn applicable
+  run-keeps up n goal [] i c s h e = rw (up _ _ (eval-keeps c s h goal) (at-end-reached _ e))
+  run-keeps up n goal (a ∷ plan) i c s h e =
+      let g = goes-on-reached _ _ _ e in
+      rw (up _ _ (eval-keeps c s h (a .precondition)) (g .0))
+      (run-keeps up n goal plan (suc i) _ _ (step-keeps n a c s h) (g .1))
+
+  -- where both hold the same, the runs end the same
+  pub run-same :
+      ((x : X) (y : Y) → R x y → L .holds x ≡ M .holds y) →
+      (n : ℕ) (goal : Formula) (plan : List Action) (i : ℕ) (c : List X) (s : List Y) → Along c s →
+      run L n goal plan i c ≡ run M n goal plan i s
+  unfolding run goesOn applicable
+  run-same same n goal [] i c s h = ap atEnd (same _ _ (eval-keeps c s h goal))
+  run-same same n goal (a ∷ plan) i c s h =
+      ap₂ (λ b r. goesOn b r (record { step = i })) (same _ _ (eval-keeps c s h (a .precondition)))
+      (run-same same n goal plan (suc i) _ _ (step-keeps n a c s h))
+
+-- ---- a case that says more
+
+pub data Refines : Kleene → Kleene → Type 0 where
+  same : {t : Kleene} → Refines t t
+  wider : {t : Kleene} → Refines Unknown t
+
+both-wider : (b t : Kleene) → Refines (both Unknown t) (both b t)
+both-wider No No = same
+both-wider Unknown No = same
+both-wider Yes No = same
+both-wider b Unknown = wider
+both-wider b Yes = wider
+
+both-refines : {x x′ y y′ : Kleene} → Refines x y → Refines x′ y′ → Refines (both x x′) (both y y′)
+both-refines (same {t = No}) r = same
+both-refines (same {t = Yes}) r = r
+both-refines (same {t = Unknown}) same = same
+both-refines (same {t = Unknown}) wider = wider
+both-refines (wider {t = b}) (same {t}) = both-wider b t
+both-refines wider wider = wider
+
+denied-refines : {x y : Kleene} → Refines x y → Refines (denied x) (denied y)
+denied-refines same = same
+denied-refines wider = wider
+
+-- "an "any" mirrors it"
+either-mirrors : (x y : Kleene) → either x y ≡ denied (both (denied x) (denied y))
+either-mirrors No No = refl
+either-mirrors No Unknown = refl
+either-mirrors No Yes = refl
+either-mirrors Unknown No = refl
+either-mirrors Unknown Unknown = refl
+either-mirrors Unknown Yes = refl
+either-mirrors Yes y = refl
+
+either-refines : {x x′ y y′ : Kleene} → Refines x y → Refines x′ y′ → Refines (either x x′) (either y y′)
+either-refines {x} {x′} {y} {y′} r t =
+    rw (either-mirrors x x′, either-mirrors y y′) (denied-refines (both-refines (denied-refines r) (denied-refines t)))
+
+pub refining : Keeps three three Refines
+refining = record { always = same; never = same; both = both-refines; either = either-refines; denied = denied-refines }
+
+pub refines-yes : (x y : Kleene) → Refines x y → isYes x ≡ true → isYes y ≡ true
+refines-yes x y same e = e
+refines-yes x y wider e = cc
+
+-- ---- a case with every fact fixed
+
+abbrev pub Exact : Kleene → Bool → Type 0
+Exact t b = t ≡ known b
+
+both-exact : (b b′ : Bool) → both (known b) (known b′) ≡ known (b && b′)
+both-exact true b′ = refl
+both-exact false b′ = refl
+
+either-exact : (b b′ : Bool) → either (known b) (known b′) ≡ known (b || b′)
+either-exact true b′ = refl
+either-exact false b′ = refl
+
+denied-exact : (b : Bool) → denied (known b) ≡ known (not b)
+denied-exact true = refl
+denied-exact false = refl
+
+pub yes-exact : (b : Bool) → isYes (known b) ≡ b
+yes-exact true = refl
+yes-exact false = refl
+
+pub exact : Keeps three two Exact
+exact =
+    record {
+      always = refl;
+      never = refl;
+      both = λ {x} {x′} {y} {y′} p q. ap₂ both p q ∙ both-exact y y′;
+      either = λ {x} {x′} {y} {y′} p q. ap₂ either p q ∙ either-exact y y′;
+      denied = λ {x} {y} p. ap denied p ∙ denied-exact y;
+    }
+
+-- what a case reads as yes or no, a state that it admits reads so
+pub from-yes : {t : Kleene} (b : Bool) → Refines t (known b) → t ≡ Yes → b ≡ true
+from-yes true r e = refl
+from-yes false r e = sym (never (rw e at r))
+  where
+    never : Refines Yes No → true ≡ false
+    never r = elim r [ ]
+
+pub from-no : {t : Kleene} (b : Bool) → Refines t (known b) → t ≡ No → b ≡ false
+from-no false r e = refl
+from-no true r e = sym (never (rw e at r))
+  where
+    never : Refines No Yes → false ≡ true
+    never r = elim r [ ]

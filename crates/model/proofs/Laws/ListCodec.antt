@@ -1,0 +1,102 @@
+-- Reading a list is exactly the inverse of writing it. Assumes nothing.
+use mathlib.Core.Path.{_≡_, refl, sym, ap, subst, _∙_}
+use mathlib.Core.List.{List, [], _∷_}
+use Prim.Native.Nat.{ℕ, zero, suc, _+_, _-_, _*_, _/_, _%_, _≤_, _<_}
+use native.Mathlib.Nat.{div-add-mod', div-le-of-le-mul, mul-div-cancel, mul-mod-left, suc-mul, zero-mul, mul-comm, mul-le-mul-right}
+use native.Mathlib.Omega.{arith}
+use lib.ListN.{length, length-append}
+use borrow.Author.Tests.{eqb-true}
+use Rattle.model.specs.declared.Limits.{Limits}
+use Rattle.model.specs.Walk.{Line}
+use Rattle.model.specs.Read.{got, andThen, _>>_, done, require, bytesOf}
+use Rattle.model.specs.ListBytes.{lineAt, linesFrom, caseList, lineBytes, linesBytes, encodeList}
+use Rattle.model.specs.WellFormed.{Bytes, Each, LineOk, ListOk, Sensible}
+use Rattle.model.proofs.Laws.Reading.{then-got, needed, carried, Span, nothing, next, first, join, split, span-length, length-bytesOf, number-got, number-ok, length-block, header-got, header-ok}
+
+module _ (F : Limits) (sense : Sensible F) (s : List ℕ) where
+  -- one line
+  pub line-got :
+      (p q : ℕ) → Bytes s → p + F .line ≡ q → q ≤ length s →
+      LineOk F (lineAt F s p) × Span s (length s) p (lineBytes F (lineAt F s p)) q
+  unfolding lineAt lineBytes
+  line-got p q sound e l =
+      let k : 2 < F .line = sense .line in
+      let a : p < length s = omega arith in
+      let b : p + 1 < length s = omega arith in
+      let i : p + 2 ≡ p + 1 + 1 = omega arith in
+      let (v, r) = number-got s (F .line - 2) (p + 2) q sound (omega arith) l in (
+        record { kind = sound p; k = sound (p + 1); value = v },
+        next a refl
+            (next b refl (subst (λ (m : ℕ). Span s (length s) m (bytesOf (F .line - 2) (lineAt F s p .value)) q) i r)),
+      )
+
+  pub line-ok : (l : Line) (p q : ℕ) → LineOk F l → Span s (length s) p (lineBytes F l) q → lineAt F s p ≡ l
+  unfolding lineAt lineBytes
+  line-ok l p q k r =
+      let (_, a, v) = first r in
+      let (_, b, w) = first v in
+      let i : p + 1 + 1 ≡ p + 2 = omega arith in
+      let c = number-ok s (F .line - 2) (p + 2) q (l .value) (k .value) (rw i at w) in
+      λ i. record { kind = a i; k = b i; value = c i }
+
+  pub length-line : (l : Line) → length (lineBytes F l) ≡ F .line
+  unfolding lineBytes
+  length-line l = rw length-bytesOf (omega (arith, sense .line))
+
+  -- lines
+  pub lines-got :
+      (n p q : ℕ) → Bytes s → p + n * F .line ≡ q → q ≤ length s →
+      Each (LineOk F) (linesFrom F s n p) × Span s (length s) p (linesBytes F (linesFrom F s n p)) q × (length (linesFrom F s n p) ≡ n)
+  unfolding linesFrom linesBytes
+  lines-got zero p q sound e l = let i : p ≡ q = omega (arith, zero-mul (F .line)) in (tt, nothing i, refl)
+  lines-got (suc n) p q sound e l =
+      let i : p + F .line + n * F .line ≡ q = omega (arith, suc-mul n (F .line)) in
+      let (a, b, c) = lines-got n (p + F .line) q sound i l in
+      let (d, r) = line-got p (p + F .line) sound refl (omega arith) in
+      ((d, a), join r b, ap suc c)
+
+  pub lines-ok :
+      (ls : List Line) (p q : ℕ) → Each (LineOk F) ls → Span s (length s) p (linesBytes F ls) q → linesFrom F s (length ls) p ≡ ls
+  unfolding linesFrom linesBytes
+  lines-ok [] p q k r = refl
+  lines-ok (l ∷ ls) p q (k, ks) r =
+      split (lineBytes F l) r λ m a b.
+      let i : p + F .line ≡ m = omega (arith, span-length a, length-line l) in
+      rw (line-ok l p m k a, i, lines-ok ls m q ks b)
+
+  pub length-lines : (ls : List Line) → length (linesBytes F ls) ≡ length ls * F .line
+  unfolding linesBytes
+  length-lines [] = sym (zero-mul (F .line))
+  length-lines (l ∷ ls) =
+      rw (length-append (lineBytes F l) (linesBytes F ls), length-line l, length-lines ls) (omega (arith, suc-mul (length ls) (F .line)))
+
+  pub list-got : (ls : List Line) (q : ℕ) → Bytes s → caseList F s 0 ≡ got ls q → ListOk F ls × (s ≡ encodeList F ls)
+  unfolding caseList _>>_ done encodeList
+  list-got ls q sound h =
+      then-got h λ _ o h₁ h₂.
+      let (i, l, z, law) = header-got s 60 (5 + F .line * F .lines) (F .version) 0 sound h₁ in
+      needed _ _ _ _ _ h₂ λ t h₃.
+      let n = (length s - 5) / F .line in
+      let e : n * F .line ≡ length s - 5 = omega (arith, div-add-mod' (length s - 5) (F .line), eqb-true ((length s - 5) % F .line) 0 t) in
+      let (a, b, c) = lines-got n 5 (length s) sound (omega arith) (omega arith) in
+      carried (λ ls q. ListOk F ls × (s ≡ encodeList F ls)) h₃
+      (record { count = rw c (div-le-of-le-mul (F .line) (omega arith)); lines = a }, law _ b)
+
+  pub list-ok : (ls : List Line) → ListOk F ls → s ≡ encodeList F ls → caseList F s 0 ≡ got ls 5
+  unfolding caseList _>>_ done encodeList andThen require
+  list-ok ls k e =
+      let i : length s ≡ 5 + length ls * F .line =
+      ap length e ∙ length-block (F .version) (linesBytes F ls) ∙ rw (length-lines ls)
+      in
+      let j : length s - 5 ≡ length ls * F .line = omega arith in
+      let (h, w) =
+      header-ok s 60 (5 + F .line * F .lines) (F .version) 0 (linesBytes F ls) e
+      (omega (arith, mul-le-mul-right (F .line) (k .count), mul-comm (F .lines) (F .line))) (omega (arith, sense .lines))
+      in
+      rw (
+        h,
+        j,
+        mul-mod-left (length ls) (F .line),
+        mul-div-cancel (length ls) {n = F .line} (omega (arith, sense .line)),
+        lines-ok ls 5 (length s) (k .lines) w,
+      )
