@@ -39,13 +39,17 @@ module _ (F : Limits) (s : List ℕ) where
       es ← effects n (literalByte (e .literal) + 1)
       done (e ∷ es)
 
-    -- "An action is its precondition, an effect count (1 byte, 0 to 96), and for each effect a literal byte and a condition"; "22 effect
-    -- count over 96"
+    -- "an effect count (1 byte, 0 to 96), and for each effect a literal byte and a condition"; "22 effect count over 96"
+    unfoldable pub effectList : Reader (List Effect)
+    effectList = do
+      n ← count s 22 0 (F .effects)
+      effects n 0
+
+    -- "An action is its precondition, an effect count .."
     unfoldable pub action : Reader Action
     action = do
       precondition ← formula F s facts
-      n ← count s 22 0 (F .effects)
-      es ← effects n 0
+      es ← effectList
       done (record { precondition = precondition; effects = es })
 
     unfoldable pub actions : ℕ → Reader (List Action)
@@ -55,19 +59,32 @@ module _ (F : Limits) (s : List ℕ) where
       as′ ← actions m
       done (a ∷ as′)
 
-  -- "fact count (1 byte, 1 to 48), action count (1 byte, 0 to 64), initial formula, goal formula, the actions"; "15 fact count (its
-  -- place); 16 action count"; "25 bytes after the last action (the first)"
-  unfoldable pub problem : Reader Problem
-  problem = do
-    header s 10 (F .problem) (F .version)
-    facts ← count s 15 1 (F .facts)
-    m ← count s 16 0 (F .actions)
-    initial ← formula F s facts
-    goal ← formula F s facts
+  -- ".. the actions"; "25 bytes after the last action (the first)"
+  unfoldable pub ending : ℕ → ℕ → Formula → Formula → Reader Problem
+  ending facts m initial goal = do
     as′ ← actions facts m
     p ← position
     require (leb (length s) p) 25 p
     done (record { facts = facts; initial = initial; goal = goal; actions = as′ })
+
+  -- "initial formula, goal formula, the actions"
+  unfoldable pub parts : ℕ → ℕ → Reader Problem
+  parts facts m = do
+    initial ← formula F s facts
+    goal ← formula F s facts
+    ending facts m initial goal
+
+  -- "fact count (1 byte, 1 to 48), action count (1 byte, 0 to 64)"; "15 fact count (its place); 16 action count"
+  unfoldable pub body : Reader Problem
+  body = do
+    facts ← count s 15 1 (F .facts)
+    m ← count s 16 0 (F .actions)
+    parts facts m
+
+  unfoldable pub problem : Reader Problem
+  problem = do
+    header s 10 (F .problem) (F .version)
+    body
 
   unfoldable pub problemOf : Answer Problem
   problemOf = answerOf (problem 0)

@@ -15,7 +15,7 @@ use Rattle.model.specs.Answer.{Answer, refused, answered}
 use Rattle.model.specs.CaseList.{first, refuseAt, ends, fault, follow}
 use Rattle.model.specs.Read.{andThen, _>>=_, _>>_, done, position, require, answerOf, bigEndianFrom, bytesOf, block, byte, counted, header, count}
 use Rattle.model.specs.FormulaBytes.{isLiteral, literalOf, groupHead, headFrom, head, members, whole, item, stated, formula}
-use Rattle.model.specs.ProblemBytes.{effect, effects, action, actions, problem, problemOf, steps, plan, planOf, actionAt}
+use Rattle.model.specs.ProblemBytes.{effect, effects, effectList, action, actions, ending, parts, body, problem, problemOf, steps, plan, planOf, actionAt}
 use Rattle.model.specs.ListBytes.{lineAt, linesFrom, caseList, listOf, lineBytes, linesBytes, encodeList}
 use Rattle.model.specs.Text.{ascii, hex}
 use Rattle.model.specs.DeskText.{digits, decimal, sentence, marks, linesText, listText, verdictText, answerText, deskText}
@@ -40,7 +40,7 @@ pub data Reply : Type 0 where
 
 -- what the definitions give; a proof that unfolds this computes with all of them
 unfoldable pub reply : Call → Reply
-unfolding eval conditionIn applicable next step goesOn run bit stateOf caseOf runOf walkFrom walk lookAt walked judged Answer._>>=_ first refuseAt ends fault follow andThen _>>=_ _>>_ done position require answerOf bigEndianFrom bytesOf block byte counted header count isLiteral literalOf groupHead headFrom head members whole item stated formula effect effects action actions problem problemOf steps plan planOf actionAt lineAt linesFrom caseList listOf lineBytes linesBytes encodeList isState readProblem readPlan taskOf readTask runState judge listBytes linesFor written listFor writeList followList ascii hex digits decimal sentence marks linesText listText verdictText answerText deskText
+unfolding eval conditionIn applicable next step goesOn run bit stateOf caseOf runOf walkFrom walk lookAt walked judged Answer._>>=_ first refuseAt ends fault follow andThen _>>=_ _>>_ done position require answerOf bigEndianFrom bytesOf block byte counted header count isLiteral literalOf groupHead headFrom head members whole item stated formula effect effects effectList action actions ending parts body problem problemOf steps plan planOf actionAt lineAt linesFrom caseList listOf lineBytes linesBytes encodeList isState readProblem readPlan taskOf readTask runState judge listBytes linesFor written listFor writeList followList ascii hex digits decimal sentence marks linesText listText verdictText answerText deskText
 reply (read-problem p) = counts (readProblem version1 p)
 reply (read-plan p q) = number (readPlan version1 p q)
 reply (run-state p q s) = outcome (runState version1 p q s)
@@ -137,9 +137,9 @@ starred =
     ∷ (follow-list P both-steps other-kind ⇒ number (refused 69 0))
     ∷ []
 
--- sound blocks for the edges: `one-fact` is body bytes 01 00 0001 00 0001 00
-abbrev body : List ℕ → List ℕ
-body bytes = block 1 bytes
+-- a block with this body
+abbrev block1 : List ℕ → List ℕ
+block1 bytes = block 1 bytes
 
 abbrev accepts : ℕ → ℕ → Reply
 accepts n m = counts (answered (record { facts = n; actions = m }))
@@ -149,11 +149,11 @@ refuses n q = counts (refused n q)
 
 -- a problem of one fact whose initial formula has these bytes, length included
 abbrev initially : List ℕ → List ℕ
-initially f = body (hex "01 00" ++ (f ++ hex "0001 00"))
+initially f = block1 (hex "01 00" ++ (f ++ hex "0001 00"))
 
 -- a problem of one fact and one action with this effect count and these effects
 abbrev acting : List ℕ → List ℕ
-acting e = body (hex "01 01 0001 00 0001 00 0001 00" ++ e)
+acting e = block1 (hex "01 01 0001 00 0001 00 0001 00" ++ e)
 
 -- so many effects, each on condition fact 0, from a literal byte on
 abbrev rising : ℕ → ℕ → List ℕ
@@ -167,7 +167,7 @@ idle (suc n) = 0 ∷ 1 ∷ 0 ∷ 0 ∷ idle n
 
 -- 48 facts, one action that sets fact 47 always, and 256 steps of it
 abbrev wide : List ℕ
-wide = body (hex "30 01 0002 80 00 0001 2f 0002 80 00 01 2f 0002 80 00")
+wide = block1 (hex "30 01 0002 80 00 0001 2f 0002 80 00 01 2f 0002 80 00")
 
 abbrev long-plan : ℕ → List ℕ
 long-plan n = block 1 (replicate n 0)
@@ -175,7 +175,7 @@ long-plan n = block 1 (replicate n 0)
 -- 48 facts that are all true at the start, and no action
 abbrev deep : List ℕ
 deep =
-    body
+    block1
     (hex "30 00 0032 80 30 00 01 02 03 04 05 06 07 08 09 0a 0b 0c 0d 0e 0f 10 11 12 13 14 15 16 17" ++
     hex "18 19 1a 1b 1c 1d 1e 1f 20 21 22 23 24 25 26 27 28 29 2a 2b 2c 2d 2e 2f 0001 2f")
 
@@ -222,18 +222,18 @@ edges =
     ∷ (read-problem (hex "01 01000000") ⇒ refuses 13 1)
     -- 14
     ∷ (read-problem (hex "01 00000000") ⇒ refuses 14 5)
-    ∷ (read-problem (body (hex "01")) ⇒ refuses 14 6)
-    ∷ (read-problem (body (hex "01 00 00")) ⇒ refuses 14 8)
-    ∷ (read-problem (body (hex "01 00 0002 00")) ⇒ refuses 14 10)
-    ∷ (read-problem (body (hex "01 00 0001 00")) ⇒ refuses 14 10)
-    ∷ (read-problem (body (hex "01 01 0001 00 0001 00 0001 00")) ⇒ refuses 14 16)
+    ∷ (read-problem (block1 (hex "01")) ⇒ refuses 14 6)
+    ∷ (read-problem (block1 (hex "01 00 00")) ⇒ refuses 14 8)
+    ∷ (read-problem (block1 (hex "01 00 0002 00")) ⇒ refuses 14 10)
+    ∷ (read-problem (block1 (hex "01 00 0001 00")) ⇒ refuses 14 10)
+    ∷ (read-problem (block1 (hex "01 01 0001 00 0001 00 0001 00")) ⇒ refuses 14 16)
     ∷ (read-problem (acting (hex "01")) ⇒ refuses 14 17)
     -- 15, 16
-    ∷ (read-problem (body (hex "00 00 0001 00 0001 00")) ⇒ refuses 15 5)
-    ∷ (read-problem (body (hex "31 00 0001 00 0001 00")) ⇒ refuses 15 5)
-    ∷ (read-problem (body (hex "30 00 0001 2f 0001 6f")) ⇒ accepts 48 0)
-    ∷ (read-problem (body (hex "01 41 0001 00 0001 00" ++ idle 65)) ⇒ refuses 16 6)
-    ∷ (read-problem (body (hex "01 40 0001 00 0001 00" ++ idle 64)) ⇒ accepts 1 64)
+    ∷ (read-problem (block1 (hex "00 00 0001 00 0001 00")) ⇒ refuses 15 5)
+    ∷ (read-problem (block1 (hex "31 00 0001 00 0001 00")) ⇒ refuses 15 5)
+    ∷ (read-problem (block1 (hex "30 00 0001 2f 0001 6f")) ⇒ accepts 48 0)
+    ∷ (read-problem (block1 (hex "01 41 0001 00 0001 00" ++ idle 65)) ⇒ refuses 16 6)
+    ∷ (read-problem (block1 (hex "01 40 0001 00 0001 00" ++ idle 64)) ⇒ accepts 1 64)
     -- 17
     ∷ (read-problem (initially (hex "0000")) ⇒ refuses 17 7)
     ∷ (read-problem (initially (hex "0001 00")) ⇒ accepts 1 0)
@@ -261,7 +261,7 @@ edges =
     ∷ (read-problem (initially (hex "0003 80 00 00")) ⇒ refuses 21 11)
     -- 22
     ∷ (read-problem (acting (hex "61")) ⇒ refuses 22 16)
-    ∷ (read-problem (body (hex "30 01 0001 00 0001 00 0001 00 60" ++ (rising 48 0 ++ rising 48 64))) ⇒ accepts 48 1)
+    ∷ (read-problem (block1 (hex "30 01 0001 00 0001 00 0001 00 60" ++ (rising 48 0 ++ rising 48 64))) ⇒ accepts 48 1)
     -- 23, then 24
     ∷ (read-problem (acting (hex "01 01 0001 00")) ⇒ refuses 23 17)
     ∷ (read-problem (acting (hex "01 41 0001 00")) ⇒ refuses 23 17)
@@ -270,8 +270,8 @@ edges =
     ∷ (read-problem (acting (hex "02 40 0001 00 00 0001 00")) ⇒ refuses 24 21)
     ∷ (read-problem (acting (hex "02 40 0001 00 01 0001 00")) ⇒ refuses 23 21)
     -- 25
-    ∷ (read-problem (body (hex "01 00 0001 00 0001 00 00")) ⇒ refuses 25 13)
-    ∷ (read-problem (body (hex "01 00 0001 00 0001 00")) ⇒ accepts 1 0)
+    ∷ (read-problem (block1 (hex "01 00 0001 00 0001 00 00")) ⇒ refuses 25 13)
+    ∷ (read-problem (block1 (hex "01 00 0001 00 0001 00")) ⇒ accepts 1 0)
     -- 30 to 34, after the problem's
     ∷ (read-plan P (replicate 262 0) ⇒ number (refused 30 261))
     ∷ (read-plan P (long-plan 256) ⇒ number (answered 256))

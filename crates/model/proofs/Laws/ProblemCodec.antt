@@ -9,7 +9,7 @@ use Rattle.model.specs.declared.Limits.{Limits}
 use Rattle.model.specs.Action.{Effect, Action}
 use Rattle.model.specs.Read.{got, andThen, _>>=_, _>>_, done, position, require, counted}
 use Rattle.model.specs.FormulaBytes.{literalByte, encodeFormula}
-use Rattle.model.specs.ProblemBytes.{Problem, effect, effects, action, actions, problem, steps, plan, effectsBytes, actionBytes, actionsBytes, encodeProblem, encodePlan}
+use Rattle.model.specs.ProblemBytes.{Problem, effect, effects, effectList, action, actions, ending, parts, body, problem, steps, plan, effectsBytes, actionBytes, actionsBytes, encodeProblem, encodePlan}
 use Rattle.model.specs.WellFormed.{Bytes, Each, Declared, FormulaOk, EffectsOk, ActionOk, ProblemOk, PlanOk, Sensible}
 use Rattle.model.proofs.Laws.Reading.{then-got, needed, Span, nothing, next, empty, first, join, split, carried, span-length, span-end, byte-got, byte-ok, length-block, header-got, header-ok, count-got, count-ok}
 use Rattle.model.proofs.Laws.FormulaCodec.{literal-got, literal-ok, formula-got, formula-ok}
@@ -73,11 +73,11 @@ module _ (F : Limits) (s : List ℕ) (facts : ℕ) (most : facts ≤ 64) where
   pub action-got :
       (p : ℕ) (a : Action) (q : ℕ) → Bytes s → action F s facts p ≡ got a q →
       ActionOk F facts a × Span s (length s) p (actionBytes a) q
-  unfolding action _>>=_ andThen done actionBytes
+  unfolding action effectList _>>=_ andThen done actionBytes
   action-got p a q sound h =
       then-got h λ f m h₁ h₂.
-      then-got h₂ λ n o h₃ h₄.
-      then-got h₄ λ es v h₅ h₆.
+      then-got h₂ λ es v h₄ h₆.
+      then-got h₄ λ n o h₃ h₅.
       let (a, b) = formula-got F s facts most p f m sound h₁ in
       let (_, c, d) = count-got s 22 0 (F .effects) m h₃ in
       let (e, k, i) = effects-got n 0 o es v sound h₅ in
@@ -88,7 +88,7 @@ module _ (F : Limits) (s : List ℕ) (facts : ℕ) (most : facts ≤ 64) where
   pub action-ok :
       F .formula < 256 ^ 2 → (p : ℕ) (a : Action) (q : ℕ) → ActionOk F facts a → Span s (length s) p (actionBytes a) q →
       action F s facts p ≡ got a q
-  unfolding action _>>=_ andThen done actionBytes
+  unfolding action effectList _>>=_ andThen done actionBytes
   action-ok long p a q k r =
       split (encodeFormula (a .precondition)) r λ m b c.
       let (_, _, v) = first c in
@@ -124,7 +124,7 @@ module _ (F : Limits) (s : List ℕ) (facts : ℕ) (most : facts ≤ 64) where
 module _ (F : Limits) (sense : Sensible F) (s : List ℕ) where
   pub problem-got :
       (x : Problem) (q : ℕ) → Bytes s → problem F s 0 ≡ got x q → ProblemOk F x × (s ≡ encodeProblem F x)
-  unfolding problem _>>=_ _>>_ andThen position done encodeProblem
+  unfolding problem body parts ending _>>=_ _>>_ andThen position done encodeProblem
   problem-got x q sound h =
       then-got h λ _ m h₁ h₂.
       let (i, l, z, law) = header-got s 10 (F .problem) (F .version) 0 sound h₁ in
@@ -158,7 +158,7 @@ module _ (F : Limits) (sense : Sensible F) (s : List ℕ) where
       )
 
   pub problem-ok : (x : Problem) → ProblemOk F x → s ≡ encodeProblem F x → problem F s 0 ≡ got x (length s)
-  unfolding problem _>>=_ _>>_ andThen position done encodeProblem require
+  unfolding problem body parts ending _>>=_ _>>_ andThen position done encodeProblem require
   problem-ok x k e =
       let most : x .facts ≤ 64 = omega (arith, k .facts, sense .facts) in
       let (h, w) =

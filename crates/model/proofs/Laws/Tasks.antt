@@ -11,7 +11,7 @@ use Rattle.model.specs.Case.{Task}
 use Rattle.model.specs.Walk.{Verdict, judged, lookAt}
 use Rattle.model.specs.CaseList.{follow}
 use Rattle.model.specs.Read.{_>>=_, _>>_, done}
-use Rattle.model.specs.ProblemBytes.{Problem, problem, problemOf, planOf}
+use Rattle.model.specs.ProblemBytes.{Problem, ending, parts, body, problem, problemOf, planOf}
 use Rattle.model.specs.ListBytes.{listOf}
 use Rattle.model.specs.Operations.{taskOf, readTask, lineCount, judge, linesFor, listFor, writeList, written, followList}
 use Rattle.model.proofs.Laws.Reading.{then-got, got-inj, answer-got, count-got}
@@ -26,7 +26,7 @@ answer-then {x = answered a} h f = f a refl h
 
 module _ (F : Limits) where
   problem-facts : (s : List ℕ) (p : Problem) → problemOf F s ≡ answered p → p .facts ≤ F .facts
-  unfolding problemOf problem _>>=_ _>>_ done
+  unfolding problemOf problem body parts ending _>>=_ _>>_ done
   problem-facts s p h =
       then-got (answer-got _ h .1) λ u p₀ e₀ h₀.
       then-got h₀ λ n p₁ e₁ h₁.
