@@ -1,5 +1,6 @@
 pub mod Tabulate
 pub mod Agreement
+pub mod Held
 pub mod Cover
 pub mod Verdicts
 pub mod Beliefs

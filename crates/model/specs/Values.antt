@@ -1,7 +1,7 @@
 -- How the code holds the values of a case or a state: one byte a fact, `Values` of src/lib.rt.
 use mathlib.Core.Path.{_≡_}
 use mathlib.Core.List.{List}
-use Prim.Native.Nat.{ℕ, _-_, _≤_, _<_, min, max}
+use Prim.Native.Nat.{ℕ, _-_, _≤_, min, max}
 use lib.ListN.{getD}
 use lib.Dec.{eqb}
 use Rattle.model.specs.Kleene.{Kleene, No, Unknown, Yes, Logic}
@@ -28,10 +28,10 @@ inBytes = record { always = 2; never = 0; both = min; either = max; denied = λ 
 abbrev pub Valued : List ℕ → Type 0
 Valued bytes = (i : ℕ) → getD bytes i 0 ≤ 2
 
--- the first n bytes hold the values of c
-abbrev pub Shows : ℕ → List ℕ → List Kleene → Type 0
-Shows n bytes c = (i : ℕ) → i < n → getD bytes i 0 ≡ valueByte (getD c i No)
+-- the bytes hold the values of c, and no past its end
+abbrev pub Shows : List ℕ → List Kleene → Type 0
+Shows bytes c = (i : ℕ) → getD bytes i 0 ≡ valueByte (getD c i No)
 
--- and so for every fact count up to `most`
-abbrev pub ShowsUpTo : ℕ → List ℕ → (ℕ → List Kleene) → Type 0
-ShowsUpTo most bytes c = (n : ℕ) → n ≤ most → Shows n bytes (c n)
+-- and so for every fact count
+abbrev pub ShowsEach : List ℕ → (ℕ → List Kleene) → Type 0
+ShowsEach bytes c = (n : ℕ) → Shows bytes (c n)

@@ -1,8 +1,9 @@
 // What the checker reads and what it answers: the declared types with their limits, and no code that reads a byte.
 // What they mean is in specs/: begin at specs/Lib.antt.
 ghost use mathlib.Core.Path.{_≡_};
+ghost use Prim.Native.Nat.{_≤_};
 ghost use Rattle.model.specs.Limits.{version1};
-ghost use Rattle.model.specs.Values.{ShowsUpTo, firstCase, emptyState};
+ghost use Rattle.model.specs.Values.{Shows, ShowsEach, firstCase, emptyState};
 
 // The values of a case or a state as the code holds them, one byte a fact: 0 no, 1 unknown, 2 yes.
 pub type Values = [u8; Problem::SLOTS];
@@ -33,16 +34,23 @@ impl Problem {
 
     // The state in which no fact is true.
     pub fn empty_state() -> Values
-        ensures { λ r. ⌜ ShowsUpTo 64 r emptyState ⌝ }
+        ensures { λ r. ⌜ ShowsEach r emptyState ⌝ }
     {
         [0u8; Problem::SLOTS]
     }
 
-    // The case that fixes no fact: the walk starts there.
-    pub fn first_case() -> Values
-        ensures { λ r. ⌜ ShowsUpTo 64 r firstCase ⌝ }
+    // The case that fixes none of so many facts: the walk starts there.
+    pub fn first_case(facts: usize) -> Values
+        requires { ⌜ facts ≤ 64 ⌝ }
+        ensures { λ r. ⌜ Shows r (firstCase facts) ⌝ }
     {
-        [1u8; Problem::SLOTS]
+        let mut values = [0u8; Problem::SLOTS];
+        let mut i: usize = 0;
+        while i < facts {
+            values[i] = 1;
+            i = i + 1;
+        }
+        values
     }
 }
 

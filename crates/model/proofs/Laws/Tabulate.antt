@@ -4,13 +4,13 @@ use mathlib.Core.List.{List, _∷_}
 use Prim.Native.Nat.{ℕ, zero, suc, _≤_, _<_}
 use native.Mathlib.Nat.{le-of-suc-le-suc, not-suc-le-zero}
 use native.Mathlib.Omega.{arith}
-use lib.ListN.{length, getD, replicate, getD-replicate}
+use lib.ListN.{length, getD, List·getD-eq-default}
 use lib.Dec.{ltb}
 use borrow.Author.Tests.{le-ltb}
-use Rattle.model.specs.Kleene.{Kleene, No, Unknown}
+use Rattle.model.specs.Kleene.{Unknown}
 use Rattle.model.specs.Action.{tabulate}
 use Rattle.model.specs.Case.{caseOf}
-use Rattle.model.specs.Values.{firstCase, valueByte, ShowsUpTo}
+use Rattle.model.specs.Values.{firstCase}
 
 pub length-tabulate : {X : Type 0} (n : ℕ) (f : ℕ → X) → length (tabulate n f) ≡ n
 length-tabulate zero f = refl
@@ -25,10 +25,9 @@ pub tabulate-same : {X : Type 0} (n : ℕ) (f g : ℕ → X) → ((i : ℕ) → 
 tabulate-same zero f g h = refl
 tabulate-same (suc n) f g h = λ i. h zero i ∷ tabulate-same n (λ j. f (suc j)) (λ j. g (suc j)) (λ j. h (suc j)) i
 
--- an array that holds one value throughout
-pub uniform : (most : ℕ) (v : Kleene) → ShowsUpTo most (replicate most (valueByte v)) (λ n. tabulate n (λ i. v))
-uniform most v n h i l =
-    getD-replicate most i (valueByte v) 0 (omega arith) ∙ ap valueByte (sym (getD-tabulate n (λ j. v) i No l))
+-- past the end
+pub getD-tabulate-past : {X : Type 0} (n : ℕ) (f : ℕ → X) (i : ℕ) (d : X) → n ≤ i → getD (tabulate n f) i d ≡ d
+getD-tabulate-past n f i d h = List·getD-eq-default (tabulate n f) d (rw (length-tabulate n f) h)
 
 -- the case that fixes no fact is the first case of the walk, whatever its number
 pub first-case : (w n v : ℕ) → caseOf w n 0 v ≡ firstCase n

@@ -1,11 +1,38 @@
--- `Problem::first_case` meets its contract. Assumes nothing.
+-- `Problem::first_case` meets its contract: the values below i are set. Assumes nothing.
+use Prim.Native.Nat.{_-_, _≤_}
+use native.Mathlib.Omega.{arith}
 use Rattle.model.specs.Kleene.{Unknown}
-use Rattle.model.proofs.Laws.Tabulate.{uniform}
+use Rattle.model.proofs.Laws.Held.{shows-tabulate, Marked, marked-none, marked-next}
 use Rattle.model.proofs.Problem.first_case.Statement.{statement}
 use Rattle.model.proofs.Problem.first_case.Tie as tie
 
-returns : tie.Need-returns
-returns c = uniform 64 Unknown
+abbrev Inv-loop : tie.InvT-loop
+Inv-loop facts values₀ i₀ values i = (i ≤ facts) × Marked values i
+
+abbrev μ-loop : tie.MeasureT-loop
+μ-loop facts values₀ i₀ values i = facts - i
+
+loop-holds : tie.Need-loop-holds Inv-loop μ-loop
+loop-holds c = (omega arith, marked-none)
+
+array-write-values : tie.Need-array-write-values Inv-loop μ-loop
+array-write-values c = omega arith
+
+add-i : tie.Need-add-i Inv-loop μ-loop
+add-i c = omega arith
+
+loop-less : tie.Need-loop-less Inv-loop μ-loop
+loop-less c = omega arith
+
+loop-again : tie.Need-loop-again Inv-loop μ-loop
+loop-again c = (omega arith, marked-next (c .before .loop .values) (c .before .loop .i) (omega arith) (c .before .loop .inv .1))
+
+returns : tie.Need-returns Inv-loop μ-loop
+returns c =
+    let m = c .before .loop .inv .1 in
+    shows-tabulate (c .before .loop .values) (c .before .before .args .facts) (λ i. Unknown) (λ i h. m .below i (omega arith)) (λ i h. m .past i (omega arith))
 
 pub first-case-spec : {M : Type 1} → statement M
-first-case-spec = tie.close (tie.spec returns)
+first-case-spec =
+    tie.close
+    (tie.spec Inv-loop μ-loop loop-holds array-write-values add-i loop-less loop-again returns)
