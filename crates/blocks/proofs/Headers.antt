@@ -1,0 +1,98 @@
+-- A block's header and a count, case by case. Assumes nothing.
+use mathlib.Core.Path.{_≡_, refl, sym, ap, _∙_, subst}
+use mathlib.Core.Bool.{true, false}
+use mathlib.Core.List.{List, [], _∷_}
+use Prim.Native.Nat.{ℕ, suc, _+_, _-_, _*_, _≤_, _<_}
+use native.Mathlib.Omega.{arith}
+use lib.ListN.{length, getD, take, drop}
+use lib.Seq.{drop-cons}
+use borrow.Author.Tests.{lt-ltb, le-ltb, le-leb, lt-leb, eq-eqb, ne-eqb}
+use Rattle.model.specs.Read.{reject, got, andThen, _>>=_, _>>_, done, position, require, bigEndianFrom, bigEndian, byte, header, count}
+use Rattle.model.proofs.Laws.Reading.{then-got, got-inj}
+use Rattle.formula.specs.Readings.{nextOf}
+use Rattle.formula.proofs.Readers.{next-got}
+use Rattle.formula.specs.declared.read.Reading.the-variants.{Refused, Next}
+use Rattle.blocks.specs.Counts.{countOf, Bounded, Counts}
+use Rattle.blocks.specs.declared.header.Counted.{Counted}
+use Rattle.blocks.specs.declared.header.Counted.the-variants.{Refused as CountRefused, Count}
+
+four-bytes : (s : List ℕ) → 5 ≤ length s → take 4 (drop 1 s) ≡ getD s 1 0 ∷ getD s 2 0 ∷ getD s 3 0 ∷ getD s 4 0 ∷ []
+four-bytes s h =
+    rw (drop-cons s 1 0 (omega arith), drop-cons s 2 0 (omega arith), drop-cons s 3 0 (omega arith), drop-cons s 4 0 (omega arith))
+
+pub length-field :
+    (s : List ℕ) → 5 ≤ length s →
+    (getD s 1 0 * 256 + getD s 2 0) * 65536 + (getD s 3 0 * 256 + getD s 4 0) ≡ bigEndian (take 4 (drop 1 s))
+unfolding bigEndianFrom
+length-field s h = rw (four-bytes s h) (omega arith)
+
+module _ (s : List ℕ) (number most : ℕ) where
+  pub header-long : most < length s → Refused number most ≡ nextOf (header s number most 1 0)
+  unfolding header _>>_ andThen require nextOf
+  header-long h = rw (lt-leb (length s) most h)
+
+  module _ (h : length s ≤ most) where
+    pub header-short : length s < 5 → Refused (number + 1) (length s) ≡ nextOf (header s number most 1 0)
+    unfolding header _>>_ andThen require nextOf
+    header-short k = rw (le-leb (length s) most h, lt-leb 5 (length s) k)
+
+    module _ (k : 5 ≤ length s) where
+      pub header-version : (getD s 0 0 ≡ 1 → ⊥) → Refused (number + 2) 0 ≡ nextOf (header s number most 1 0)
+      unfolding header _>>_ andThen require nextOf
+      header-version v = rw (le-leb (length s) most h, le-leb 5 (length s) k, ne-eqb (getD s 0 0) 1 v)
+
+      module _ (v : getD s 0 0 ≡ 1) where
+        pub header-length :
+            (bigEndian (take 4 (drop 1 s)) ≡ length s - 5 → ⊥) → Refused (number + 3) 1 ≡ nextOf (header s number most 1 0)
+        unfolding header _>>_ andThen require nextOf
+        header-length l =
+            rw
+            (le-leb (length s) most h, le-leb 5 (length s) k, eq-eqb (getD s 0 0) 1 v, ne-eqb (bigEndian (take 4 (drop 1 s))) (length s - 5) l)
+
+        pub header-ok : bigEndian (take 4 (drop 1 s)) ≡ length s - 5 → Next 5 ≡ nextOf (header s number most 1 0)
+        unfolding header _>>_ andThen require nextOf
+        header-ok l =
+            rw
+            (le-leb (length s) most h, le-leb 5 (length s) k, eq-eqb (getD s 0 0) 1 v, eq-eqb (bigEndian (take 4 (drop 1 s))) (length s - 5) l)
+
+module _ (s : List ℕ) (number low high p : ℕ) where
+  pub count-past : length s ≤ p → Counts s number low high p (CountRefused 14 (length s))
+  unfolding count _>>=_ _>>_ position byte andThen
+  count-past h = record { is = rw (le-ltb p (length s) h); bounded = tt }
+
+  module _ (h : p < length s) where
+    pub count-low : getD s p 0 < low → Counts s number low high p (CountRefused number p)
+    unfolding count _>>=_ _>>_ position byte andThen require
+    count-low l = record { is = rw (lt-ltb p (length s) h, lt-leb low (getD s p 0) l); bounded = tt }
+
+    pub count-high : low ≤ getD s p 0 → high < getD s p 0 → Counts s number low high p (CountRefused number p)
+    unfolding count _>>=_ _>>_ position byte andThen require
+    count-high l g =
+        record { is = rw (lt-ltb p (length s) h, le-leb low (getD s p 0) l, lt-leb (getD s p 0) high g); bounded = tt }
+
+    pub count-ok : low ≤ getD s p 0 → getD s p 0 ≤ high → Counts s number low high p (Count (getD s p 0))
+    unfolding count _>>=_ _>>_ position byte andThen require done
+    count-ok l g =
+        record { is = rw (lt-ltb p (length s) h, le-leb low (getD s p 0) l, le-leb (getD s p 0) high g); bounded = (g, h) }
+
+-- what `count_at` answered
+module _ (s : List ℕ) (number low high p : ℕ) (r : Counted) (a : Counts s number low high p r) where
+  pub count-refused : (n q : ℕ) → r ≡ CountRefused n q → count s number low high p ≡ reject n q
+  count-refused n q e = sym (a .is) ∙ ap (countOf p) e
+
+  pub count-got : (n : ℕ) → r ≡ Count n → count s number low high p ≡ got n (p + 1)
+  count-got n e = sym (a .is) ∙ ap (countOf p) e
+
+  pub count-within : (n : ℕ) → r ≡ Count n → (n ≤ high) × (p < length s)
+  count-within n e = subst (Bounded s p high) e (a .bounded)
+
+-- a block whose header is right begins its body at byte 5
+pub header-five : (s : List ℕ) (number most q : ℕ) → Next q ≡ nextOf (header s number most 1 0) → q ≡ 5
+unfolding header _>>_
+header-five s number most q e =
+    let g = next-got (header s number most 1 0) q (sym e) in
+    then-got (g .is) λ u₁ p₁ e₁ h₁.
+    then-got h₁ λ u₂ p₂ e₂ h₂.
+    then-got h₂ λ u₃ p₃ e₃ h₃.
+    then-got h₃ λ u₄ p₄ e₄ h₄.
+    sym (got-inj h₄ .1)

@@ -1,0 +1,6 @@
+pub mod Headers
+pub mod Effects
+pub mod Steps
+pub mod Actions
+pub mod Problems
+pub mod Tasks

@@ -1,0 +1,161 @@
+-- A problem's reader, part by part, and what is found of it. Assumes nothing.
+use mathlib.Core.Path.{_≡_, refl, sym, ap, ap₂, _∙_, subst}
+use mathlib.Core.Bool.{Bool, true, false, true≢false}
+use mathlib.Core.List.{List}
+use Prim.Native.Nat.{ℕ, _+_, _≤_, _<_}
+use native.Mathlib.Omega.{arith}
+use lib.ListN.{length, getD}
+use borrow.Author.Tests.{le-leb, lt-leb}
+use Rattle.model.specs.Limits.{version1}
+use Rattle.model.specs.Formula.{Formula}
+use Rattle.model.specs.Action.{Action}
+use Rattle.model.specs.Read.{Read, reject, got, andThen, _>>=_, _>>_, done, position, require, header, count}
+use Rattle.model.specs.FormulaBytes.{formula}
+use Rattle.model.specs.ProblemBytes.{Problem, actions, ending, parts, body, problem}
+use Rattle.formula.specs.Readings.{nextOf}
+use Rattle.formula.specs.declared.read.Reading.{Reading}
+use Rattle.formula.specs.declared.read.Reading.the-variants.{Refused, Next}
+use Rattle.formula.proofs.Readers.{next-got, next-refused}
+use Rattle.blocks.specs.declared.problem.Actions.{Actions}
+use Rattle.blocks.proofs.Actions.{actions-length}
+use Rattle.blocks.specs.declared.problem.Found.{Found}
+use Rattle.blocks.specs.Parts.{FormulaStands, ActionsAt, Placed, Finds, Ends}
+
+-- a refusal, and nothing found
+abbrev pub Says : Found → ℕ → ℕ → Type 0
+Says r n q = (r .refused ≡ true) × (r .number ≡ n) × (r .place ≡ q)
+
+pub finds-refused : (s : List ℕ) (x : Read Problem) (r : Found) (n q : ℕ) → Says r n q → x ≡ reject n q → Finds s x r
+finds-refused s x r n q (a, b, d) e =
+    record {
+      refusal = λ h. e ∙ ap₂ reject (sym b) (sym d);
+      found = λ h. absurd (true≢false (sym a ∙ h));
+    }
+
+pub finds-as : (s : List ℕ) (x y : Read Problem) (r : Found) → x ≡ y → Finds s y r → Finds s x r
+finds-as s x y r e = subst (λ (z : Read Problem). Finds s z r) (sym e)
+
+module _ (s : List ℕ) (facts m : ℕ) where
+  made : Formula → Formula → List Action → Problem
+  made f g as′ = record { facts = facts; initial = f; goal = g; actions = as′ }
+
+  ending-refused :
+      (f g : Formula) (p n q : ℕ) → actions version1 s facts m p ≡ reject n q → ending version1 s facts m f g p ≡ reject n q
+  unfolding ending _>>=_ andThen
+  ending-refused f g p n q e = rw e
+
+  ending-bytes :
+      (f g : Formula) (p q : ℕ) (as′ : List Action) → actions version1 s facts m p ≡ got as′ q → q < length s →
+      ending version1 s facts m f g p ≡ reject 25 q
+  unfolding ending _>>=_ _>>_ andThen position require
+  ending-bytes f g p q as′ e h = rw (e, lt-leb (length s) q h)
+
+  ending-got :
+      (f g : Formula) (p q : ℕ) (as′ : List Action) → actions version1 s facts m p ≡ got as′ q → length s ≤ q →
+      ending version1 s facts m f g p ≡ got (made f g as′) q
+  unfolding ending _>>=_ _>>_ andThen position require done made
+  ending-got f g p q as′ e h = rw (e, le-leb (length s) q h)
+
+  module _ (initial goal p m′ : ℕ) (w : m′ ≡ m) (a : Actions) (A′ : ActionsAt s facts m′ p a) where
+    -- the count as the code's wider number
+    A : ActionsAt s facts m p a
+    A = subst (λ (k : ℕ). ActionsAt s facts k p a) w A′
+
+    pub ends-refused : (r : Found) (n q : ℕ) → Says r n q → a .reading ≡ Refused n q → Ends s initial goal p facts m r
+    ends-refused r n q y e f g h fs gs =
+        finds-refused s _ r n q y (ending-refused f g p n q (next-refused _ n q (sym (A .is) ∙ e)))
+
+    pub ends-bytes : (r : Found) (q : ℕ) → Says r 25 q → a .reading ≡ Next q → q < length s → Ends s initial goal p facts m r
+    ends-bytes r q y e l f g h fs gs =
+        let o = next-got _ q (sym (A .is) ∙ e) in
+        finds-refused s _ r 25 q y (ending-bytes f g p q (o .value) (o .is) l)
+
+    abbrev pub found : Found
+    found =
+        record {
+          refused = false;
+          number = 0;
+          place = 0;
+          problem = record { facts = facts; actions = m; initial = initial; goal = goal; action = a .at };
+        }
+
+    placed :
+        (f g : Formula) (as′ : List Action) (q : ℕ) → facts ≤ version1 .facts → FormulaStands s facts initial f →
+        FormulaStands s facts goal g → actions version1 s facts m p ≡ got as′ q → length as′ ≡ m → Placed s (found .problem) (made f g as′)
+    unfolding made
+    placed f g as′ q h fs gs e l =
+        record {
+          facts = refl;
+          most = h;
+          actions = sym l;
+          initial = fs;
+          goal = gs;
+          action = λ i k. A .stand as′ q e i (omega (arith, l));
+        }
+
+    pub ends-found : (q : ℕ) → a .reading ≡ Next q → length s ≤ q → Ends s initial goal p facts m found
+    unfolding made
+    ends-found q e l f g h fs gs =
+        let o = next-got _ q (sym (A .is) ∙ e) in
+        record {
+          refusal = λ z. absurd (true≢false (sym z));
+          found =
+              λ z.
+              (made f g (o .value), q, ending-got f g p q (o .value) (o .is) l, placed f g (o .value) q h fs gs (o .is) (actions-length s facts m p (o .value) q (o .is)));
+        }
+
+-- ---- the formulas, the counts and the header
+
+module _ (s : List ℕ) where
+  module _ (facts m p : ℕ) where
+    pub parts-refused : (n q : ℕ) → Refused n q ≡ nextOf (formula version1 s facts p) → parts version1 s facts m p ≡ reject n q
+    unfolding parts _>>=_ andThen
+    parts-refused n q e = rw (next-refused (formula version1 s facts p) n q (sym e))
+
+    module _ (k : ℕ) (e : Next k ≡ nextOf (formula version1 s facts p)) where
+      pub initial-stands : (f : Formula) × FormulaStands s facts p f × (formula version1 s facts p ≡ got f k)
+      initial-stands = let o = next-got _ k (sym e) in (o .value, record { next = k; read = o .is }, o .is)
+
+      pub parts-goal-refused : (n q : ℕ) → Refused n q ≡ nextOf (formula version1 s facts k) → parts version1 s facts m p ≡ reject n q
+      unfolding parts _>>=_ andThen
+      parts-goal-refused n q g =
+          let o = next-got (formula version1 s facts p) k (sym e) in
+          rw (o .is, next-refused (formula version1 s facts k) n q (sym g))
+
+      parts-got :
+          (q : ℕ) (f g : Formula) → formula version1 s facts p ≡ got f k → formula version1 s facts k ≡ got g q →
+          parts version1 s facts m p ≡ ending version1 s facts m f g q
+      unfolding parts _>>=_ andThen
+      parts-got q f g a b = rw (a, b)
+
+      pub parts-found :
+          (q : ℕ) (r : Found) → Next q ≡ nextOf (formula version1 s facts k) → facts ≤ version1 .facts → Ends s p k q facts m r →
+          Finds s (parts version1 s facts m p) r
+      parts-found q r g h y =
+          let a = next-got (formula version1 s facts p) k (sym e) in
+          let b = next-got (formula version1 s facts k) q (sym g) in
+          finds-as s _ _ r (parts-got q (a .value) (b .value) (a .is) (b .is))
+          (y (a .value) (b .value) h (record { next = k; read = a .is }) (record { next = q; read = b .is }))
+
+  module _ (p : ℕ) where
+    pub body-refused : (n q : ℕ) → count s 15 1 (version1 .facts) p ≡ reject n q → body version1 s p ≡ reject n q
+    unfolding body _>>=_ andThen
+    body-refused n q e = rw e
+
+    module _ (facts k : ℕ) (e : count s 15 1 (version1 .facts) p ≡ got facts k) where
+      pub body-actions-refused : (n q : ℕ) → count s 16 0 (version1 .actions) k ≡ reject n q → body version1 s p ≡ reject n q
+      unfolding body _>>=_ andThen
+      body-actions-refused n q g = rw (e, g)
+
+      pub body-got :
+          (m : ℕ) → k ≡ p + 1 → count s 16 0 (version1 .actions) k ≡ got m (k + 1) → body version1 s p ≡ parts version1 s facts m (p + 2)
+      unfolding body _>>=_ andThen
+      body-got m h g = rw (e, g) (ap (parts version1 s facts m) (omega arith))
+
+  pub problem-refused : (n q : ℕ) → Refused n q ≡ nextOf (header s 10 32768 1 0) → problem version1 s 0 ≡ reject n q
+  unfolding problem _>>_ andThen
+  problem-refused n q e = rw (next-refused (header s 10 32768 1 0) n q (sym e))
+
+  pub problem-got : (q : ℕ) → Next q ≡ nextOf (header s 10 32768 1 0) → problem version1 s 0 ≡ body version1 s q
+  unfolding problem _>>_ andThen
+  problem-got q e = let o = next-got (header s 10 32768 1 0) q (sym e) in rw (o .is)

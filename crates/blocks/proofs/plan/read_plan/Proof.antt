@@ -1,0 +1,17 @@
+-- `read_plan` meets its contract. Assumes nothing.
+use Rattle.blocks.proofs.Tasks.{read-plan-refused, read-plan-found}
+use borrow.Author.Needs.{needs}
+use Rattle.blocks.proofs.plan.read_plan.Statement.{statement}
+use Rattle.blocks.proofs.plan.read_plan.Tie as tie
+
+find-task-requires : tie.Need-find-task-requires
+find-task-requires c κs = search needs
+
+returns : tie.Need-returns
+returns c = read-plan-refused _ _ _ (c .before .find-task .ensures) (c .if1 .taken)
+
+returns-2 : tie.Need-returns-2
+returns-2 c = read-plan-found _ _ _ (c .before .find-task .ensures) (c .if1 .left)
+
+pub read-plan-spec : {M : Type 1} → statement M
+read-plan-spec = tie.close (tie.spec find-task-requires returns returns-2)

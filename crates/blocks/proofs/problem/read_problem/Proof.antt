@@ -1,0 +1,17 @@
+-- `read_problem` meets its contract. Assumes nothing.
+use Rattle.blocks.proofs.Tasks.{read-problem-refused, read-problem-found}
+use borrow.Author.Needs.{needs}
+use Rattle.blocks.proofs.problem.read_problem.Statement.{statement}
+use Rattle.blocks.proofs.problem.read_problem.Tie as tie
+
+find-problem-requires : tie.Need-find-problem-requires
+find-problem-requires c κs = search needs
+
+returns : tie.Need-returns
+returns c = read-problem-refused _ _ (c .before .find-problem .ensures) (c .if1 .taken)
+
+returns-2 : tie.Need-returns-2
+returns-2 c = read-problem-found _ _ (c .before .before .find-problem .ensures) (c .before .if1 .left)
+
+pub read-problem-spec : {M : Type 1} → statement M
+read-problem-spec = tie.close (tie.spec find-problem-requires returns returns-2)

@@ -1,0 +1,85 @@
+-- What the readers of this crate answer, and where the parts of a problem stand.
+use mathlib.Core.Path.{_≡_}
+use mathlib.Core.Bool.{true, false}
+use mathlib.Core.List.{List}
+use Prim.Native.Nat.{ℕ, _+_, _<_, _≤_}
+use lib.ListN.{length, getD}
+use Rattle.model.specs.Limits.{version1}
+use Rattle.model.specs.Answer.{refused, answered}
+use Rattle.model.specs.Formula.{Formula}
+use Rattle.model.specs.Action.{Effect, Action}
+use Rattle.model.specs.Read.{Read, reject, got, headBytes}
+use Rattle.model.specs.FormulaBytes.{literalByte, formula}
+use Rattle.model.specs.ProblemBytes as bytes
+use Rattle.model.specs.ProblemBytes.{effect, action, actions, problemOf, planOf, actionAt}
+use Rattle.model.specs.Operations.{readTask}
+use Rattle.model.specs.declared.Problem.{Problem}
+use Rattle.formula.specs.declared.read.Reading.{Reading}
+use Rattle.formula.specs.declared.read.Reading.the-variants.{Refused, Next}
+use Rattle.formula.specs.Readings.{nextOf}
+use Rattle.blocks.specs.declared.problem.Actions.{Actions}
+use Rattle.blocks.specs.declared.problem.Found.{Found}
+use Rattle.blocks.specs.declared.plan.Task.{Task}
+
+-- an effect that was read from p on, with its literal's byte at p
+pub record EffectGot (s : List ℕ) (facts least p q : ℕ) : Type 0 where
+  pub effect : Effect
+  pub read : bytes.effect version1 s facts least p ≡ got effect q
+  pub literal : literalByte (effect .literal) ≡ getD s p 0
+  pub inside : p < length s
+
+abbrev pub EffectRead : List ℕ → ℕ → ℕ → ℕ → Reading → Type 0
+EffectRead s facts least p (Refused n q) = bytes.effect version1 s facts least p ≡ reject n q
+EffectRead s facts least p (Next q) = EffectGot s facts least p q
+
+-- the formula f stands at p
+pub record FormulaStands (s : List ℕ) (facts p : ℕ) (f : Formula) : Type 0 where
+  pub next : ℕ
+  pub read : formula version1 s facts p ≡ got f next
+
+-- the action a stands at p
+pub record ActionStands (s : List ℕ) (facts p : ℕ) (a : Action) : Type 0 where
+  pub next : ℕ
+  pub read : action version1 s facts p ≡ got a next
+
+-- m actions were read from p on, and each stands where it is said to
+pub record ActionsAt (s : List ℕ) (facts m p : ℕ) (r : Actions) : Type 0 where
+  pub is : r .reading ≡ nextOf (actions version1 s facts m p)
+  pub stand :
+      (as′ : List Action) (q : ℕ) → actions version1 s facts m p ≡ got as′ q → (i : ℕ) → i < m →
+      ActionStands s facts (getD (r .at) i 0) (actionAt as′ i)
+
+-- where the parts of the problem p stand
+pub record Placed (s : List ℕ) (r : Problem) (p : bytes.Problem) : Type 0 where
+  pub facts : r .facts ≡ p .facts
+  pub most : p .facts ≤ version1 .facts
+  pub actions : r .actions ≡ length (p .actions)
+  pub initial : FormulaStands s (p .facts) (r .initial) (p .initial)
+  pub goal : FormulaStands s (p .facts) (r .goal) (p .goal)
+  pub action : (i : ℕ) → i < length (p .actions) → ActionStands s (p .facts) (getD (r .action) i 0) (actionAt (p .actions) i)
+
+-- what a reader of a problem gives, as a `Found`
+pub record Finds (s : List ℕ) (x : Read bytes.Problem) (r : Found) : Type 0 where
+  pub refusal : r .refused ≡ true → x ≡ reject (r .number) (r .place)
+  pub found : r .refused ≡ false → (p : bytes.Problem) × (q : ℕ) × (x ≡ got p q) × Placed s (r .problem) p
+
+-- what the end of a problem's reader gives, where the initial formula and the goal stand as said
+abbrev pub Ends : List ℕ → ℕ → ℕ → ℕ → ℕ → ℕ → Found → Type 0
+Ends s initial goal p facts m r =
+    (f g : Formula) → facts ≤ version1 .facts → FormulaStands s facts initial f → FormulaStands s facts goal g →
+    Finds s (bytes.ending version1 s facts m f g p) r
+
+-- a problem and a plan that were read, and where their parts stand
+pub record TaskAt (s t : List ℕ) (r : Task) : Type 0 where
+  pub problem : bytes.Problem
+  pub steps : List ℕ
+  pub problem-read : problemOf version1 s ≡ answered problem
+  pub plan-read : planOf version1 t (length (problem .actions)) ≡ answered steps
+  pub placed : Placed s (r .problem) problem
+  pub count : r .steps ≡ length steps
+  pub fits : headBytes + r .steps ≡ length t
+  pub step : (i : ℕ) → i < r .steps → (getD t (headBytes + i) 0 ≡ getD steps i 0) × (getD steps i 0 < length (problem .actions))
+
+pub record FindsTask (s t : List ℕ) (r : Task) : Type 0 where
+  pub refusal : r .refused ≡ true → readTask version1 s t ≡ refused (r .number) (r .place)
+  pub found : r .refused ≡ false → TaskAt s t r

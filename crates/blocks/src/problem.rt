@@ -1,0 +1,165 @@
+// Reading a problem block, and where its parts stand.
+ghost use mathlib.Core.Path.{_≡_};
+ghost use mathlib.Core.Bool.{true};
+ghost use Prim.Native.Nat.{_≤_};
+ghost use Rattle.model.specs.Limits.{version1};
+ghost use Rattle.model.specs.ProblemBytes as bytes;
+ghost use Rattle.model.specs.Operations.{readProblem};
+ghost use Rattle.model.specs.Answers.{problemAnswer};
+ghost use Rattle.blocks.specs.Parts.{ActionsAt, Ends, Finds};
+use crate::action::read_action;
+use crate::header::Counted;
+use crate::header::check_header;
+use crate::header::count_at;
+use formula::Reading;
+use formula::read_formula;
+use model::Problem;
+use model::ProblemAnswer;
+use model::Refusal;
+
+// Where m actions stand: a refusal or the position after them, with each one's position.
+pub struct Actions {
+    pub reading: Reading,
+    pub at: [usize; Problem::MAX_ACTIONS],
+}
+
+// Reads m actions from `at` on.
+fn read_actions(s: &[u8], at: usize, facts: u8, m: usize) -> Actions
+    requires { ⌜ m ≤ version1 .actions ⌝ }
+    ensures { λ r. ⌜ ActionsAt (now (s .entry)) facts m at r ⌝ }
+{
+    let mut stand = [0usize; Problem::MAX_ACTIONS];
+    let mut p = at;
+    let mut i: usize = 0;
+    while i < m {
+        stand[i] = p;
+        match read_action(s, p, facts) {
+            Reading::Refused(number, place) => {
+                return Actions {
+                    reading: Reading::Refused(number, place),
+                    at: stand,
+                };
+            }
+            Reading::Next(next) => {
+                p = next;
+            }
+        }
+        i = i + 1;
+    }
+    Actions {
+        reading: Reading::Next(p),
+        at: stand,
+    }
+}
+
+// A problem that was looked for in a block: its refusal, or its parts.
+pub struct Found {
+    pub refused: bool,
+    pub number: u8,
+    pub place: usize,
+    pub problem: Problem,
+}
+
+fn refused(number: u8, place: usize) -> Found
+    ensures { λ r. ⌜ (r .refused ≡ true) × (r .number ≡ number) × (r .place ≡ place) ⌝ }
+{
+    let problem = Problem {
+        facts: 0,
+        actions: 0,
+        initial: 0,
+        goal: 0,
+        action: [0usize; Problem::MAX_ACTIONS],
+    };
+    Found {
+        refused: true,
+        number,
+        place,
+        problem,
+    }
+}
+
+// The actions from `at` on, and the end of the block.
+fn find_actions(s: &[u8], initial: usize, goal: usize, at: usize, facts: u8, m: u8) -> Found
+    requires { ⌜ m ≤ version1 .actions ⌝ }
+    ensures { λ r. ⌜ Ends (now (s .entry)) initial goal at facts m r ⌝ }
+{
+    let all = read_actions(s, at, facts, crate::wide(m));
+    let reading = all.reading;
+    match reading {
+        Reading::Refused(number, place) => refused(number, place),
+        Reading::Next(end) => {
+            if end < s.len() {
+                return refused(25, end);
+            }
+            let action = all.at;
+            let problem = Problem {
+                facts,
+                actions: m,
+                initial,
+                goal,
+                action,
+            };
+            Found {
+                refused: false,
+                number: 0,
+                place: 0,
+                problem,
+            }
+        }
+    }
+}
+
+// The initial formula, the goal and the actions, from `at` on.
+fn find_parts(s: &[u8], at: usize, facts: u8, m: u8) -> Found
+    requires { ⌜ (facts ≤ version1 .facts) × (m ≤ version1 .actions) ⌝ }
+    ensures { λ r. ⌜ Finds (now (s .entry)) (bytes.parts version1 (now (s .entry)) facts m at) r ⌝ }
+{
+    match read_formula(s, at, facts) {
+        Reading::Refused(number, place) => refused(number, place),
+        Reading::Next(goal) => match read_formula(s, goal, facts) {
+            Reading::Refused(number, place) => refused(number, place),
+            Reading::Next(next) => find_actions(s, at, goal, next, facts, m),
+        },
+    }
+}
+
+// The counts from `at` on, and what follows them.
+fn find_body(s: &[u8], at: usize) -> Found
+    ensures { λ r. ⌜ Finds (now (s .entry)) (bytes.body version1 (now (s .entry)) at) r ⌝ }
+{
+    match count_at(s, at, 15, 1, Problem::MAX_FACTS) {
+        Counted::Refused(number, place) => refused(number, place),
+        Counted::Count(facts) => match count_at(s, at + 1, 16, 0, Problem::MAX_ACTIONS as u8) {
+            Counted::Refused(number, place) => refused(number, place),
+            Counted::Count(m) => find_parts(s, at + 2, facts, m),
+        },
+    }
+}
+
+// The problem in a block: its refusal, or where its parts stand.
+pub fn find_problem(s: &[u8]) -> Found
+    ensures { λ r. ⌜ Finds (now (s .entry)) (bytes.problem version1 (now (s .entry)) 0) r ⌝ }
+{
+    match check_header(s, 10, Problem::MAX_BYTES) {
+        Reading::Refused(number, place) => refused(number, place),
+        Reading::Next(at) => find_body(s, at),
+    }
+}
+
+// Read a problem: its refusal, or its fact and action counts.
+pub fn read_problem(s: &[u8]) -> ProblemAnswer
+    ensures { λ r. ⌜ problemAnswer r ≡ readProblem version1 (now (s .entry)) ⌝ }
+{
+    let found = find_problem(s);
+    if found.refused {
+        return ProblemAnswer::Refused(Refusal {
+            number: found.number,
+            place: found.place as u64,
+        });
+    }
+    let problem = found.problem;
+    ProblemAnswer::Accepted {
+        facts: problem.facts,
+        actions: problem.actions,
+    }
+}

@@ -1,0 +1,7 @@
+-- Laws of the definitions, for several functions' proofs.
+pub mod Readers
+pub mod Heads
+pub mod Items
+pub mod Bounds
+pub mod Lengths
+pub mod Values
