@@ -81,27 +81,29 @@ module _ (s : List ℕ) (facts m : ℕ) where
 
     placed :
         (f g : Formula) (as′ : List Action) (q : ℕ) → facts ≤ version1 .facts → FormulaStands s facts initial f →
-        FormulaStands s facts goal g → actions version1 s facts m p ≡ got as′ q → length as′ ≡ m → Placed s (found .problem) (made f g as′)
+        FormulaStands s facts goal g → actions version1 s facts m p ≡ got as′ q → length as′ ≡ m → m ≤ version1 .actions →
+        Placed s (found .problem) (made f g as′)
     unfolding made
-    placed f g as′ q h fs gs e l =
+    placed f g as′ q h fs gs e l few =
         record {
           facts = refl;
           most = h;
           actions = sym l;
+          few = omega (arith, l);
           initial = fs;
           goal = gs;
           action = λ i k. A .stand as′ q e i (omega (arith, l));
         }
 
-    pub ends-found : (q : ℕ) → a .reading ≡ Next q → length s ≤ q → Ends s initial goal p facts m found
+    pub ends-found : (q : ℕ) → a .reading ≡ Next q → length s ≤ q → m ≤ version1 .actions → Ends s initial goal p facts m found
     unfolding made
-    ends-found q e l f g h fs gs =
+    ends-found q e l few f g h fs gs =
         let o = next-got _ q (sym (A .is) ∙ e) in
         record {
           refusal = λ z. absurd (true≢false (sym z));
           found =
               λ z.
-              (made f g (o .value), q, ending-got f g p q (o .value) (o .is) l, placed f g (o .value) q h fs gs (o .is) (actions-length s facts m p (o .value) q (o .is)));
+              (made f g (o .value), q, ending-got f g p q (o .value) (o .is) l, placed f g (o .value) q h fs gs (o .is) (actions-length s facts m p (o .value) q (o .is)) few);
         }
 
 -- ---- the formulas, the counts and the header

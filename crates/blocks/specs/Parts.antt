@@ -54,6 +54,7 @@ pub record Placed (s : List ℕ) (r : Problem) (p : bytes.Problem) : Type 0 wher
   pub facts : r .facts ≡ p .facts
   pub most : p .facts ≤ version1 .facts
   pub actions : r .actions ≡ length (p .actions)
+  pub few : length (p .actions) ≤ version1 .actions
   pub initial : FormulaStands s (p .facts) (r .initial) (p .initial)
   pub goal : FormulaStands s (p .facts) (r .goal) (p .goal)
   pub action : (i : ℕ) → i < length (p .actions) → ActionStands s (p .facts) (getD (r .action) i 0) (actionAt (p .actions) i)

@@ -2,6 +2,7 @@ pub mod Tabulate
 pub mod Agreement
 pub mod Held
 pub mod Cover
+pub mod Splitting
 pub mod Verdicts
 pub mod Beliefs
 pub mod Grants

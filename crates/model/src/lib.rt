@@ -78,6 +78,8 @@ impl CaseList {
     pub const MAX_BYTES: usize = Limits::HEAD_BYTES + CaseList::LINE_BYTES * CaseList::MAX_LINES;
     // A state's number, and a line's value, in bits.
     pub const WIDTH: u8 = 48;
+    // The numbers that all lines cover together.
+    pub const NUMBERS: u64 = 1u64 << CaseList::WIDTH;
 }
 
 // The numbers of one version of the formats. The definitions take them as a parameter.

@@ -58,12 +58,12 @@ module _ (w : ℕ) (look : ℕ → ℕ → Look) where
   visits-join (covered ls a) t = omega (arith, visits-closed ls a t)
   visits-join (failed s a) t = omega arith
 
-  visits-go : (d : ℕ) (l : Look) (k v : ℕ) → 1 ≤ visits (walkFrom w look d l k v)
+  pub visits-walk : (d : ℕ) (l : Look) (k v : ℕ) → 1 ≤ visits (walkFrom w look d l k v)
   unfolding walkFrom
-  visits-go zero (closed κ) k v = omega arith
-  visits-go zero opened k v = omega arith
-  visits-go (suc d) (closed κ) k v = omega arith
-  visits-go (suc d) opened k v = visits-join (walkFrom w look d (look (suc k) v) (suc k) v) (walkFrom w look d (look (suc k) (v + 2 ^ (w - suc k))) (suc k) (v + 2 ^ (w - suc k)))
+  visits-walk zero (closed κ) k v = omega arith
+  visits-walk zero opened k v = omega arith
+  visits-walk (suc d) (closed κ) k v = omega arith
+  visits-walk (suc d) opened k v = visits-join (walkFrom w look d (look (suc k) v) (suc k) v) (walkFrom w look d (look (suc k) (v + 2 ^ (w - suc k))) (suc k) (v + 2 ^ (w - suc k)))
 
   cut-join : (g : ℕ) (r t : Walked) (f : ℕ → Cut) → ((g′ : ℕ) → f g′ ≡ cut g′ t) → andThen g (cut g r) f ≡ cut (suc g) (join r t)
   unfolding andThen joinC
@@ -90,10 +90,10 @@ module _ (w : ℕ) (look : ℕ → ℕ → Look) where
 
   pub walk-grant : (d g : ℕ) (l : Look) (k v : ℕ) → goG d g l k v ≡ cut g (walkFrom w look d l k v)
   unfolding goG walkFrom
-  walk-grant zero zero l k v = sym (cut-out 0 (walkFrom w look zero l k v) (visits-go zero l k v))
+  walk-grant zero zero l k v = sym (cut-out 0 (walkFrom w look zero l k v) (visits-walk zero l k v))
   walk-grant zero (suc g) (closed κ) k v = sym (cut-in (suc g) _ (omega arith))
   walk-grant zero (suc g) opened k v = sym (cut-in (suc g) _ (omega arith))
-  walk-grant (suc d) zero l k v = sym (cut-out 0 (walkFrom w look (suc d) l k v) (visits-go (suc d) l k v))
+  walk-grant (suc d) zero l k v = sym (cut-out 0 (walkFrom w look (suc d) l k v) (visits-walk (suc d) l k v))
   walk-grant (suc d) (suc g) (closed κ) k v = sym (cut-in (suc g) _ (omega arith))
   walk-grant (suc d) (suc g) opened k v =
       let m = v + 2 ^ (w - suc k) in

@@ -53,7 +53,7 @@ module _ (w n : ℕ) where
   kleene-no k v s h ad φ e = from-no _ (read-refines k v s h ad φ) e
 
   -- the run at a case and at what it admits
-  run-full : (goal : Formula) (plan : List Action) (s : ℕ) → run three n goal plan 0 (caseOf w n n s) ≡ run two n goal plan 0 (stateOf w n s)
+  pub run-full : (goal : Formula) (plan : List Action) (s : ℕ) → run three n goal plan 0 (caseOf w n n s) ≡ run two n goal plan 0 (stateOf w n s)
   run-full goal plan s = run-same three two Exact exact (λ x y r. ap isYes r ∙ yes-exact y) n goal plan 0 _ _ (case-exact s)
 
   run-refines : (goal : Formula) (plan : List Action) (k v k′ v′ : ℕ) → k ≤ k′ → Admits k v v′

@@ -30,7 +30,7 @@ returns-2 : tie.Need-returns-2
 returns-2 c = ends-refused _ _ _ _ _ _ _ (c .before .before .before .before .before .wide .ensures .0) _ (c .before .before .before .before .read-actions .ensures) _ _ _ (c .refused .ensures) (c .before .before .reading .given .1)
 
 returns-3 : tie.Need-returns-3
-returns-3 c = ends-found _ _ _ _ _ _ _ (c .before .before .before .before .before .before .wide .ensures .0) _ (c .before .before .before .before .before .read-actions .ensures) _ (c .before .before .before .reading2 .given .1) (omega arith)
+returns-3 c = ends-found _ _ _ _ _ _ _ (c .before .before .before .before .before .before .wide .ensures .0) _ (c .before .before .before .before .before .read-actions .ensures) _ (c .before .before .before .reading2 .given .1) (omega arith) (c .before .before .before .before .before .before .before .before .pre)
 
 pub find-actions-spec : {M : Type 1} → statement M
 find-actions-spec =
