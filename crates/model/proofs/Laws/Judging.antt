@@ -49,7 +49,7 @@ module _ (T : Task) (n≤w : T .facts ≤ T .width) where
   counted-undecided g a (wrong t p b) m e = let z : _≡_ {A = ℕ} 0 1 = cc in absurd (omega arith)
   counted-undecided g a (undecided b) m e = let h : b ≡ a = cc in (sym h ∙ m .0, m .1)
 
-  judged-out : (g : ℕ) → g < visits (walked T) → judged T g ≡ undecided g
+  pub judged-out : (g : ℕ) → g < visits (walked T) → judged T g ≡ undecided g
   unfolding judged
   judged-out g h = rw (lt-leb (visits (walked T)) g h)
 

@@ -1,0 +1,4 @@
+pub mod Endings
+pub mod Cases
+pub mod Verdicts
+pub mod Promise
