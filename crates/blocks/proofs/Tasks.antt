@@ -55,7 +55,7 @@ steps-got s m (suc n) p bs q e =
     subst (λ (x : List ℕ). Stepped s m (suc n) p x q) a
     (subst (Stepped s m (suc n) p (getD s p 0 ∷ rest)) b (stepped-more s m n p rest k (ltb-true _ _ t) r))
 
-header-length : (s : List ℕ) (number most q : ℕ) (u : Unit {0}) → header s number most 1 0 ≡ got u q → (5 ≤ length s) × (q ≡ 5)
+pub header-length : (s : List ℕ) (number most q : ℕ) (u : Unit {0}) → header s number most 1 0 ≡ got u q → (5 ≤ length s) × (q ≡ 5)
 unfolding header _>>_
 header-length s number most q u e =
     needed _ _ _ _ _ e λ t₁ h₁.

@@ -5,7 +5,7 @@ use mathlib.Core.List.{List}
 use Prim.Native.Nat.{ℕ, zero, suc, _+_, _-_, _*_, _/_, _%_, _^_, _≤_, _<_}
 use native.Mathlib.Nat.{mod-lt, mod-eq-of-lt, pow-suc, mul-div-cancel}
 use native.Mathlib.Omega.{arith}
-use native.Mathlib.Decide.{ℕ-discrete}
+use native.Mathlib.Decide.{decLt, ℕ-discrete}
 use lib.ListN.{length, getD, set, replicate, length-set}
 use lib.Seq.{getD-set-same, getD-set-other}
 use lib.Pow.{pow-pos}
@@ -18,24 +18,24 @@ use Rattle.model.specs.Case.{bit, caseOf}
 use Rattle.model.specs.Values.{valueByte, Shows}
 use Rattle.model.proofs.Laws.Held.{zeros, shows-tabulate}
 use Rattle.execute.specs.declared.state.Decoded.{Decoded}
-use Rattle.execute.specs.States.{Decodes}
+use Rattle.execute.specs.States.{BitsOf, Decodes}
 
--- i bits of s were read: what is left of s, what it is below, and the values so far
+-- and what is left is below `span`
 pub record Read (s : ℕ) (values : List ℕ) (rest span i : ℕ) : Type 0 where
-  pub size : length values ≡ 64
   pub span-is : span ≡ 2 ^ (48 - i)
-  pub left : rest ≡ s % 2 ^ (48 - i)
-  pub below : (j : ℕ) → j < i → getD values j 0 ≡ valueByte (known (bit 48 s j))
-  pub past : (j : ℕ) → i ≤ j → getD values j 0 ≡ 0
+  pub bits : BitsOf s values rest i
 
 pub read-none : (s : ℕ) → s < 2 ^ 48 → Read s (replicate 64 0) s (2 ^ 48) 0
 read-none s h =
     record {
-      size = refl;
       span-is = refl;
-      left = sym (mod-eq-of-lt h);
-      below = λ j l. absurd (omega arith);
-      past = λ j l. zeros 64 j;
+      bits =
+          record {
+            size = refl;
+            left = sym (mod-eq-of-lt h);
+            below = λ j l. absurd (omega arith);
+            past = λ j l. zeros 64 j;
+          };
     }
 
 -- the next span, and what is left beside its bit
@@ -71,7 +71,7 @@ module _ (s : ℕ) (values : List ℕ) (rest span i : ℕ) (h : i < 48) (r : Rea
   next-span = ap (λ (x : ℕ). 2 ^ x) (omega arith)
 
   rest-is : rest ≡ (s / 2 ^ (48 - suc i) % 2) * 2 ^ (48 - suc i) + s % 2 ^ (48 - suc i)
-  rest-is = r .left ∙ split-left s i h
+  rest-is = r .bits .left ∙ split-left s i h
 
   bit-of : (b : ℕ) → s / 2 ^ (48 - suc i) % 2 ≡ b → bit 48 s i ≡ eqb b 1
   unfolding bit
@@ -84,27 +84,29 @@ module _ (s : ℕ) (values : List ℕ) (rest span i : ℕ) (h : i < 48) (r : Rea
       Read s after left (span / 2) (i + 1)
   one-more after left size e same new =
       record {
-        size = size;
         span-is = span-half ∙ next-span;
-        left = e ∙ ap (λ (x : ℕ). s % x) next-span;
-        below = λ j l. elim (ℕ-discrete j i) [ yes d ↦ subst (λ (x : ℕ). getD after x 0 ≡ valueByte (known (bit 48 s x))) (sym d) new | no d ↦ same j d ∙ r .below j (omega arith) ];
-        past = λ j l. same j (λ d. omega arith) ∙ r .past j (omega arith);
+        bits = record {
+          size = size;
+          left = e ∙ ap (λ (x : ℕ). s % x) next-span;
+          below = λ j l. elim (ℕ-discrete j i) [ yes d ↦ subst (λ (x : ℕ). getD after x 0 ≡ valueByte (known (bit 48 s x))) (sym d) new | no d ↦ same j d ∙ r .bits .below j (omega arith) ];
+          past = λ j l. same j (λ d. omega arith) ∙ r .bits .past j (omega arith);
+        };
       }
 
   pub read-yes : span / 2 ≤ rest → Read s (set values i 2) (rest - span / 2) (span / 2) (i + 1)
   read-yes l =
       let b = s / 2 ^ (48 - suc i) % 2 in
       let t = top-set b (2 ^ (48 - suc i)) (s % 2 ^ (48 - suc i)) (mod-lt (s / 2 ^ (48 - suc i)) (omega arith)) (mod-lt s (pow-pos (48 - suc i))) (omega (arith, span-half, rest-is)) in
-      one-more (set values i 2) (rest - span / 2) (length-set values i 2 ∙ r .size) (omega (arith, t .1, span-half, rest-is))
+      one-more (set values i 2) (rest - span / 2) (length-set values i 2 ∙ r .bits .size) (omega (arith, t .1, span-half, rest-is))
       (λ j d. getD-set-other values i j 2 0 d)
-      (getD-set-same values i 2 0 (omega (arith, r .size)) ∙ ap (λ (x : Bool). valueByte (known x)) (sym (bit-of 1 (t .0))))
+      (getD-set-same values i 2 0 (omega (arith, r .bits .size)) ∙ ap (λ (x : Bool). valueByte (known x)) (sym (bit-of 1 (t .0))))
 
   pub read-no : rest < span / 2 → Read s values rest (span / 2) (i + 1)
   read-no l =
       let b = s / 2 ^ (48 - suc i) % 2 in
       let t = top-clear b (2 ^ (48 - suc i)) (s % 2 ^ (48 - suc i)) (mod-lt (s / 2 ^ (48 - suc i)) (omega arith)) (omega (arith, span-half, rest-is)) in
-      one-more values rest (r .size) (omega (arith, t .1, rest-is)) (λ j d. refl)
-      (r .past i (omega arith) ∙ ap (λ (x : Bool). valueByte (known x)) (sym (bit-of 0 (t .0))))
+      one-more values rest (r .bits .size) (omega (arith, t .1, rest-is)) (λ j d. refl)
+      (r .bits .past i (omega arith) ∙ ap (λ (x : Bool). valueByte (known x)) (sym (bit-of 0 (t .0))))
 
 -- ---- the answers
 
@@ -114,12 +116,50 @@ too-large s n values h = record { is = rw (le-ltb s (2 ^ 48) h); shows = λ e. a
 case-at : (s n i : ℕ) → i < n → cond (ltb i n) (known (bit 48 s i)) Unknown ≡ known (bit 48 s i)
 case-at s n i h = rw (lt-ltb i n h)
 
+case-open : (s k i : ℕ) → k ≤ i → cond (ltb i k) (known (bit 48 s i)) Unknown ≡ Unknown
+case-open s k i h = rw (le-ltb i k h)
+
 pub decoded :
-    (s n : ℕ) (values : List ℕ) (rest span : ℕ) → s < 2 ^ 48 → Read s values rest span n →
+    (s n : ℕ) (values : List ℕ) (rest : ℕ) → s < 2 ^ 48 → BitsOf s values rest n →
     Decodes s n (record { valid = eqb rest 0; values = values })
 unfolding caseOf
-decoded s n values rest span h r =
+decoded s n values rest h r =
     record {
       is = rw (lt-ltb s (2 ^ 48) h) (ap (λ (x : ℕ). eqb x 0) (r .left));
       shows = λ e. shows-tabulate values n _ (λ i l. r .below i l ∙ ap valueByte (sym (case-at s n i l))) (r .past);
     }
+
+-- ---- the facts past the bits are unknown
+
+-- below k the bits of s, from k to i unknown, and no from there on
+pub record Opened (s k : ℕ) (values : List ℕ) (i : ℕ) : Type 0 where
+  pub size : length values ≡ 64
+  pub bits : (j : ℕ) → j < k → getD values j 0 ≡ valueByte (known (bit 48 s j))
+  pub unknown : (j : ℕ) → k ≤ j → j < i → getD values j 0 ≡ 1
+  pub past : (j : ℕ) → i ≤ j → getD values j 0 ≡ 0
+
+pub opened-none : (s k : ℕ) (values : List ℕ) (rest : ℕ) → BitsOf s values rest k → Opened s k values k
+opened-none s k values rest r =
+    record { size = r .size; bits = r .below; unknown = λ j a b. absurd (omega arith); past = r .past }
+
+pub opened-next : (s k : ℕ) (values : List ℕ) (i : ℕ) → k ≤ i → i < 64 → Opened s k values i → Opened s k (set values i 1) (i + 1)
+opened-next s k values i h l o =
+    record {
+      size = length-set values i 1 ∙ o .size;
+      bits = λ j a. getD-set-other values i j 1 0 (λ d. omega arith) ∙ o .bits j a;
+      unknown =
+          λ j a b.
+          elim (ℕ-discrete j i) [
+            | yes d ↦ rw d (getD-set-same values i 1 0 (omega (arith, o .size)))
+            | no d ↦ getD-set-other values i j 1 0 d ∙ o .unknown j a (omega arith)
+          ];
+      past = λ j a. getD-set-other values i j 1 0 (λ d. omega arith) ∙ o .past j (omega arith);
+    }
+
+pub opened-all :
+    (s k n : ℕ) (values : List ℕ) (i : ℕ) → k ≤ n → i ≤ n → n ≤ i → Opened s k values i → Shows values (caseOf 48 n k s)
+unfolding caseOf
+opened-all s k n values i h a b o =
+    shows-tabulate values n _
+    (λ j l. elim (decLt j k) [ yes d ↦ o .bits j d ∙ ap valueByte (sym (case-at s k j d)) | no d ↦ o .unknown j (omega arith) (omega arith) ∙ ap valueByte (sym (case-open s k j (omega arith))) ])
+    (λ j l. o .past j (omega arith))

@@ -10,6 +10,7 @@ pub mod steps;
 
 pub use operation::run;
 pub use state::Decoded;
+pub use state::case_values;
 pub use state::state_values;
 pub use step::Stepped;
 pub use step::step_action;

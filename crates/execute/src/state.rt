@@ -1,32 +1,29 @@
-// The values of the state that a number stands for.
-ghost use Prim.Native.Nat.{_≤_};
-ghost use Rattle.execute.specs.States.{Decodes};
+// The values of the case or the state that a number stands for.
+ghost use Prim.Native.Nat.{_≤_, _<_, _^_};
+ghost use Rattle.model.specs.Limits.{version1};
+ghost use Rattle.model.specs.Case.{caseOf};
+ghost use Rattle.model.specs.Values.{Shows};
+ghost use Rattle.execute.specs.States.{BitsOf, Decodes};
 use model::CaseList;
 use model::Problem;
 use model::Values;
 
-// A number that was read as a state: whether it is one, and its values.
-pub struct Decoded {
-    pub valid: bool,
+// The values that a number's top bits fix, with no past them, and what is left of the number.
+pub struct Bits {
     pub values: Values,
+    pub rest: u64,
 }
 
-// The state numbered `state`, over so many facts: its bits from the top one on; none may be left.
-pub fn state_values(state: u64, facts: usize) -> Decoded
-    requires { ⌜ facts ≤ 48 ⌝ }
-    ensures { λ r. ⌜ Decodes state facts r ⌝ }
+// The first k facts fixed to the bits of `number`, from the top one on.
+fn bits_of(number: u64, k: usize) -> Bits
+    requires { ⌜ (k ≤ 48) × (number < 2 ^ 48) ⌝ }
+    ensures { λ r. ⌜ BitsOf number (r .values) (r .rest) k ⌝ }
 {
     let mut values = [0u8; Problem::SLOTS];
-    let mut rest = state;
+    let mut rest = number;
     let mut span = CaseList::NUMBERS;
     let mut i: usize = 0;
-    if span <= state {
-        return Decoded {
-            valid: false,
-            values,
-        };
-    }
-    while i < facts {
+    while i < k {
         span = span / 2;
         if span <= rest {
             values[i] = 2;
@@ -34,8 +31,45 @@ pub fn state_values(state: u64, facts: usize) -> Decoded
         }
         i = i + 1;
     }
+    Bits { values, rest }
+}
+
+// The values of the case that fixes the first k of so many facts to the top bits of `number`.
+pub fn case_values(number: u64, k: usize, facts: usize) -> Values
+    requires { ⌜ (k ≤ facts) × (facts ≤ 48) × (number < 2 ^ 48) ⌝ }
+    ensures { λ r. ⌜ Shows r (caseOf (version1 .width) facts k number) ⌝ }
+{
+    let bits = bits_of(number, k);
+    let mut values = bits.values;
+    let mut i = k;
+    while i < facts {
+        values[i] = 1;
+        i = i + 1;
+    }
+    values
+}
+
+// A number that was read as a state: whether it is one, and its values.
+pub struct Decoded {
+    pub valid: bool,
+    pub values: Values,
+}
+
+// The state numbered `state`, over so many facts: no bit past them may be set.
+pub fn state_values(state: u64, facts: usize) -> Decoded
+    requires { ⌜ facts ≤ 48 ⌝ }
+    ensures { λ r. ⌜ Decodes state facts r ⌝ }
+{
+    if CaseList::NUMBERS <= state {
+        return Decoded {
+            valid: false,
+            values: Problem::empty_state(),
+        };
+    }
+    let bits = bits_of(state, facts);
+    let values = bits.values;
     Decoded {
-        valid: rest == 0,
+        valid: bits.rest == 0,
         values,
     }
 }

@@ -92,7 +92,7 @@ module _ (T : Task) (n≤w : T .facts ≤ T .width) (c : Case) (values : List �
         shows = next-k (c .number) (set values (c .k) 0) (split-no (T .width) (T .facts) (c .k) (c .number) k<n n≤w block values (omega (arith, k<n, a .size, n≤w, a .fits)) (a .shows));
       }
 
-  second-number : c .number + 2 ^ (T .width - suc (c .k)) ≡ c .number + c .span / 2
+  pub second-number : c .number + 2 ^ (T .width - suc (c .k)) ≡ c .number + c .span / 2
   second-number = omega (arith, half)
 
   pub second-at : CaseAt T (secondPart c) (set (set values (c .k) 0) (c .k) 2)
@@ -116,10 +116,10 @@ at-grant : (g g′ : ℕ) (r : Ending) (w : Walked) → g ≡ g′ → Ended g r
 at-grant g g′ r w e = subst (λ (x : ℕ). Ended x r w) e
 
 module _ (s t actions : List ℕ) (at : Places) (c : Case) (values : List ℕ) (g : ℕ) where
-  task-width : (T : Task) → Stands s t actions (at .initial) (at .goal) (at .steps) T → T .facts ≤ T .width
+  pub task-width : (T : Task) → Stands s t actions (at .initial) (at .goal) (at .steps) T → T .facts ≤ T .width
   task-width T y = omega (arith, y .most, y .width)
 
-  look-is :
+  pub look-is :
       (l : Look) → Looks s t actions (at .initial) (at .goal) (at .steps) values l →
       (T : Task) → Stands s t actions (at .initial) (at .goal) (at .steps) T → CaseAt T c values → lookAt T (c .k) (c .number) ≡ lookIs l
   unfolding lookAt

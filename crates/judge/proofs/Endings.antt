@@ -48,7 +48,7 @@ ended-failing T d k v g z e h = rw (z, e) (failing-walk (T .width) (lookAt T) k 
 
 -- ---- a split
 
-split-walk :
+pub split-walk :
     (w : ℕ) (look : ℕ → ℕ → Look) (d k v : ℕ) → 0 < d →
     walkFrom w look d opened k v ≡
     join (walkFrom w look (d - 1) (look (suc k) v) (suc k) v)

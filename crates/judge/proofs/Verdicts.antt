@@ -52,7 +52,7 @@ pub first-valued : (values : List ℕ) (n : ℕ) → Shows values (firstCase n) 
 first-valued values n h = shows-valued values (firstCase n) h
 
 module _ (s t : List ℕ) (parts : Problem) (steps g n : ℕ) (e : n ≡ parts .facts) (values : List ℕ) (size : length values ≡ 64) (h : Shows values (firstCase n)) where
-  whole-at : (T : Task) → PartsOf s t parts steps T → CaseAt T (wholeCase n) values
+  pub whole-at : (T : Task) → PartsOf s t parts steps T → CaseAt T (wholeCase n) values
   whole-at T p =
       let y = p .stands in
       record {

@@ -97,7 +97,7 @@ chosen F room (wrong s o a) ls e = let z : _≡_ {A = ℕ} 0 1 = cc in absurd (o
 chosen F room (undecided a) ls e = let z : _≡_ {A = ℕ} 0 1 = cc in absurd (omega arith)
 
 -- an answer of a call that writes
-written-answered :
+pub written-answered :
     (F : Limits) (out : List ℕ) (n : ℕ) (x : Answer (List Line)) → written F out x .answer ≡ answered n →
     (ls : List Line) × (x ≡ answered ls) × (n ≡ listBytes F (length ls))
 unfolding written
