@@ -1,0 +1,50 @@
+-- The eight words of each answer of the C interface: "word[0] is the tag. Words that a row below does not name are 0."
+use mathlib.Core.List.{List, [], _∷_}
+use Prim.Native.Nat.{ℕ}
+use Rattle.model.specs.Answer.{Answer, refused, answered}
+use Rattle.model.specs.Run.{Outcome, reached, missed, blocked}
+use Rattle.model.specs.Walk.{Verdict, right, wrong, undecided}
+use Rattle.model.specs.Operations.{Counts}
+
+abbrev words : ℕ → ℕ → ℕ → ℕ → ℕ → List ℕ
+words tag a b c d = tag ∷ a ∷ b ∷ c ∷ d ∷ 0 ∷ 0 ∷ 0 ∷ []
+
+-- any, refused: number, place
+abbrev pub refusalWords : ℕ → ℕ → List ℕ
+refusalWords n q = words 0 n q 0 0
+
+-- read_problem: facts, actions
+abbrev pub problemWords : Answer Counts → List ℕ
+problemWords (refused n q) = refusalWords n q
+problemWords (answered c) = words 1 (c .facts) (c .actions) 0 0
+
+-- read_plan: steps; write_list: length written; follow_list: lines
+abbrev pub countWords : Answer ℕ → List ℕ
+countWords (refused n q) = refusalWords n q
+countWords (answered n) = words 1 n 0 0 0
+
+-- run: reached, missed, or blocked with its step
+abbrev pub endWords : Outcome → List ℕ
+endWords reached = words 1 0 0 0 0
+endWords missed = words 2 0 0 0 0
+endWords (blocked s) = words 3 (s .step) 0 0 0
+
+abbrev pub runWords : Answer Outcome → List ℕ
+runWords (refused n q) = refusalWords n q
+runWords (answered o) = endWords o
+
+-- judge, wrong: visits, state, outcome (run's tag), step
+abbrev pub wrongWords : ℕ → ℕ → Outcome → List ℕ
+wrongWords visits state reached = words 2 visits state 1 0
+wrongWords visits state missed = words 2 visits state 2 0
+wrongWords visits state (blocked s) = words 2 visits state 3 (s .step)
+
+-- judge: right with visits and lines, wrong, undecided with visits
+abbrev pub verdictWords : Verdict ℕ → List ℕ
+verdictWords (right lines visits) = words 1 visits lines 0 0
+verdictWords (wrong state o visits) = wrongWords visits state o
+verdictWords (undecided visits) = words 3 visits 0 0 0
+
+abbrev pub judgeWords : Answer (Verdict ℕ) → List ℕ
+judgeWords (refused n q) = refusalWords n q
+judgeWords (answered v) = verdictWords v

@@ -1,0 +1,122 @@
+// The C interface: each function calls the operation of its name and lays the answer out as eight words.
+ghost use mathlib.Core.Path.{_≡_};
+ghost use mathlib.Core.List.{[], _∷_};
+ghost use Rattle.model.specs.Limits.{version1};
+ghost use Rattle.model.specs.Answers.{outcome as meaning};
+ghost use Rattle.model.specs.Operations.{readProblem, readPlan, runState, judge, writeList, followList};
+ghost use Rattle.larkhammock.specs.Words.{refusalWords, wrongWords, problemWords, countWords, runWords, judgeWords};
+use model::FollowAnswer;
+use model::JudgeAnswer;
+use model::Outcome;
+use model::PlanAnswer;
+use model::ProblemAnswer;
+use model::Refusal;
+use model::RunAnswer;
+use model::WriteAnswer;
+
+// An answer: word 0 is its tag, and words that its row does not name are 0.
+#[repr(C)]
+pub struct Answer {
+    pub word: [u64; 8],
+}
+
+fn row(tag: u64, a: u64, b: u64, c: u64, d: u64) -> Answer
+    ensures { λ r. ⌜ r .word ≡ tag ∷ a ∷ b ∷ c ∷ d ∷ 0 ∷ 0 ∷ 0 ∷ [] ⌝ }
+{
+    Answer {
+        word: [tag, a, b, c, d, 0, 0, 0],
+    }
+}
+
+fn refused(r: Refusal) -> Answer
+    ensures { λ a. ⌜ a .word ≡ refusalWords (r .number) (r .place) ⌝ }
+{
+    row(0, r.number as u64, r.place, 0, 0)
+}
+
+#[no_mangle]
+pub extern "C" fn larkhammock_read_problem(problem: &[u8]) -> Answer
+    ensures { λ r. ⌜ r .word ≡ problemWords (readProblem version1 (now (problem .entry))) ⌝ }
+{
+    match blocks::read_problem(problem) {
+        ProblemAnswer::Refused(r) => refused(r),
+        ProblemAnswer::Accepted { facts, actions } => row(1, facts as u64, actions as u64, 0, 0),
+    }
+}
+
+#[no_mangle]
+pub extern "C" fn larkhammock_read_plan(problem: &[u8], plan: &[u8]) -> Answer
+    ensures { λ r. ⌜ r .word ≡ countWords (readPlan version1 (now (problem .entry)) (now (plan .entry))) ⌝ }
+{
+    match blocks::read_plan(problem, plan) {
+        PlanAnswer::Refused(r) => refused(r),
+        PlanAnswer::Accepted { steps } => row(1, steps as u64, 0, 0, 0),
+    }
+}
+
+#[no_mangle]
+pub extern "C" fn larkhammock_run(problem: &[u8], plan: &[u8], state: u64) -> Answer
+    ensures { λ r. ⌜ r .word ≡ runWords (runState version1 (now (problem .entry)) (now (plan .entry)) state) ⌝ }
+{
+    match execute::run(problem, plan, state) {
+        RunAnswer::Refused(r) => refused(r),
+        RunAnswer::Ended(outcome) => match outcome {
+            Outcome::Reached => row(1, 0, 0, 0, 0),
+            Outcome::Missed => row(2, 0, 0, 0, 0),
+            Outcome::Blocked { step } => row(3, step as u64, 0, 0, 0),
+        },
+    }
+}
+
+// The row of a wrong verdict: visits, state, and the outcome's tag and step.
+fn wrong(visits: u64, state: u64, outcome: Outcome) -> Answer
+    ensures { λ r. ⌜ r .word ≡ wrongWords visits state (meaning outcome) ⌝ }
+{
+    match outcome {
+        Outcome::Reached => row(2, visits, state, 1, 0),
+        Outcome::Missed => row(2, visits, state, 2, 0),
+        Outcome::Blocked { step } => row(2, visits, state, 3, step as u64),
+    }
+}
+
+#[no_mangle]
+pub extern "C" fn larkhammock_judge(problem: &[u8], plan: &[u8], grant: u64) -> Answer
+    ensures { λ r. ⌜ r .word ≡ judgeWords (judge version1 (now (problem .entry)) (now (plan .entry)) grant) ⌝ }
+{
+    match judge::judge(problem, plan, grant) {
+        JudgeAnswer::Refused(r) => refused(r),
+        JudgeAnswer::Right { lines, visits } => row(1, visits, lines, 0, 0),
+        JudgeAnswer::Wrong {
+            state,
+            outcome,
+            visits,
+        } => wrong(visits, state, outcome),
+        JudgeAnswer::Undecided { visits } => row(3, visits, 0, 0, 0),
+    }
+}
+
+#[no_mangle]
+pub extern "C" fn larkhammock_write_list(
+    problem: &[u8],
+    plan: &[u8],
+    grant: u64,
+    out: &mut [u8],
+) -> Answer
+    ensures { λ r. ⌜ r .word ≡ countWords (writeList version1 (now (problem .entry)) (now (plan .entry)) grant (now (out .entry)) .answer) ⌝ }
+    ensures { λ _. ⌜ now (out .exit) ≡ writeList version1 (now (problem .entry)) (now (plan .entry)) grant (now (out .entry)) .buffer ⌝ }
+{
+    match certificate::write_list(problem, plan, grant, out) {
+        WriteAnswer::Refused(r) => refused(r),
+        WriteAnswer::Written { length } => row(1, length as u64, 0, 0, 0),
+    }
+}
+
+#[no_mangle]
+pub extern "C" fn larkhammock_follow_list(problem: &[u8], plan: &[u8], list: &[u8]) -> Answer
+    ensures { λ r. ⌜ r .word ≡ countWords (followList version1 (now (problem .entry)) (now (plan .entry)) (now (list .entry))) ⌝ }
+{
+    match certificate::follow_list(problem, plan, list) {
+        FollowAnswer::Refused(r) => refused(r),
+        FollowAnswer::Passes { lines } => row(1, lines as u64, 0, 0, 0),
+    }
+}

@@ -1,0 +1,65 @@
+//! The oracle's answers as the eight words of the C interface. Words that a
+//! row does not name are 0.
+
+use crate::model::Problem;
+use crate::oracle::{Outcome, Refusal, Verdict};
+
+pub type Answer = [u64; 8];
+
+/// The named words, then zeros.
+pub fn words(named: &[u64]) -> Answer {
+    let mut words = [0; 8];
+    words[..named.len()].copy_from_slice(named);
+    words
+}
+
+fn refused(refusal: &Refusal) -> Answer {
+    words(&[0, refusal.number, refusal.place])
+}
+
+pub fn read_problem(result: &Result<Problem, Refusal>) -> Answer {
+    match result {
+        Err(refusal) => refused(refusal),
+        Ok(problem) => words(&[1, problem.facts.into(), problem.actions.len() as u64]),
+    }
+}
+
+/// Reading a plan, following a list and writing one answer with one number:
+/// steps, lines or length.
+pub fn count(result: &Result<u64, Refusal>) -> Answer {
+    match result {
+        Err(refusal) => refused(refusal),
+        Ok(count) => words(&[1, *count]),
+    }
+}
+
+pub fn run(result: &Result<Outcome, Refusal>) -> Answer {
+    match result {
+        Err(refusal) => refused(refusal),
+        Ok(outcome) => words(&outcome_words(outcome)),
+    }
+}
+
+pub fn judge(result: &Result<Verdict, Refusal>) -> Answer {
+    match result {
+        Err(refusal) => refused(refusal),
+        Ok(Verdict::Right { lines, visits }) => words(&[1, *visits, *lines]),
+        Ok(Verdict::Wrong {
+            state,
+            outcome,
+            visits,
+        }) => {
+            let [tag, step] = outcome_words(outcome);
+            words(&[2, *visits, *state, tag, step])
+        }
+        Ok(Verdict::Undecided { visits }) => words(&[3, *visits]),
+    }
+}
+
+fn outcome_words(outcome: &Outcome) -> [u64; 2] {
+    match outcome {
+        Outcome::Reached => [1, 0],
+        Outcome::Missed => [2, 0],
+        Outcome::Blocked { step } => [3, *step],
+    }
+}

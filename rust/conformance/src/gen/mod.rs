@@ -1,0 +1,136 @@
+//! Problems, plans and lists from a fixed seed: sound, damaged and arbitrary.
+
+mod damage;
+mod formulas;
+mod lists;
+mod problems;
+mod rng;
+
+use crate::encode;
+use crate::harness::Case;
+use crate::model::number;
+use crate::oracle::{walk, End, Task};
+
+use damage::{arbitrary, damaged, scribbled, unsound};
+pub use formulas::formula_of_size;
+pub use lists::{altered, cover, every_cover, refined, Alteration};
+use problems::wide_task;
+pub use problems::{right_task, task};
+pub use rng::Rng;
+
+/// No generated call lets the walk look at more cases than this.
+const PATIENCE: u64 = 1_500;
+
+/// Arguments for all six operations, all of them sound.
+pub fn sound_case(rng: &mut Rng) -> Case {
+    let task = if rng.chance(1, 2) {
+        right_task(rng)
+    } else {
+        task(rng)
+    };
+    case_of(rng, &task)
+}
+
+/// A sound case whose plan is right with so many lines that no block holds
+/// them, or nearly.
+pub fn wide_case(rng: &mut Rng) -> Case {
+    let task = wide_task(rng);
+    let mut case = case_of(rng, &task);
+    settle(rng, &mut case, 40_000);
+    case
+}
+
+/// A case of which one or more blocks are damaged.
+pub fn damaged_case(rng: &mut Rng) -> Case {
+    let mut case = sound_case(rng);
+    match rng.below(8) {
+        0 | 1 => {
+            let mut task = task(rng);
+            unsound(rng, &mut task.problem);
+            case.problem = encode::problem(&task.problem);
+        }
+        2..=4 => case.problem = damaged(rng, &case.problem, 32_768),
+        5 => case.plan = damaged(rng, &case.plan, 261),
+        _ => case.list = damaged(rng, &case.list, 65_533),
+    }
+    if rng.chance(1, 8) {
+        case.plan = damaged(rng, &case.plan, 261);
+    }
+    settle(rng, &mut case, PATIENCE);
+    case
+}
+
+/// A case of which some blocks are arbitrary bytes.
+pub fn arbitrary_case(rng: &mut Rng) -> Case {
+    let mut case = sound_case(rng);
+    match rng.below(4) {
+        0 => case.problem = arbitrary(rng),
+        1 => case.problem = scribbled(rng),
+        2 => case.plan = arbitrary(rng),
+        _ => case.list = arbitrary(rng),
+    }
+    if rng.chance(1, 4) {
+        case.list = arbitrary(rng);
+    }
+    case.state = rng.word();
+    settle(rng, &mut case, PATIENCE);
+    case
+}
+
+/// A sound case for this problem and plan, its list sometimes altered.
+fn case_of(rng: &mut Rng, task: &Task) -> Case {
+    let walk = walk(task, PATIENCE);
+    let mut lines = walk.lines;
+    if rng.chance(1, 2) {
+        lines = refined(rng, task, &lines);
+    }
+    if rng.chance(1, 3) {
+        lines = altered(rng, task, &lines);
+    }
+    let facts = usize::from(task.problem.facts);
+    let values: Vec<bool> = (0..facts).map(|_| rng.chance(1, 2)).collect();
+    // One bit more is refused; often it is past the facts.
+    let stray = if rng.chance(1, 6) {
+        1 << rng.below(64)
+    } else {
+        0
+    };
+    let mut case = Case {
+        problem: encode::problem(&task.problem),
+        plan: encode::plan(&task.plan),
+        list: encode::list(&lines),
+        state: number(&values) | stray,
+        ..Case::default()
+    };
+    settle(rng, &mut case, PATIENCE);
+    case
+}
+
+/// Chooses a grant and a buffer that suit the blocks: near the edges, and never
+/// so large a grant that the walk takes long.
+fn settle(rng: &mut Rng, case: &mut Case, patience: u64) {
+    case.grant = rng.word();
+    case.room = rng.below(64);
+    let Ok(task) = Task::parse(&case.problem, &case.plan) else {
+        return;
+    };
+    let walk = walk(&task, patience);
+    if let End::Spent = walk.end {
+        case.grant = rng.word() % patience;
+        return;
+    }
+    case.grant = match rng.below(8) {
+        0 => walk.visits - 1,
+        1 => walk.visits,
+        2 => rng.word() % walk.visits,
+        3 => walk.visits + rng.word() % 9,
+        _ => u64::MAX - rng.word() % 2,
+    };
+    let exact = 5 + 8 * walk.lines.len();
+    case.room = match rng.below(4) {
+        0 => exact - 1,
+        1 => rng.below(exact),
+        2 => exact,
+        _ => exact + rng.below(40),
+    };
+}

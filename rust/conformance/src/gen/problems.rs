@@ -1,0 +1,184 @@
+//! Sound problems with plans for them.
+
+use std::collections::BTreeSet;
+
+use super::formulas::formula;
+use super::Rng;
+use crate::encode;
+use crate::model::{Action, Effect, Formula, Literal, Problem};
+use crate::oracle::{after, holds, Task};
+
+/// A plan with steps among the actions; empty where there are none.
+pub fn plan(rng: &mut Rng, actions: usize) -> Vec<u8> {
+    let steps = match rng.below(60) {
+        _ if actions == 0 => 0,
+        0 => 256,
+        n if n < 50 => rng.below(5),
+        _ => rng.below(9),
+    };
+    (0..steps).map(|_| rng.below(actions) as u8).collect()
+}
+
+/// Any problem and plan: mostly few facts, sometimes as many as there can be.
+pub fn task(rng: &mut Rng) -> Task {
+    loop {
+        let task = task_of_any_size(rng);
+        if encode::problem(&task.problem).len() <= 32_768 {
+            return task;
+        }
+    }
+}
+
+fn task_of_any_size(rng: &mut Rng) -> Task {
+    let facts = match rng.below(16) {
+        0 => rng.between(9, 48),
+        1 => rng.between(9, 12),
+        _ => rng.between(1, 8),
+    } as u8;
+    let most = if rng.chance(1, 40) { 64 } else { 5 };
+    let actions: Vec<Action> = (0..rng.between(0, most))
+        .map(|_| action(rng, facts))
+        .collect();
+    let plan = plan(rng, actions.len());
+    let problem = Problem {
+        facts,
+        initial: formula(rng, facts),
+        goal: formula(rng, facts),
+        actions,
+    };
+    Task { problem, plan }
+}
+
+fn action(rng: &mut Rng, facts: u8) -> Action {
+    let precondition = if rng.chance(2, 3) {
+        Formula::always()
+    } else {
+        formula(rng, facts)
+    };
+    Action {
+        precondition,
+        effects: effects(rng, facts),
+    }
+}
+
+/// Effects with literals that rise: sets first, then clears.
+fn effects(rng: &mut Rng, facts: u8) -> Vec<Effect> {
+    let likely = rng.pick(&[1, 2, 4]);
+    let most = if rng.chance(1, 40) { 96 } else { 12 };
+    let mut effects = Vec::new();
+    for denied in [false, true] {
+        for fact in 0..facts {
+            if effects.len() < most && rng.chance(likely, 6) {
+                effects.push(Effect {
+                    literal: Literal { fact, denied },
+                    condition: formula(rng, facts),
+                });
+            }
+        }
+    }
+    effects
+}
+
+/// A problem whose plan is right, mostly: what the plan brings about is worked
+/// out first, and preconditions and goal are chosen to be true of it. One in
+/// four is then spoilt in one formula.
+pub fn right_task(rng: &mut Rng) -> Task {
+    let facts = rng.between(1, 8) as u8;
+    let initial = formula(rng, facts);
+    let mut actions: Vec<Action> = (0..rng.between(1, 4))
+        .map(|_| Action {
+            precondition: Formula::always(),
+            effects: effects(rng, facts),
+        })
+        .collect();
+    let plan = plan(rng, actions.len());
+
+    let mut belief: BTreeSet<Vec<bool>> = (0..1u32 << facts)
+        .map(|n| (0..facts).map(|fact| n >> fact & 1 == 1).collect())
+        .filter(|state: &Vec<bool>| holds(&initial, state))
+        .collect();
+    let mut met = vec![BTreeSet::new(); actions.len()];
+    for step in &plan {
+        let step = usize::from(*step);
+        met[step].extend(belief.iter().cloned());
+        belief = belief
+            .iter()
+            .map(|state| after(&actions[step], state))
+            .collect();
+    }
+    for (action, states) in actions.iter_mut().zip(&met) {
+        if rng.chance(1, 2) {
+            action.precondition = formula_true_of(rng, facts, states);
+        }
+    }
+    let goal = formula_true_of(rng, facts, &belief);
+    let mut problem = Problem {
+        facts,
+        initial,
+        goal,
+        actions,
+    };
+    if rng.chance(1, 4) {
+        spoil(rng, &mut problem);
+    }
+    Task { problem, plan }
+}
+
+/// A formula that holds in all these states: a chance find, or one made of them.
+fn formula_true_of(rng: &mut Rng, facts: u8, states: &BTreeSet<Vec<bool>>) -> Formula {
+    for _ in 0..12 {
+        let found = formula(rng, facts);
+        if states.iter().all(|state| holds(&found, state)) && found != Formula::always() {
+            return found;
+        }
+    }
+    if states.len() <= 24 {
+        return Formula::any(states.iter().map(|state| cube(state)));
+    }
+    Formula::all((0..facts).map(Formula::either))
+}
+
+/// True in this state alone.
+fn cube(state: &[bool]) -> Formula {
+    let literals = state.iter().enumerate().map(|(fact, value)| {
+        let denied = !value;
+        let fact = fact as u8;
+        Formula::Literal(Literal { fact, denied })
+    });
+    Formula::all(literals)
+}
+
+fn spoil(rng: &mut Rng, problem: &mut Problem) {
+    let facts = problem.facts;
+    let other = formula(rng, facts);
+    let action = rng.below(problem.actions.len());
+    let action = &mut problem.actions[action];
+    match rng.below(4) {
+        0 => problem.initial = other,
+        1 => action.precondition = other,
+        2 if !action.effects.is_empty() => {
+            let effect = rng.below(action.effects.len());
+            action.effects[effect].condition = other;
+        }
+        _ => problem.goal = other,
+    }
+}
+
+/// A right plan whose walk must fix 12 facts or more in nearly every case.
+pub fn wide_task(rng: &mut Rng) -> Task {
+    let facts = rng.between(12, 14) as u8;
+    let goal = Formula::all((0..facts).map(Formula::either));
+    let initial = match rng.below(3) {
+        0 => Formula::always(),
+        1 => Formula::any((0..facts - 1).map(Formula::fact)),
+        _ => formula(rng, facts),
+    };
+    let problem = Problem {
+        facts,
+        initial,
+        goal,
+        actions: Vec::new(),
+    };
+    let plan = Vec::new();
+    Task { problem, plan }
+}

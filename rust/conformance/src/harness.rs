@@ -1,0 +1,207 @@
+//! Holds a library to the oracle: whole answers, and every byte of the buffer
+//! with guards around it.
+
+use std::fmt;
+use std::ops::Range;
+
+use crate::answer::{self, words, Answer};
+use crate::oracle;
+
+/// What is tested: the six operations, as their eight words.
+pub trait Subject {
+    fn read_problem(&self, problem: &[u8]) -> Answer;
+    fn read_plan(&self, problem: &[u8], plan: &[u8]) -> Answer;
+    fn run(&self, problem: &[u8], plan: &[u8], state: u64) -> Answer;
+    fn judge(&self, problem: &[u8], plan: &[u8], grant: u64) -> Answer;
+    fn write_list(&self, problem: &[u8], plan: &[u8], grant: u64, arena: &mut Arena) -> Answer;
+    fn follow_list(&self, problem: &[u8], plan: &[u8], list: &[u8]) -> Answer;
+}
+
+#[derive(Clone, Copy, Debug, PartialEq, Eq)]
+pub enum Operation {
+    ReadProblem,
+    ReadPlan,
+    Run,
+    Judge,
+    WriteList,
+    FollowList,
+}
+
+impl Operation {
+    pub const ALL: [Operation; 6] = [
+        Operation::ReadProblem,
+        Operation::ReadPlan,
+        Operation::Run,
+        Operation::Judge,
+        Operation::WriteList,
+        Operation::FollowList,
+    ];
+}
+
+/// Arguments for all six operations.
+#[derive(Clone, Default)]
+pub struct Case {
+    pub problem: Vec<u8>,
+    pub plan: Vec<u8>,
+    pub list: Vec<u8>,
+    pub state: u64,
+    pub grant: u64,
+    pub room: usize,
+}
+
+/// The lent buffer with guard bytes on both sides.
+#[derive(Clone, PartialEq, Eq)]
+pub struct Arena {
+    pub bytes: Vec<u8>,
+    pub room: Range<usize>,
+}
+
+impl Arena {
+    pub const GUARD: usize = 64;
+
+    pub fn new(room: usize) -> Arena {
+        let room = Self::GUARD..Self::GUARD + room;
+        // No list holds such bytes in a row, so a stray store shows.
+        let bytes = (0..room.end + Self::GUARD)
+            .map(|i| 0x90 | (i & 15) as u8)
+            .collect();
+        Arena { bytes, room }
+    }
+
+    /// The part that is lent.
+    pub fn out(&mut self) -> &mut [u8] {
+        &mut self.bytes[self.room.clone()]
+    }
+}
+
+/// An answer and what it left in the buffer.
+#[derive(Clone, PartialEq, Eq)]
+pub struct Effect {
+    pub answer: Answer,
+    pub arena: Arena,
+}
+
+/// A call that went otherwise than the oracle says.
+pub struct Difference {
+    operation: Operation,
+    case: Case,
+    expected: Effect,
+    got: Effect,
+}
+
+impl fmt::Debug for Difference {
+    fn fmt(&self, f: &mut fmt::Formatter<'_>) -> fmt::Result {
+        let Difference {
+            operation, case, ..
+        } = self;
+        writeln!(f, "{operation:?}")?;
+        writeln!(f, "  expected {:?}", self.expected.answer)?;
+        writeln!(f, "  got      {:?}", self.got.answer)?;
+        let pairs = self.expected.arena.bytes.iter().zip(&self.got.arena.bytes);
+        if let Some(at) = pairs.enumerate().position(|(_, (e, g))| e != g) {
+            let at = at as isize - Arena::GUARD as isize;
+            writeln!(f, "  buffer differs first at {at}")?;
+        }
+        writeln!(f, "  problem {}", hex(&case.problem))?;
+        writeln!(f, "  plan {}", hex(&case.plan))?;
+        writeln!(f, "  list {}", hex(&case.list))?;
+        let (state, grant, room) = (case.state, case.grant, case.room);
+        write!(f, "  state {state:x} grant {grant} room {room}")
+    }
+}
+
+fn hex(bytes: &[u8]) -> String {
+    bytes.iter().map(|b| format!("{b:02x}")).collect()
+}
+
+/// What the oracle says of one call.
+pub fn expected(operation: Operation, case: &Case) -> Effect {
+    let Case {
+        problem,
+        plan,
+        list,
+        ..
+    } = case;
+    let mut arena = Arena::new(room(operation, case));
+    let answer = match operation {
+        Operation::ReadProblem => answer::read_problem(&oracle::read_problem(problem)),
+        Operation::ReadPlan => answer::count(&oracle::read_plan(problem, plan)),
+        Operation::Run => answer::run(&oracle::run(problem, plan, case.state)),
+        Operation::Judge => answer::judge(&oracle::judge(problem, plan, case.grant)),
+        Operation::FollowList => answer::count(&oracle::follow_list(problem, plan, list)),
+        Operation::WriteList => {
+            let written = oracle::write_list(problem, plan, case.grant, case.room);
+            if let Ok(block) = &written {
+                arena.out()[..block.len()].copy_from_slice(block);
+            }
+            answer::count(&written.map(|block| block.len() as u64))
+        }
+    };
+    Effect { answer, arena }
+}
+
+/// What the subject makes of one call.
+pub fn observed(subject: &dyn Subject, operation: Operation, case: &Case) -> Effect {
+    let Case {
+        problem,
+        plan,
+        list,
+        ..
+    } = case;
+    let mut arena = Arena::new(room(operation, case));
+    let answer = match operation {
+        Operation::ReadProblem => subject.read_problem(problem),
+        Operation::ReadPlan => subject.read_plan(problem, plan),
+        Operation::Run => subject.run(problem, plan, case.state),
+        Operation::Judge => subject.judge(problem, plan, case.grant),
+        Operation::WriteList => subject.write_list(problem, plan, case.grant, &mut arena),
+        Operation::FollowList => subject.follow_list(problem, plan, list),
+    };
+    Effect { answer, arena }
+}
+
+/// Only one operation has a buffer.
+fn room(operation: Operation, case: &Case) -> usize {
+    match operation {
+        Operation::WriteList => case.room,
+        _ => 0,
+    }
+}
+
+/// Compares one call; the answer, if it is as it should be.
+pub fn check(
+    subject: &dyn Subject,
+    operation: Operation,
+    case: &Case,
+) -> Result<Answer, Box<Difference>> {
+    let expected = expected(operation, case);
+    let got = observed(subject, operation, case);
+    if got == expected {
+        return Ok(got.answer);
+    }
+    Err(Box::new(Difference {
+        operation,
+        case: case.clone(),
+        expected,
+        got,
+    }))
+}
+
+/// Compares all six calls; the answers in the order of [`Operation::ALL`].
+pub fn check_all(subject: &dyn Subject, case: &Case) -> Result<Vec<Answer>, Box<Difference>> {
+    Operation::ALL
+        .iter()
+        .map(|operation| check(subject, *operation, case))
+        .collect()
+}
+
+/// Holds the oracle and the subject to an answer that was worked out by hand,
+/// and the buffer to the oracle's.
+#[track_caller]
+pub fn expect(subject: &dyn Subject, operation: Operation, case: &Case, named: &[u64]) {
+    let answer = expected(operation, case).answer;
+    assert_eq!(answer, words(named), "the oracle's {operation:?}");
+    if let Err(difference) = check(subject, operation, case) {
+        panic!("{difference:?}");
+    }
+}

@@ -1,0 +1,14 @@
+//! What the library is held to.
+//!
+//! [`oracle`] answers every operation in the plainest way that document 01
+//! allows: it parses into a tree, enumerates states and keeps every case.
+//! [`gen`] makes problems, plans and lists from fixed seeds, and [`harness`]
+//! compares a library's whole answers and buffers with the oracle's.
+
+pub mod answer;
+pub mod encode;
+pub mod gen;
+pub mod harness;
+pub mod model;
+pub mod oracle;
+pub mod trial;

@@ -1,0 +1,41 @@
+//! Following a list.
+
+use super::{closes, Refusal, Task};
+use crate::model::{number, values, Line};
+
+const END: u64 = 1 << 48;
+
+pub fn follow(task: &Task, lines: &[Line]) -> Result<(), Refusal> {
+    let mut reached = 0;
+    for (place, line) in lines.iter().enumerate() {
+        if let Some(number) = fault(task, line, reached) {
+            return Refusal::at(number, place);
+        }
+        reached = line.value + (END >> line.k);
+    }
+    if reached != END {
+        return Refusal::at(70, lines.len());
+    }
+    Ok(())
+}
+
+/// The first fault of a line that should begin at `start`.
+fn fault(task: &Task, line: &Line, start: u64) -> Option<u64> {
+    if line.kind > 1 {
+        return Some(65);
+    }
+    if line.k > task.problem.facts {
+        return Some(66);
+    }
+    let fixed = values(line.value, line.k);
+    if number(&fixed) != line.value {
+        return Some(67);
+    }
+    if line.value != start {
+        return Some(68);
+    }
+    if closes(task, &fixed) != Some(line.kind) {
+        return Some(69);
+    }
+    None
+}

@@ -1,0 +1,165 @@
+//! The brute-force checker, written from document 01 alone.
+//!
+//! It has no limit on its time or memory other than its callers' good sense:
+//! the walk is as long as the grant lets it be.
+
+mod cases;
+mod follow;
+mod parse;
+mod states;
+
+use crate::encode;
+use crate::model::{number, values, Action, Line, Problem};
+
+pub use cases::{closes, walk, End, Walk};
+pub use states::{after, holds, lowest_failing, outcome};
+
+/// Up to this many facts the judge's verdict comes from every state in turn.
+pub const ENUMERABLE: u8 = 10;
+
+const MOST_LINES: usize = 8_191;
+
+#[derive(Clone, Copy, Debug, PartialEq, Eq)]
+pub struct Refusal {
+    pub number: u64,
+    pub place: u64,
+}
+
+impl Refusal {
+    fn at<T>(number: u64, place: usize) -> Result<T, Refusal> {
+        let place = place as u64;
+        Err(Refusal { number, place })
+    }
+}
+
+#[derive(Clone, Copy, Debug, PartialEq, Eq)]
+pub enum Outcome {
+    Reached,
+    Missed,
+    Blocked { step: u64 },
+}
+
+#[derive(Clone, Copy, Debug, PartialEq, Eq)]
+pub enum Verdict {
+    Right {
+        lines: u64,
+        visits: u64,
+    },
+    Wrong {
+        state: u64,
+        outcome: Outcome,
+        visits: u64,
+    },
+    Undecided {
+        visits: u64,
+    },
+}
+
+/// A problem and a plan for it, both sound.
+#[derive(Clone, Debug)]
+pub struct Task {
+    pub problem: Problem,
+    pub plan: Vec<u8>,
+}
+
+impl Task {
+    pub fn parse(problem: &[u8], plan: &[u8]) -> Result<Task, Refusal> {
+        let problem = parse::problem(problem)?;
+        let plan = parse::plan(plan, &problem)?;
+        Ok(Task { problem, plan })
+    }
+
+    fn steps(&self) -> impl Iterator<Item = &Action> {
+        self.plan
+            .iter()
+            .map(|step| &self.problem.actions[usize::from(*step)])
+    }
+}
+
+pub fn read_problem(problem: &[u8]) -> Result<Problem, Refusal> {
+    parse::problem(problem)
+}
+
+pub fn read_plan(problem: &[u8], plan: &[u8]) -> Result<u64, Refusal> {
+    let task = Task::parse(problem, plan)?;
+    Ok(task.plan.len() as u64)
+}
+
+pub fn run(problem: &[u8], plan: &[u8], state: u64) -> Result<Outcome, Refusal> {
+    let task = Task::parse(problem, plan)?;
+    let start = values(state, task.problem.facts);
+    if number(&start) != state {
+        return Refusal::at(40, 0);
+    }
+    Ok(outcome(&task, &start))
+}
+
+pub fn judge(problem: &[u8], plan: &[u8], grant: u64) -> Result<Verdict, Refusal> {
+    let task = Task::parse(problem, plan)?;
+    Ok(verdict(&task, &walk(&task, grant)))
+}
+
+/// The bytes that go to the front of a buffer with this much room.
+pub fn write_list(
+    problem: &[u8],
+    plan: &[u8],
+    grant: u64,
+    room: usize,
+) -> Result<Vec<u8>, Refusal> {
+    let task = Task::parse(problem, plan)?;
+    let walk = walk(&task, grant);
+    match verdict(&task, &walk) {
+        Verdict::Undecided { visits } => Refusal::at(50, visits as usize),
+        Verdict::Wrong { visits, .. } => Refusal::at(51, visits as usize),
+        Verdict::Right { .. } => {
+            let lines = walk.lines.len();
+            if lines > MOST_LINES {
+                return Refusal::at(52, lines);
+            }
+            let block = encode::list(&walk.lines);
+            if room < block.len() {
+                return Refusal::at(53, lines);
+            }
+            Ok(block)
+        }
+    }
+}
+
+pub fn follow_list(problem: &[u8], plan: &[u8], list: &[u8]) -> Result<u64, Refusal> {
+    let task = Task::parse(problem, plan)?;
+    let lines: Vec<Line> = parse::list(list)?;
+    follow::follow(&task, &lines)?;
+    Ok(lines.len() as u64)
+}
+
+/// The verdict of a walk. Where the states can be enumerated, they decide, and
+/// the walk must agree; it alone knows the visits.
+fn verdict(task: &Task, walk: &Walk) -> Verdict {
+    let visits = walk.visits;
+    let state = match walk.end {
+        End::Spent => return Verdict::Undecided { visits },
+        End::Covered => None,
+        End::Failing(state) => Some(state),
+    };
+    let failing = if task.problem.facts <= ENUMERABLE {
+        lowest_failing(task)
+    } else {
+        state.map(|state| (state, outcome(task, &values(state, task.problem.facts))))
+    };
+    assert_eq!(
+        failing.map(|f| f.0),
+        state,
+        "the walk and the states disagree"
+    );
+    match failing {
+        None => Verdict::Right {
+            lines: walk.lines.len() as u64,
+            visits,
+        },
+        Some((state, outcome)) => Verdict::Wrong {
+            state,
+            outcome,
+            visits,
+        },
+    }
+}

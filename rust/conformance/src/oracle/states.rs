@@ -1,0 +1,62 @@
+//! Two values: one state at a time, and all of them in turn.
+
+use super::{Outcome, Task};
+use crate::model::{number, Action, Formula, Kind};
+
+pub fn holds(formula: &Formula, state: &[bool]) -> bool {
+    match formula {
+        Formula::Literal(l) => state[usize::from(l.fact)] != l.denied,
+        Formula::Group(Kind::All, members) => members.iter().all(|m| holds(m, state)),
+        Formula::Group(Kind::Any, members) => members.iter().any(|m| holds(m, state)),
+    }
+}
+
+/// The state after an action: what is set, and what was true and is not cleared.
+pub fn after(action: &Action, before: &[bool]) -> Vec<bool> {
+    let mut set = vec![false; before.len()];
+    let mut cleared = vec![false; before.len()];
+    for effect in &action.effects {
+        if holds(&effect.condition, before) {
+            let row = if effect.literal.denied {
+                &mut cleared
+            } else {
+                &mut set
+            };
+            row[usize::from(effect.literal.fact)] = true;
+        }
+    }
+    (0..before.len())
+        .map(|f| set[f] || (before[f] && !cleared[f]))
+        .collect()
+}
+
+pub fn outcome(task: &Task, start: &[bool]) -> Outcome {
+    let mut state = start.to_vec();
+    for (step, action) in task.steps().enumerate() {
+        if !holds(&action.precondition, &state) {
+            let step = step as u64;
+            return Outcome::Blocked { step };
+        }
+        state = after(action, &state);
+    }
+    if holds(&task.problem.goal, &state) {
+        Outcome::Reached
+    } else {
+        Outcome::Missed
+    }
+}
+
+/// The lowest start state that does not reach the goal, by trying every state.
+pub fn lowest_failing(task: &Task) -> Option<(u64, Outcome)> {
+    let facts = u32::from(task.problem.facts);
+    (0..1u64 << facts).find_map(|n| {
+        let state: Vec<bool> = (0..facts).rev().map(|bit| n >> bit & 1 == 1).collect();
+        if !holds(&task.problem.initial, &state) {
+            return None;
+        }
+        match outcome(task, &state) {
+            Outcome::Reached => None,
+            other => Some((number(&state), other)),
+        }
+    })
+}

@@ -1,0 +1,38 @@
+//! Problem P of document 01, by its bytes.
+
+use crate::encode;
+use crate::harness::Case;
+
+/// The bytes of hex digits, with any spaces between.
+pub fn hex(digits: &str) -> Vec<u8> {
+    let digits: Vec<u8> = digits
+        .chars()
+        .filter_map(|c| c.to_digit(16))
+        .map(|d| d as u8)
+        .collect();
+    digits
+        .chunks(2)
+        .map(|pair| pair[0] << 4 | pair[1])
+        .collect()
+}
+
+pub fn problem() -> Vec<u8> {
+    hex("01 00000020 03 02 0007 80 02 81 02 00 01 42 0001 02
+         0002 80 00 01 02 0001 00 0002 80 00 01 02 0001 01")
+}
+
+/// The list of P's plan 0, 1.
+pub fn list() -> Vec<u8> {
+    hex("01 00000018 00 02 000000000000 01 02 400000000000 01 01 800000000000")
+}
+
+/// P with this plan, all the grant there is and room for any list.
+pub fn with_plan(steps: &[u8]) -> Case {
+    Case {
+        problem: problem(),
+        plan: encode::plan(steps),
+        grant: u64::MAX,
+        room: 65_533,
+        ..Case::default()
+    }
+}

@@ -1,0 +1,348 @@
+//! The tests tested: a library with one fault does not get past the harness.
+
+mod support;
+
+use conformance::answer::{words, Answer};
+use conformance::encode;
+use conformance::gen::{damaged_case, sound_case, Rng};
+use conformance::harness::{check, expected, Arena, Case, Operation, Subject};
+use conformance::model::{number, values, Formula};
+use conformance::oracle::{self, holds};
+use conformance::trial;
+use support::Library;
+
+/// The library with one word of one operation's answer changed.
+struct Tampered {
+    operation: Operation,
+    word: usize,
+    bit: u32,
+}
+
+impl Tampered {
+    fn tamper(&self, operation: Operation, mut answer: Answer) -> Answer {
+        if operation == self.operation {
+            answer[self.word] ^= 1 << self.bit;
+        }
+        answer
+    }
+}
+
+impl Subject for Tampered {
+    fn read_problem(&self, problem: &[u8]) -> Answer {
+        self.tamper(Operation::ReadProblem, Library.read_problem(problem))
+    }
+
+    fn read_plan(&self, problem: &[u8], plan: &[u8]) -> Answer {
+        self.tamper(Operation::ReadPlan, Library.read_plan(problem, plan))
+    }
+
+    fn run(&self, problem: &[u8], plan: &[u8], state: u64) -> Answer {
+        self.tamper(Operation::Run, Library.run(problem, plan, state))
+    }
+
+    fn judge(&self, problem: &[u8], plan: &[u8], grant: u64) -> Answer {
+        self.tamper(Operation::Judge, Library.judge(problem, plan, grant))
+    }
+
+    fn write_list(&self, problem: &[u8], plan: &[u8], grant: u64, arena: &mut Arena) -> Answer {
+        let answer = Library.write_list(problem, plan, grant, arena);
+        self.tamper(Operation::WriteList, answer)
+    }
+
+    fn follow_list(&self, problem: &[u8], plan: &[u8], list: &[u8]) -> Answer {
+        self.tamper(
+            Operation::FollowList,
+            Library.follow_list(problem, plan, list),
+        )
+    }
+}
+
+#[test]
+fn each_word_of_each_answer_is_compared() {
+    let mut rng = Rng::new(0x307d);
+    for round in 0..60 {
+        let case = if round % 2 == 0 {
+            sound_case(&mut rng)
+        } else {
+            damaged_case(&mut rng)
+        };
+        for operation in Operation::ALL {
+            check(&Library, operation, &case).expect("the library is as it should be");
+            for word in 0..8 {
+                let bit = rng.below(64) as u32;
+                let tampered = Tampered {
+                    operation,
+                    word,
+                    bit,
+                };
+                let found = check(&tampered, operation, &case);
+                assert!(found.is_err(), "{operation:?}, word {word}, bit {bit}");
+            }
+        }
+    }
+}
+
+/// The oracle itself, to be made worse on purpose.
+pub struct Oracle;
+
+impl Subject for Oracle {
+    fn read_problem(&self, problem: &[u8]) -> Answer {
+        ask(Operation::ReadProblem, problem, &[], |_| {}).0
+    }
+
+    fn read_plan(&self, problem: &[u8], plan: &[u8]) -> Answer {
+        ask(Operation::ReadPlan, problem, plan, |_| {}).0
+    }
+
+    fn run(&self, problem: &[u8], plan: &[u8], state: u64) -> Answer {
+        ask(Operation::Run, problem, plan, |case| case.state = state).0
+    }
+
+    fn judge(&self, problem: &[u8], plan: &[u8], grant: u64) -> Answer {
+        ask(Operation::Judge, problem, plan, |case| case.grant = grant).0
+    }
+
+    fn write_list(&self, problem: &[u8], plan: &[u8], grant: u64, arena: &mut Arena) -> Answer {
+        let room = arena.out().len();
+        let (answer, left) = ask(Operation::WriteList, problem, plan, |case| {
+            case.grant = grant;
+            case.room = room;
+        });
+        *arena = left;
+        answer
+    }
+
+    fn follow_list(&self, problem: &[u8], plan: &[u8], list: &[u8]) -> Answer {
+        ask(Operation::FollowList, problem, plan, |case| {
+            case.list = list.to_vec()
+        })
+        .0
+    }
+}
+
+fn ask(
+    operation: Operation,
+    problem: &[u8],
+    plan: &[u8],
+    fill: impl Fn(&mut Case),
+) -> (Answer, Arena) {
+    let mut case = Case {
+        problem: problem.to_vec(),
+        plan: plan.to_vec(),
+        ..Case::default()
+    };
+    fill(&mut case);
+    let effect = expected(operation, &case);
+    (effect.answer, effect.arena)
+}
+
+/// The oracle with one wrong idea.
+#[derive(Clone, Copy, Debug)]
+enum Fault {
+    /// Changes one byte of the buffer or its guards, from the first guard on.
+    StrayByte(usize),
+    NoProblemIsSound,
+    NoPlanIsSound,
+    RunIsNeverMissed,
+    GoalReadAtTheStart,
+    OnlyStep0IsObeyed,
+    EffectsStoredOneByOne,
+    ClearWinsOverSet,
+    AllPlansWrong,
+    AlwaysTheSameState,
+    VisitsMadeUp,
+    FailingStateNeedNotBeAStart,
+    FirstCompletionDecides,
+    GrantMustExceedVisits,
+    NothingIsWritten,
+    WrittenPastTheLength,
+    NoListPasses,
+    EveryListPasses,
+    OnlyLine0IsTested,
+    EndIsNotTested,
+    EmptyCarriesToo,
+}
+
+const WRONG_IDEAS: [Fault; 20] = [
+    Fault::NoProblemIsSound,
+    Fault::NoPlanIsSound,
+    Fault::RunIsNeverMissed,
+    Fault::GoalReadAtTheStart,
+    Fault::OnlyStep0IsObeyed,
+    Fault::EffectsStoredOneByOne,
+    Fault::ClearWinsOverSet,
+    Fault::AllPlansWrong,
+    Fault::AlwaysTheSameState,
+    Fault::VisitsMadeUp,
+    Fault::FailingStateNeedNotBeAStart,
+    Fault::FirstCompletionDecides,
+    Fault::GrantMustExceedVisits,
+    Fault::NothingIsWritten,
+    Fault::WrittenPastTheLength,
+    Fault::NoListPasses,
+    Fault::EveryListPasses,
+    Fault::OnlyLine0IsTested,
+    Fault::EndIsNotTested,
+    Fault::EmptyCarriesToo,
+];
+
+impl Subject for Fault {
+    fn read_problem(&self, problem: &[u8]) -> Answer {
+        match (self, Oracle.read_problem(problem)) {
+            (Fault::NoProblemIsSound, [1, ..]) => words(&[0, 12, 0]),
+            (_, answer) => answer,
+        }
+    }
+
+    fn read_plan(&self, problem: &[u8], plan: &[u8]) -> Answer {
+        match (self, Oracle.read_plan(problem, plan)) {
+            (Fault::NoPlanIsSound, [1, ..]) => words(&[0, 32, 0]),
+            (_, answer) => answer,
+        }
+    }
+
+    fn run(&self, problem: &[u8], plan: &[u8], state: u64) -> Answer {
+        let answer = Oracle.run(problem, plan, state);
+        let reached = |yes| words(&[if yes { 1 } else { 2 }]);
+        match (self, answer[0]) {
+            (_, 0) => answer,
+            (Fault::RunIsNeverMissed, 2) => words(&[1]),
+            (Fault::GoalReadAtTheStart, 1 | 2) => {
+                let problem = oracle::read_problem(problem).expect("it is sound");
+                reached(holds(&problem.goal, &values(state, problem.facts)))
+            }
+            (Fault::OnlyStep0IsObeyed, _) if plan.len() > 5 => {
+                Oracle.run(problem, &encode::plan(&plan[5..6]), state)
+            }
+            (Fault::EffectsStoredOneByOne | Fault::ClearWinsOverSet, 1 | 2) => {
+                let problem = oracle::read_problem(problem).expect("it is sound");
+                let mut now = values(state, problem.facts);
+                for step in &plan[5..] {
+                    let before = now.clone();
+                    // Later entries win here, and the clears come last.
+                    for effect in &problem.actions[usize::from(*step)].effects {
+                        let one_by_one = matches!(self, Fault::EffectsStoredOneByOne);
+                        let read = if one_by_one { &now } else { &before };
+                        if holds(&effect.condition, read) {
+                            now[usize::from(effect.literal.fact)] = !effect.literal.denied;
+                        }
+                    }
+                }
+                reached(holds(&problem.goal, &now))
+            }
+            _ => answer,
+        }
+    }
+
+    fn judge(&self, problem: &[u8], plan: &[u8], grant: u64) -> Answer {
+        let answer = Oracle.judge(problem, plan, grant);
+        match (self, answer) {
+            (Fault::AllPlansWrong, [1, visits, ..]) => words(&[2, visits, 0, 2]),
+            (Fault::AlwaysTheSameState, [2, visits, _, outcome, step, ..]) => {
+                words(&[2, visits, 1 << 47, outcome, step])
+            }
+            (Fault::VisitsMadeUp, [1, visits, lines, ..]) => words(&[1, visits + lines - 1, lines]),
+            (Fault::FailingStateNeedNotBeAStart, [2, ..]) => {
+                let mut anywhere = oracle::read_problem(problem).expect("it is sound");
+                anywhere.initial = Formula::always();
+                let other = Oracle.judge(&encode::problem(&anywhere), plan, grant);
+                words(&[2, answer[1], other[2], other[3], other[4]])
+            }
+            (Fault::FirstCompletionDecides, [2, _, state, ..]) if state != 0 => words(&[1, 1, 1]),
+            (Fault::GrantMustExceedVisits, [1 | 2, visits, ..]) if visits == grant => {
+                words(&[3, grant])
+            }
+            _ => answer,
+        }
+    }
+
+    fn write_list(&self, problem: &[u8], plan: &[u8], grant: u64, arena: &mut Arena) -> Answer {
+        let before = arena.clone();
+        let answer = Oracle.write_list(problem, plan, grant, arena);
+        match (self, answer) {
+            (Fault::StrayByte(at), _) => arena.bytes[*at] ^= 1,
+            (Fault::NothingIsWritten, _) => *arena = before,
+            (Fault::WrittenPastTheLength, [1, length, ..]) => {
+                if let Some(past) = arena.out().get_mut(length as usize) {
+                    *past = 0;
+                }
+            }
+            _ => {}
+        }
+        answer
+    }
+
+    fn follow_list(&self, problem: &[u8], plan: &[u8], list: &[u8]) -> Answer {
+        let answer = Oracle.follow_list(problem, plan, list);
+        let passes = words(&[1, list.len() as u64 / 8]);
+        match (self, answer) {
+            (Fault::NoListPasses, [1, ..]) => words(&[0, 69, 0]),
+            (Fault::EveryListPasses, [0, 65..=70, ..]) => passes,
+            (Fault::OnlyLine0IsTested, [0, 65..=70, place, ..]) if place > 0 => passes,
+            (Fault::EndIsNotTested, [0, 70, ..]) => passes,
+            (Fault::EmptyCarriesToo, [0, 69, line, ..]) => {
+                // The line claims that it carries, and is empty.
+                let mut empty = list.to_vec();
+                let kind = std::mem::take(&mut empty[5 + 8 * line as usize]);
+                match Oracle.follow_list(problem, plan, &empty) {
+                    [0, 69, again, ..] if again == line => answer,
+                    _ if kind == 1 => passes,
+                    _ => answer,
+                }
+            }
+            _ => answer,
+        }
+    }
+}
+
+#[test]
+fn each_wrong_idea_is_found_out() {
+    for fault in WRONG_IDEAS {
+        let mut rng = Rng::new(0xfa17);
+        let found = (0..2_000).any(|_| {
+            let case = sound_case(&mut rng);
+            let wrong = |operation: &Operation| check(&fault, *operation, &case).is_err();
+            Operation::ALL.iter().any(wrong)
+        });
+        assert!(found, "{fault:?} gets past 2,000 cases");
+    }
+}
+
+#[test]
+fn each_byte_of_the_buffer_and_its_guards_is_compared() {
+    // A list that fits with bytes to spare, one that does not, a wrong plan.
+    for (room, steps) in [(40, &[0, 1][..]), (28, &[0, 1]), (40, &[0])] {
+        let case = Case {
+            room,
+            ..trial::with_plan(steps)
+        };
+        let arena = expected(Operation::WriteList, &case).arena;
+        assert_eq!(arena.bytes.len(), room + 2 * Arena::GUARD);
+        for at in 0..arena.bytes.len() {
+            let found = check(&Fault::StrayByte(at), Operation::WriteList, &case);
+            assert!(found.is_err(), "byte {at} of {room} and guards");
+        }
+    }
+}
+
+/// The oracle made into a subject is itself: so it is each fault alone that is
+/// found out above.
+#[test]
+fn the_oracle_without_a_fault_is_not_found_out() {
+    let mut rng = Rng::new(0xfa17);
+    for _ in 0..500 {
+        let case = sound_case(&mut rng);
+        for operation in Operation::ALL {
+            check(&Oracle, operation, &case).expect("the same twice");
+        }
+    }
+    let list = trial::list();
+    let state = number(&[false, true, true]);
+    let case = Case {
+        list,
+        state,
+        ..trial::with_plan(&[0, 1])
+    };
+    let answers = Operation::ALL.map(|operation| expected(operation, &case).answer[0]);
+    assert_eq!(answers, [1; 6]);
+}

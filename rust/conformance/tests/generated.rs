@@ -1,0 +1,173 @@
+//! Tens of thousands of calls of every operation, from fixed seeds.
+
+mod support;
+
+use std::collections::BTreeSet;
+
+use conformance::gen::{arbitrary_case, damaged_case, sound_case, wide_case, Rng};
+use conformance::harness::{check_all, Case, Operation};
+use conformance::oracle;
+use support::Library;
+
+type Maker = fn(&mut Rng) -> Case;
+
+const SWEEPS: [(u64, usize, Maker); 4] = [
+    (0x1a51, 20_000, sound_case),
+    (0x1a52, 40_000, damaged_case),
+    (0x1a53, 20_000, arbitrary_case),
+    (0x1a54, 12, wide_case),
+];
+
+/// Every number that a call can be refused with.
+fn every_refusal() -> BTreeSet<u64> {
+    let ranges = [10..=25, 30..=34, 40..=40, 50..=53, 60..=70];
+    ranges.into_iter().flatten().collect()
+}
+
+#[test]
+fn every_operation_answers_as_the_oracle_and_every_refusal_is_met() {
+    let mut refusals = BTreeSet::new();
+    let mut tags = BTreeSet::new();
+    for (seed, count, make) in SWEEPS {
+        let mut rng = Rng::new(seed);
+        for round in 0..count {
+            let case = make(&mut rng);
+            let answers = match check_all(&Library, &case) {
+                Ok(answers) => answers,
+                Err(difference) => panic!("seed {seed:x}, round {round}: {difference:?}"),
+            };
+            for (operation, answer) in Operation::ALL.into_iter().zip(answers) {
+                match answer {
+                    [0, number, ..] => {
+                        refusals.insert(number);
+                    }
+                    // A wrong plan's outcome is part of what is met.
+                    [2, _, _, outcome, ..] => {
+                        tags.insert((operation as u8, 2, outcome));
+                    }
+                    [tag, ..] => {
+                        tags.insert((operation as u8, tag, 0));
+                    }
+                }
+            }
+        }
+    }
+    assert_eq!(refusals, every_refusal());
+    let (run, judge) = (Operation::Run as u8, Operation::Judge as u8);
+    let every_tag = [
+        (Operation::ReadProblem as u8, 1, 0),
+        (Operation::ReadPlan as u8, 1, 0),
+        (run, 1, 0),
+        (run, 2, 0),
+        (run, 3, 0),
+        (judge, 1, 0),
+        (judge, 2, 2),
+        (judge, 2, 3),
+        (judge, 3, 0),
+        (Operation::WriteList as u8, 1, 0),
+        (Operation::FollowList as u8, 1, 0),
+    ];
+    assert_eq!(tags, every_tag.into());
+}
+
+fn refusal(refusal: oracle::Refusal) -> larkhammock::Refusal {
+    larkhammock::Refusal {
+        number: refusal.number,
+        place: refusal.place,
+    }
+}
+
+fn outcome(outcome: oracle::Outcome) -> larkhammock::Outcome {
+    match outcome {
+        oracle::Outcome::Reached => larkhammock::Outcome::Reached,
+        oracle::Outcome::Missed => larkhammock::Outcome::Missed,
+        oracle::Outcome::Blocked { step } => larkhammock::Outcome::Blocked { step },
+    }
+}
+
+fn verdict(verdict: oracle::Verdict) -> larkhammock::Verdict {
+    match verdict {
+        oracle::Verdict::Right { lines, visits } => larkhammock::Verdict::Right { lines, visits },
+        oracle::Verdict::Wrong {
+            state,
+            outcome: ended,
+            visits,
+        } => larkhammock::Verdict::Wrong {
+            state,
+            outcome: outcome(ended),
+            visits,
+        },
+        oracle::Verdict::Undecided { visits } => larkhammock::Verdict::Undecided { visits },
+    }
+}
+
+/// The named types of the safe crate say the same as the oracle's.
+#[test]
+fn the_safe_crate_says_the_same() {
+    let mut rng = Rng::new(0x5afe);
+    for round in 0..4_000 {
+        let case = if round % 2 == 0 {
+            sound_case(&mut rng)
+        } else {
+            damaged_case(&mut rng)
+        };
+        let Case {
+            problem,
+            plan,
+            list,
+            state,
+            grant,
+            room,
+        } = &case;
+        assert_eq!(
+            larkhammock::read_problem(problem),
+            oracle::read_problem(problem)
+                .map(|problem| larkhammock::Counts {
+                    facts: problem.facts.into(),
+                    actions: problem.actions.len() as u64,
+                })
+                .map_err(refusal)
+        );
+        assert_eq!(
+            larkhammock::read_plan(problem, plan),
+            oracle::read_plan(problem, plan).map_err(refusal)
+        );
+        assert_eq!(
+            larkhammock::run(problem, plan, *state),
+            oracle::run(problem, plan, *state)
+                .map(outcome)
+                .map_err(refusal)
+        );
+        assert_eq!(
+            larkhammock::judge(problem, plan, *grant),
+            oracle::judge(problem, plan, *grant)
+                .map(verdict)
+                .map_err(refusal)
+        );
+        assert_eq!(
+            larkhammock::write_list(problem, plan, *grant, &mut vec![0; *room]),
+            oracle::write_list(problem, plan, *grant, *room)
+                .map(|block| block.len())
+                .map_err(refusal)
+        );
+        assert_eq!(
+            larkhammock::follow_list(problem, plan, list),
+            oracle::follow_list(problem, plan, list).map_err(refusal)
+        );
+    }
+}
+
+/// Every number has words of its own.
+#[test]
+fn every_refusal_has_its_meaning() {
+    let meanings: BTreeSet<&str> = every_refusal()
+        .into_iter()
+        .map(|number| larkhammock::Refusal { number, place: 0 }.meaning())
+        .collect();
+    assert_eq!(meanings.len(), every_refusal().len());
+    let unknown = larkhammock::Refusal {
+        number: 99,
+        place: 0,
+    };
+    assert!(!meanings.contains(unknown.meaning()));
+}

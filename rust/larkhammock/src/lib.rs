@@ -1,0 +1,234 @@
+//! A checker for conformant plans.
+//!
+//! A **problem** has facts, actions, an initial formula and a goal formula. A
+//! **plan** is a row of actions that must reach the goal from every state in
+//! which the initial formula is true, whichever of them it is. This crate says
+//! whether it does: it [judges](judge) a plan, names a counterexample where
+//! there is one, [writes](write_list) a certificate for a right plan, and
+//! [follows](follow_list) a certificate that anyone has written.
+//!
+//! Problems, plans and lists are blocks of bytes. Any bytes may be handed in:
+//! what is not sound is turned down with a [`Refusal`].
+//!
+//! ```
+//! use larkhammock::{example, judge, Outcome, Verdict};
+//!
+//! // Both actions in turn reach the goal, whichever fact was true.
+//! let verdict = judge(example::PROBLEM, example::PLAN, u64::MAX)?;
+//! assert_eq!(verdict, Verdict::Right { lines: 3, visits: 5 });
+//!
+//! // Action 0 alone does not, if fact 1 was the true one.
+//! let short = [1, 0, 0, 0, 1, 0];
+//! let verdict = judge(example::PROBLEM, &short, u64::MAX)?;
+//! let state = 0b010 << 45;
+//! let outcome = Outcome::Missed;
+//! assert_eq!(verdict, Verdict::Wrong { state, outcome, visits: 5 });
+//! # Ok::<(), larkhammock::Refusal>(())
+//! ```
+//!
+//! # Panics
+//!
+//! A function panics only if the library's answer is none that its interface
+//! names.
+
+#![warn(missing_docs)]
+
+pub mod example;
+mod lines;
+pub mod raw;
+mod refusal;
+
+pub use lines::{Line, Lines};
+pub use refusal::Refusal;
+
+/// The length of the longest list block, in bytes: a buffer of this length
+/// holds what [`write_list`] writes for any plan.
+pub const LONGEST_LIST: usize = 65_533;
+
+/// What a problem declares.
+#[derive(Clone, Copy, Debug, PartialEq, Eq, Hash)]
+pub struct Counts {
+    /// The number of facts, 1 to 48.
+    pub facts: u64,
+    /// The number of actions, 0 to 64.
+    pub actions: u64,
+}
+
+/// How a run from one state ends.
+#[derive(Clone, Copy, Debug, PartialEq, Eq, Hash)]
+pub enum Outcome {
+    /// Every step was applicable and the goal is true at the end.
+    Reached,
+    /// Every step was applicable and the goal is not true at the end.
+    Missed,
+    /// A step's precondition was not true.
+    Blocked {
+        /// The first such step, from 0.
+        step: u64,
+    },
+}
+
+/// What the judge says of a plan.
+#[derive(Clone, Copy, Debug, PartialEq, Eq, Hash)]
+pub enum Verdict {
+    /// The run of every start state is reached.
+    Right {
+        /// The lines of the certificate.
+        lines: u64,
+        /// The cases looked at: twice the lines less one.
+        visits: u64,
+    },
+    /// There is a counterexample.
+    Wrong {
+        /// The lowest start state whose run is not reached.
+        state: u64,
+        /// How its run ends.
+        outcome: Outcome,
+        /// The cases looked at.
+        visits: u64,
+    },
+    /// The grant was too small to know.
+    Undecided {
+        /// The cases looked at: the whole grant.
+        visits: u64,
+    },
+}
+
+/// Reads a problem.
+///
+/// ```
+/// use larkhammock::{example, read_problem, Counts};
+///
+/// assert_eq!(read_problem(example::PROBLEM), Ok(Counts { facts: 3, actions: 2 }));
+/// ```
+pub fn read_problem(problem: &[u8]) -> Result<Counts, Refusal> {
+    let word = accepted(raw::read_problem(problem))?;
+    Ok(Counts {
+        facts: word[1],
+        actions: word[2],
+    })
+}
+
+/// Reads a plan for a problem: the number of its steps.
+///
+/// ```
+/// use larkhammock::{example, read_plan};
+///
+/// assert_eq!(read_plan(example::PROBLEM, example::PLAN), Ok(2));
+///
+/// let refusal = read_plan(example::PROBLEM, &[1, 0, 0, 0, 1, 2]).unwrap_err();
+/// assert_eq!(refusal.to_string(), "refused 34 at 5: the step names no action");
+/// ```
+pub fn read_plan(problem: &[u8], plan: &[u8]) -> Result<u64, Refusal> {
+    let word = accepted(raw::read_plan(problem, plan))?;
+    Ok(word[1])
+}
+
+/// Runs a plan from one state, which need not be a start state. Fact 0 is bit
+/// 47 of the state, fact 1 bit 46, and so on.
+///
+/// ```
+/// use larkhammock::{example, run, Outcome};
+///
+/// assert_eq!(run(example::PROBLEM, example::PLAN, 0b011 << 45), Ok(Outcome::Reached));
+/// assert_eq!(run(example::PROBLEM, example::PLAN, 0), Ok(Outcome::Missed));
+/// ```
+pub fn run(problem: &[u8], plan: &[u8], state: u64) -> Result<Outcome, Refusal> {
+    let word = decided(raw::run(problem, plan, state))?;
+    Ok(outcome(&word, word[0], word[1]))
+}
+
+/// Judges a plan, looking at no more cases than granted.
+///
+/// ```
+/// use larkhammock::{example, judge, Verdict};
+///
+/// let verdict = judge(example::PROBLEM, example::PLAN, 4);
+/// assert_eq!(verdict, Ok(Verdict::Undecided { visits: 4 }));
+/// ```
+pub fn judge(problem: &[u8], plan: &[u8], grant: u64) -> Result<Verdict, Refusal> {
+    let word = decided(raw::judge(problem, plan, grant))?;
+    let visits = word[1];
+    Ok(match word[0] {
+        1 => Verdict::Right {
+            lines: word[2],
+            visits,
+        },
+        2 => Verdict::Wrong {
+            state: word[2],
+            outcome: outcome(&word, word[3], word[4]),
+            visits,
+        },
+        3 => Verdict::Undecided { visits },
+        _ => broken(&word),
+    })
+}
+
+/// Writes the certificate of a right plan to the front of `out` and returns its
+/// length. The rest of `out` keeps its bytes, and so does all of it where the
+/// call is refused.
+///
+/// ```
+/// use larkhammock::{example, write_list, LONGEST_LIST};
+///
+/// let mut out = vec![0; LONGEST_LIST];
+/// let length = write_list(example::PROBLEM, example::PLAN, u64::MAX, &mut out)?;
+/// assert_eq!(&out[..length], example::LIST);
+/// # Ok::<(), larkhammock::Refusal>(())
+/// ```
+pub fn write_list(
+    problem: &[u8],
+    plan: &[u8],
+    grant: u64,
+    out: &mut [u8],
+) -> Result<usize, Refusal> {
+    let word = accepted(raw::write_list(problem, plan, grant, out))?;
+    Ok(usize::try_from(word[1]).unwrap_or_else(|_| broken(&word)))
+}
+
+/// Follows a certificate, whoever wrote it, and returns the number of its
+/// lines. It passes only if the plan is right.
+///
+/// ```
+/// use larkhammock::{example, follow_list};
+///
+/// assert_eq!(follow_list(example::PROBLEM, example::PLAN, example::LIST), Ok(3));
+///
+/// let idle = [1, 0, 0, 0, 0];
+/// let refusal = follow_list(example::PROBLEM, &idle, example::LIST).unwrap_err();
+/// assert_eq!(refusal.to_string(), "refused 69 at 1: the line's claim is not so");
+/// ```
+pub fn follow_list(problem: &[u8], plan: &[u8], list: &[u8]) -> Result<u64, Refusal> {
+    let word = accepted(raw::follow_list(problem, plan, list))?;
+    Ok(word[1])
+}
+
+/// The words of an answer that is no refusal.
+fn decided(answer: raw::Answer) -> Result<[u64; 8], Refusal> {
+    match answer.word {
+        [0, number, place, ..] => Err(Refusal { number, place }),
+        word => Ok(word),
+    }
+}
+
+/// The words of an answer whose one tag other than refused is 1.
+fn accepted(answer: raw::Answer) -> Result<[u64; 8], Refusal> {
+    let word = decided(answer)?;
+    match word[0] {
+        1 => Ok(word),
+        _ => broken(&word),
+    }
+}
+
+fn outcome(word: &[u64; 8], tag: u64, step: u64) -> Outcome {
+    match tag {
+        1 => Outcome::Reached,
+        2 => Outcome::Missed,
+        3 => Outcome::Blocked { step },
+        _ => broken(word),
+    }
+}
+
+fn broken(word: &[u64; 8]) -> ! {
+    panic!("the library's answer is none that its interface names: {word:?}")
+}
