@@ -16,7 +16,8 @@ const ALL: u8 = 0x80;
 
 const ANY: u8 = 0x81;
 
-fn wide(b: u8) -> usize
+// A byte as a number that may index or count.
+pub fn wide(b: u8) -> usize
     ensures { λ r. ⌜ (r ≡ b) × (r < 256) ⌝ }
 {
     b as usize

@@ -3,7 +3,7 @@ use Rattle.execute.proofs.step.apply_effects.Tie as tie
 use Rattle.execute.proofs.step.apply_effects.Reads as reads
 use Rattle.execute.proofs.step.apply_effects.Lts as lts
 use Rattle.execute.proofs.step.after_one.Reads as after-one-reads
-use Rattle.execute.proofs.wide.Reads as wide-reads
+use Rattle.formula.proofs.wide.Reads as wide-reads
 use Rattle.formula.proofs.eval_formula.Reads as eval-formula-reads
 use borrow.Author.Needs.{needs}
 use native.Mathlib.Omega.{arith}

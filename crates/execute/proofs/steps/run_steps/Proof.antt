@@ -3,7 +3,7 @@ use Rattle.execute.proofs.steps.run_steps.Tie as tie
 use Rattle.execute.proofs.steps.run_steps.Reads as reads
 use Rattle.execute.proofs.steps.run_steps.Lts as lts
 use Rattle.execute.proofs.step.step_action.Reads as step-action-reads
-use Rattle.execute.proofs.wide.Reads as wide-reads
+use Rattle.formula.proofs.wide.Reads as wide-reads
 use Rattle.formula.proofs.eval_formula.Reads as eval-formula-reads
 use borrow.Author.Needs.{needs}
 use borrow.Author.Tests.{not-true, not-false}
