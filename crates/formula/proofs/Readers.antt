@@ -1,13 +1,12 @@
 -- Readers taken apart: what is known of the parts where the whole gives something. Assumes nothing.
-use mathlib.Core.Path.{_≡_, refl}
+use mathlib.Core.Path.{_≡_, refl, sym}
 use mathlib.Core.Bool.{Bool, true, false}
 use mathlib.Core.List.{List}
 use Prim.Native.Nat.{ℕ, _+_, _<_}
 use native.Mathlib.Omega.{arith}
 use lib.ListN.{getD}
-use lib.Dec.{ltb}
-use borrow.Author.Tests.{ltb-true}
 use Rattle.model.specs.Read.{Read, reject, got, Reader, andThen, require, byte}
+use Rattle.model.proofs.Laws.Reading as Reading
 use Rattle.formula.specs.Readings.{nextOf}
 use Rattle.formula.specs.declared.read.Reading.the-variants.{Refused, Next}
 
@@ -19,9 +18,7 @@ module _ {A B : Type 0} where
     pub rest : k value at ≡ got b r
 
   pub then-got : (x : Read A) (k : A → Reader B) (b : B) (r : ℕ) → andThen x k ≡ got b r → Then x k b r
-  unfolding andThen
-  then-got (reject n q) k b r h = let z : _≡_ {A = ℕ} 0 1 = cc in absurd (omega arith)
-  then-got (got a p) k b r h = record { value = a; at = p; first = refl; rest = h }
+  then-got x k b r h = Reading.then-got h λ a m e g. record { value = a; at = m; first = e; rest = g }
 
   -- a step that only makes something of what was read
   pub then-next : (x : Read A) (f : A → B) → nextOf (andThen x (λ a p. got (f a) p)) ≡ nextOf x
@@ -55,9 +52,4 @@ require-got false n q p u r h = let z : _≡_ {A = ℕ} 0 1 = cc in absurd (omeg
 
 pub byte-got :
     (s : List ℕ) (end n p b r : ℕ) → byte s end n p ≡ got b r → (p < end) × (b ≡ getD s p 0) × (r ≡ p + 1)
-unfolding byte
-byte-got s end n p b r h = go (ltb p end) refl h
-  where
-    go : (t : Bool) → ltb p end ≡ t → byte s end n p ≡ got b r → (p < end) × (b ≡ getD s p 0) × (r ≡ p + 1)
-    go true e g = let z = rw e at g in (ltb-true p end e, cc, cc)
-    go false e g = let y = rw e at g in let z : _≡_ {A = ℕ} 0 1 = cc in absurd (omega arith)
+byte-got s end n p b r h = let (l, e, v) = Reading.first (Reading.byte-got n h) in (l, sym e, sym (Reading.empty v))
