@@ -20,7 +20,7 @@ pub enum Checked {
 }
 
 // The line numbered `line`.
-fn read_line(list: &[u8], line: usize) -> Line
+pub fn read_line(list: &[u8], line: usize) -> Line
     requires { ⌜ 5 + 8 * line + 8 ≤ length (now list) ⌝ }
     ensures { λ r. ⌜ Reads (now (list .entry)) line r ⌝ }
 {

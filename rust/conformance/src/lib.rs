@@ -3,10 +3,14 @@
 //! [`oracle`] answers every operation in the plainest way that document 01
 //! allows: it parses into a tree, enumerates states and keeps every case.
 //! [`gen`] makes problems, plans and lists from fixed seeds, and [`harness`]
-//! compares a library's whole answers and buffers with the oracle's.
+//! compares a library's whole answers and buffers with the oracle's. [`desk`] is
+//! what the desk program prints, and [`examples`] the files of the folder of
+//! that name.
 
 pub mod answer;
+pub mod desk;
 pub mod encode;
+pub mod examples;
 pub mod gen;
 pub mod harness;
 pub mod model;

@@ -17,7 +17,8 @@ pub use states::{after, holds, lowest_failing, outcome};
 /// Up to this many facts the judge's verdict comes from every state in turn.
 pub const ENUMERABLE: u8 = 10;
 
-const MOST_LINES: usize = 8_191;
+/// A list block has no more lines than this.
+pub const MOST_LINES: usize = 8_191;
 
 #[derive(Clone, Copy, Debug, PartialEq, Eq)]
 pub struct Refusal {

@@ -1,0 +1,64 @@
+// The desk program: judges the plan in one file for the problem in another, and prints the verdict and its list.
+use libc::STDOUT_FILENO;
+use model::Plan;
+use model::Problem;
+use model::WriteAnswer;
+ghost use Prim.Native.Nat.{_≤_};
+ghost use Rattle.io.specs.Counts.{Counts};
+
+// One byte more than a block may have: a longer file is cut there, and still refused as too long.
+const PROBLEM_ROOM: usize = Problem::MAX_BYTES + 1;
+
+const PLAN_ROOM: usize = Plan::MAX_BYTES + 1;
+
+// Reads the file that argument i names, and returns how many bytes; with no name or no such file, none.
+fn load(i: usize, buf: &mut [u8]) -> usize
+    ensures { λ r. ⌜ Counts r (now (buf .exit)) ⌝ }
+{
+    let mut path = io::buffer();
+    let n = os::arg(i, &mut path);
+    let fd = os::open_read(&path[..n]);
+    let got = io::read_full(fd, buf);
+    libc::close(fd);
+    got
+}
+
+// Each line of a list block.
+fn print_list(list: &[u8], facts: u8)
+    requires { ⌜ facts ≤ 48 ⌝ }
+{
+    let mut text = [0u8; 64];
+    let mut i: usize = 0;
+    while 13 + 8 * i <= list.len() {
+        let n = report::list_line(list, i, facts, &mut text);
+        io::write_all(STDOUT_FILENO, &text[..n]);
+        i = i + 1;
+    }
+}
+
+// What follows the first line: a right plan's list, or that it is too long.
+fn print_rest(problem: &[u8], plan: &[u8]) {
+    let mut list = io::large_buffer();
+    match certificate::write_list(problem, plan, report::line::GRANT, &mut list) {
+        WriteAnswer::Refused(refusal) => {
+            if refusal.number == 52 {
+                io::write_all(STDOUT_FILENO, b"list too long\n");
+            }
+        }
+        WriteAnswer::Written { length } => {
+            let facts = report::facts_of(problem, plan);
+            print_list(&list[..length], facts);
+        }
+    }
+}
+
+fn main() {
+    let mut problem = [0u8; PROBLEM_ROOM];
+    let mut plan = [0u8; PLAN_ROOM];
+    let p = load(1, &mut problem);
+    let q = load(2, &mut plan);
+    let mut line = [0u8; 128];
+    let n = report::first_line(&problem[..p], &plan[..q], &mut line);
+    io::write_all(STDOUT_FILENO, &line[..n]);
+    print_rest(&problem[..p], &plan[..q]);
+}

@@ -1,0 +1,3 @@
+-- What is written, in the words of model/specs.
+pub mod Written
+pub mod FirstLine

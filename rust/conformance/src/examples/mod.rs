@@ -1,0 +1,163 @@
+//! Problems with plans that can be tried at the desk, and the files they fill.
+
+mod grid;
+mod sorting;
+mod store;
+mod trial;
+
+use std::collections::BTreeMap;
+
+use crate::desk;
+use crate::encode;
+use crate::model::{Action, Effect, Formula};
+
+/// One problem or a few, with what they are about.
+pub struct Example {
+    pub folder: &'static str,
+    /// The title and all that comes before the trials.
+    about: String,
+    pub trials: Vec<Trial>,
+}
+
+/// A problem and a plan, and the names of their files and of the print.
+pub struct Trial {
+    pub problem: (&'static str, Vec<u8>),
+    pub plan: (&'static str, Vec<u8>),
+    pub output: &'static str,
+    story: &'static str,
+}
+
+impl Trial {
+    fn right(problem: &[u8], steps: &[u8], story: &'static str) -> Trial {
+        Trial {
+            problem: ("problem", problem.to_vec()),
+            plan: ("plan", encode::plan(steps)),
+            output: "output",
+            story,
+        }
+    }
+
+    fn wrong(problem: &[u8], steps: &[u8], story: &'static str) -> Trial {
+        Trial {
+            plan: ("wrong-plan", encode::plan(steps)),
+            output: "wrong-output",
+            ..Trial::right(problem, steps, story)
+        }
+    }
+
+    pub fn printed(&self) -> Vec<u8> {
+        desk::printed(&self.problem.1, &self.plan.1)
+    }
+}
+
+pub fn all() -> Vec<Example> {
+    vec![
+        trial::example(),
+        store::example(),
+        sorting::example(),
+        grid::example(),
+    ]
+}
+
+/// Every file of the folder, by its name from there.
+pub fn files() -> BTreeMap<String, Vec<u8>> {
+    let mut files = BTreeMap::new();
+    files.insert("README.md".into(), INDEX.into());
+    for example in all() {
+        let mut put = |name: &str, bytes: Vec<u8>| {
+            files.insert(format!("{}/{name}", example.folder), bytes);
+        };
+        put("README.md", readme(&example).into_bytes());
+        for trial in &example.trials {
+            put(trial.problem.0, trial.problem.1.clone());
+            put(trial.plan.0, trial.plan.1.clone());
+            put(trial.output, trial.printed());
+        }
+    }
+    files
+}
+
+const INDEX: &str = "\
+# Examples
+
+Problems and plans for the desk program, `target/bin/desk PROBLEM PLAN`:
+
+- [trial](trial/README.md): the problem of document 01
+- [store](store/README.md): carriages brought home after a stoppage
+- [sorting](sorting/README.md): a sorting network of 8 channels
+- [grid](grid/README.md): a robot that does not know where it is
+
+`problem`, `plan` and the like are blocks. `output` and the like are what the
+program prints, byte for byte. All of it, these pages included, is written by
+`cargo run --release --bin make-examples` in the folder `rust`.
+";
+
+/// A print of more lines than this is shown by its first few.
+const SHORT: usize = 12;
+const FEW: usize = 6;
+
+fn readme(example: &Example) -> String {
+    let mut page = format!("{}\n## At the desk\n", example.about);
+    for trial in &example.trials {
+        let folder = format!("examples/{}", example.folder);
+        let (problem, plan, output) = (trial.problem.0, trial.plan.0, trial.output);
+        let text = String::from_utf8(trial.printed()).expect("the desk program prints ASCII");
+        let lines: Vec<&str> = text.lines().collect();
+        let shown = if lines.len() > SHORT {
+            FEW
+        } else {
+            lines.len()
+        };
+        page += &format!("\n{}\n\n```\n", trial.story);
+        page += &format!("$ target/bin/desk {folder}/{problem} {folder}/{plan}\n");
+        page += &lines[..shown].join("\n");
+        page += "\n```\n\n";
+        page += &match lines.len() - shown {
+            0 => format!("This is the file `{output}`.\n"),
+            more => format!("and {more} lines more, all of them in the file `{output}`.\n"),
+        };
+    }
+    page
+}
+
+/// An action that is always applicable. Its effects may come in any order.
+fn action(mut effects: Vec<Effect>) -> Action {
+    effects.sort_by_key(|effect| encode::literal(effect.literal));
+    Action {
+        precondition: Formula::always(),
+        effects,
+    }
+}
+
+/// Exactly one of these facts is true, as members of an "all".
+fn exactly_one(facts: &[u8]) -> Vec<Formula> {
+    let mut members = vec![Formula::any(facts.iter().map(|fact| Formula::fact(*fact)))];
+    for (i, one) in facts.iter().enumerate() {
+        for other in &facts[i + 1..] {
+            members.push(Formula::any([Formula::not(*one), Formula::not(*other)]));
+        }
+    }
+    members
+}
+
+/// A move by one along a row of places, of which one fact each says "it is
+/// here"; in the last place it stays. What was unknown of the places before is
+/// forgotten, so the walk need not split on it.
+fn shift(row: &[u8]) -> Vec<Effect> {
+    let last = row.len() - 1;
+    let mut effects: Vec<Effect> = (0..last)
+        .map(|place| Effect::sets(row[place + 1], Formula::fact(row[place])))
+        .collect();
+    effects.extend(
+        row[..last]
+            .iter()
+            .map(|fact| Effect::clears(*fact, Formula::always())),
+    );
+    effects
+}
+
+/// The same towards the first place.
+fn shift_back(row: &[u8]) -> Vec<Effect> {
+    let row: Vec<u8> = row.iter().rev().copied().collect();
+    shift(&row)
+}
