@@ -2,8 +2,9 @@
 use libc::STDOUT_FILENO;
 use model::Plan;
 use model::Problem;
-use model::WriteAnswer;
-ghost use Prim.Native.Nat.{_≤_};
+use report::Rest;
+ghost use Prim.Native.Nat.{_+_, _*_, _≤_};
+ghost use lib.ListN.{length};
 ghost use Rattle.io.specs.Counts.{Counts};
 
 // One byte more than a block may have: a longer file is cut there, and still refused as too long.
@@ -23,13 +24,13 @@ fn load(i: usize, buf: &mut [u8]) -> usize
     got
 }
 
-// Each line of a list block.
-fn print_list(list: &[u8], facts: u8)
-    requires { ⌜ facts ≤ 48 ⌝ }
+// So many lines of a list block.
+fn print_list(list: &[u8], count: usize, facts: u8)
+    requires { ⌜ (5 + 8 * count ≤ length (now list)) × (facts ≤ 48) ⌝ }
 {
     let mut text = [0u8; 64];
     let mut i: usize = 0;
-    while 13 + 8 * i <= list.len() {
+    while i < count {
         let n = report::list_line(list, i, facts, &mut text);
         io::write_all(STDOUT_FILENO, &text[..n]);
         i = i + 1;
@@ -39,15 +40,14 @@ fn print_list(list: &[u8], facts: u8)
 // What follows the first line: a right plan's list, or that it is too long.
 fn print_rest(problem: &[u8], plan: &[u8]) {
     let mut list = io::large_buffer();
-    match certificate::write_list(problem, plan, report::line::GRANT, &mut list) {
-        WriteAnswer::Refused(refusal) => {
-            if refusal.number == 52 {
-                io::write_all(STDOUT_FILENO, b"list too long\n");
-            }
+    match report::write_rest(problem, plan, &mut list) {
+        Rest::Nothing => {}
+        Rest::TooLong => {
+            io::write_all(STDOUT_FILENO, b"list too long\n");
         }
-        WriteAnswer::Written { length } => {
+        Rest::Lines { count } => {
             let facts = report::facts_of(problem, plan);
-            print_list(&list[..length], facts);
+            print_list(&list, count, facts);
         }
     }
 }

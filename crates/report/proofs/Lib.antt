@@ -1,3 +1,5 @@
 pub mod Decimal
 pub mod Puts
 pub mod Sentences
+pub mod Cut
+pub mod Later

@@ -1,6 +1,6 @@
 -- `print_list` meets its contract: the lines so far are within the list. Assumes nothing.
 use mathlib.Core.Path.{_≡_, sym}
-use Prim.Native.Nat.{_*_, _-_, _≤_}
+use Prim.Native.Nat.{_-_, _≤_}
 use native.Mathlib.Omega.{arith}
 use lib.ListN.{length}
 use lib.Seq.{length-take-le}
@@ -9,19 +9,13 @@ use Rattle.desk.proofs.print_list.Statement.{statement}
 use Rattle.desk.proofs.print_list.Tie as tie
 
 abbrev Inv-loop : tie.InvT-loop
-Inv-loop list facts text₀ i₀ text i = (8 * i ≤ length list) × (length text ≡ 64)
+Inv-loop list count facts text₀ i₀ text i = (i ≤ count) × (length text ≡ 64)
 
 abbrev μ-loop : tie.MeasureT-loop
-μ-loop list facts text₀ i₀ text i = length list - 8 * i
+μ-loop list count facts text₀ i₀ text i = count - i
 
 loop-holds : tie.Need-loop-holds Inv-loop μ-loop
 loop-holds c = search needs
-
-mul-loop : tie.Need-mul-loop Inv-loop μ-loop
-mul-loop c = search needs
-
-add-loop : tie.Need-add-loop Inv-loop μ-loop
-add-loop c = search needs
 
 slice-aggregate-list-line : tie.Need-slice-aggregate-list-line Inv-loop μ-loop
 slice-aggregate-list-line c = search needs
@@ -57,8 +51,6 @@ print-list-spec =
     Inv-loop
     μ-loop
     loop-holds
-    mul-loop
-    add-loop
     slice-aggregate-list-line
     list-line-requires
     array-share-prefix-text

@@ -1,11 +1,10 @@
 -- `print_rest` meets its contract. Assumes nothing.
-use mathlib.Core.Path.{_≡_, sym, ap, _∙_}
+use mathlib.Core.Path.{subst}
+use Prim.Native.Nat.{_+_, _*_, _≤_}
 use native.Mathlib.Omega.{arith}
-use lib.Seq.{length-take-le}
-use Rattle.model.specs.Limits.{version1}
-use Rattle.model.specs.Answers.{writeAnswer}
-use Rattle.model.proofs.Demands.{version1-sensible}
-use Rattle.model.proofs.Laws.Lists.{rest-unchanged}
+use lib.ListN.{length}
+use Rattle.report.specs.declared.rest.Rest.{Rest}
+use Rattle.report.specs.Later.{countOf}
 use borrow.Author.Needs.{needs}
 use Rattle.desk.proofs.print_rest.Statement.{statement}
 use Rattle.desk.proofs.print_rest.Tie as tie
@@ -13,14 +12,17 @@ use Rattle.desk.proofs.print_rest.Tie as tie
 large-buffer-requires : tie.Need-large-buffer-requires
 large-buffer-requires c κs = search needs
 
-slice-aggregate-write-list : tie.Need-slice-aggregate-write-list
-slice-aggregate-write-list c = search needs
+slice-aggregate-write-rest : tie.Need-slice-aggregate-write-rest
+slice-aggregate-write-rest c = search needs
 
-write-list-requires : tie.Need-write-list-requires
-write-list-requires c κs = search needs
+write-rest-requires : tie.Need-write-rest-requires
+write-rest-requires c κs = search needs
 
-enum-known-refusal : tie.Need-enum-known-refusal
-enum-known-refusal c = search needs
+enum-told : tie.Need-enum-told
+enum-told c = search needs
+
+enum-told-2 : tie.Need-enum-told-2
+enum-told-2 c = search needs
 
 slice-aggregate-write-all : tie.Need-slice-aggregate-write-all
 slice-aggregate-write-all c = search needs
@@ -28,20 +30,17 @@ slice-aggregate-write-all c = search needs
 write-all-requires : tie.Need-write-all-requires
 write-all-requires c κs = search needs
 
-enum-known-length : tie.Need-enum-known-length
-enum-known-length c = search needs
+enum-known-count : tie.Need-enum-known-count
+enum-known-count c = search needs
 
 facts-of-requires : tie.Need-facts-of-requires
 facts-of-requires c κs = search needs
 
-array-share-prefix-list : tie.Need-array-share-prefix-list
-array-share-prefix-list c = omega (arith, rest-unchanged version1 version1-sensible _ _ _ _ _ (sym (c .before .before .before .before .before .write-list .ensures .0) ∙ ap writeAnswer (c .before .before .length .given .1)) .0)
-
 slice-aggregate-print-list : tie.Need-slice-aggregate-print-list
-slice-aggregate-print-list c = sym (length-take-le _ _ (omega (arith, rest-unchanged version1 version1-sensible _ _ _ _ _ (sym (c .before .before .before .before .before .before .write-list .ensures .0) ∙ ap writeAnswer (c .before .before .before .length .given .1)) .0)))
+slice-aggregate-print-list c = search needs
 
 print-list-requires : tie.Need-print-list-requires
-print-list-requires c κs = search needs
+print-list-requires c κs = (omega (arith, subst (λ (r : Rest). 5 + 8 * countOf r ≤ length (c .before .before .before .before .before .before .write-rest .last .1 .1 .0)) (c .before .before .before .count .given .1) (c .before .before .before .before .before .before .write-rest .ensures .within)), c .before .facts-of .ensures .most)
 
 returns : tie.Need-returns
 returns c = search needs
@@ -57,14 +56,14 @@ print-rest-spec =
     tie.close
     (tie.spec
     large-buffer-requires
-    slice-aggregate-write-list
-    write-list-requires
-    enum-known-refusal
+    slice-aggregate-write-rest
+    write-rest-requires
+    enum-told
+    enum-told-2
     slice-aggregate-write-all
     write-all-requires
-    enum-known-length
+    enum-known-count
     facts-of-requires
-    array-share-prefix-list
     slice-aggregate-print-list
     print-list-requires
     returns

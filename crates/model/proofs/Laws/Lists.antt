@@ -51,7 +51,7 @@ length-encodeList F S ls = length-block (F .version) (linesBytes F ls) ∙ rw (l
 -- ---- a list that passes is sound to write
 
 module _ (F : Limits) (S : Sensible F) (w : ℕ) (look : ℕ → ℕ → Look) (n : ℕ) (n-fits : n ≤ 64) (w-fits : w ≡ F .width) where
-  follows-ok : (ls : List Line) (x : ℕ) → Follows w look n ls x → (x ≤ 2 ^ w) × Each (LineOk F) ls
+  pub follows-ok : (ls : List Line) (x : ℕ) → Follows w look n ls x → (x ≤ 2 ^ w) × Each (LineOk F) ls
   follows-ok [] x f = (omega (arith, f), tt)
   follows-ok (l ∷ ls) x f =
       let r = follows-ok ls (x + 2 ^ (w - l .k)) (f .1) in
@@ -90,7 +90,7 @@ chosen-by F room ms a ls false false p q e =
     subst (λ (x : List Line). Chosen F room (right ms a) x) m
     (record { visited = a; is = refl; few = ltb-false _ _ p; room-for = ltb-false _ _ q })
 
-chosen : (F : Limits) (room : ℕ) (v : Verdict (List Line)) (ls : List Line) → linesFor F room v ≡ answered ls → Chosen F room v ls
+pub chosen : (F : Limits) (room : ℕ) (v : Verdict (List Line)) (ls : List Line) → linesFor F room v ≡ answered ls → Chosen F room v ls
 unfolding linesFor
 chosen F room (right ms a) ls e = chosen-by F room ms a ls _ _ refl refl e
 chosen F room (wrong s o a) ls e = let z : _≡_ {A = ℕ} 0 1 = cc in absurd (omega arith)
