@@ -114,30 +114,42 @@ fn hex(bytes: &[u8]) -> String {
     bytes.iter().map(|b| format!("{b:02x}")).collect()
 }
 
+/// The oracle in a library's place.
+struct Oracle;
+
+impl Subject for Oracle {
+    fn read_problem(&self, problem: &[u8]) -> Answer {
+        answer::read_problem(&oracle::read_problem(problem))
+    }
+
+    fn read_plan(&self, problem: &[u8], plan: &[u8]) -> Answer {
+        answer::count(&oracle::read_plan(problem, plan))
+    }
+
+    fn run(&self, problem: &[u8], plan: &[u8], state: u64) -> Answer {
+        answer::run(&oracle::run(problem, plan, state))
+    }
+
+    fn judge(&self, problem: &[u8], plan: &[u8], grant: u64) -> Answer {
+        answer::judge(&oracle::judge(problem, plan, grant))
+    }
+
+    fn write_list(&self, problem: &[u8], plan: &[u8], grant: u64, arena: &mut Arena) -> Answer {
+        let written = oracle::write_list(problem, plan, grant, arena.room.len());
+        if let Ok(block) = &written {
+            arena.out()[..block.len()].copy_from_slice(block);
+        }
+        answer::count(&written.map(|block| block.len() as u64))
+    }
+
+    fn follow_list(&self, problem: &[u8], plan: &[u8], list: &[u8]) -> Answer {
+        answer::count(&oracle::follow_list(problem, plan, list))
+    }
+}
+
 /// What the oracle says of one call.
 pub fn expected(operation: Operation, case: &Case) -> Effect {
-    let Case {
-        problem,
-        plan,
-        list,
-        ..
-    } = case;
-    let mut arena = Arena::new(room(operation, case));
-    let answer = match operation {
-        Operation::ReadProblem => answer::read_problem(&oracle::read_problem(problem)),
-        Operation::ReadPlan => answer::count(&oracle::read_plan(problem, plan)),
-        Operation::Run => answer::run(&oracle::run(problem, plan, case.state)),
-        Operation::Judge => answer::judge(&oracle::judge(problem, plan, case.grant)),
-        Operation::FollowList => answer::count(&oracle::follow_list(problem, plan, list)),
-        Operation::WriteList => {
-            let written = oracle::write_list(problem, plan, case.grant, case.room);
-            if let Ok(block) = &written {
-                arena.out()[..block.len()].copy_from_slice(block);
-            }
-            answer::count(&written.map(|block| block.len() as u64))
-        }
-    };
-    Effect { answer, arena }
+    observed(&Oracle, operation, case)
 }
 
 /// What the subject makes of one call.

@@ -4,7 +4,7 @@ mod support;
 
 use conformance::answer::{words, Answer};
 use conformance::encode;
-use conformance::gen::{damaged_case, sound_case, Rng};
+use conformance::gen::{case_of_round, sound_case, Rng};
 use conformance::harness::{check, expected, Arena, Case, Operation, Subject};
 use conformance::model::{number, values, Formula};
 use conformance::oracle::{self, holds};
@@ -61,11 +61,7 @@ impl Subject for Tampered {
 fn each_word_of_each_answer_is_compared() {
     let mut rng = Rng::new(0x307d);
     for round in 0..60 {
-        let case = if round % 2 == 0 {
-            sound_case(&mut rng)
-        } else {
-            damaged_case(&mut rng)
-        };
+        let case = case_of_round(&mut rng, round);
         for operation in Operation::ALL {
             check(&Library, operation, &case).expect("the library is as it should be");
             for word in 0..8 {

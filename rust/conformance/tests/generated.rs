@@ -4,7 +4,7 @@ mod support;
 
 use std::collections::BTreeSet;
 
-use conformance::gen::{arbitrary_case, damaged_case, sound_case, wide_case, Rng};
+use conformance::gen::{arbitrary_case, case_of_round, damaged_case, sound_case, wide_case, Rng};
 use conformance::harness::{check_all, Case, Operation};
 use conformance::oracle;
 use support::Library;
@@ -106,11 +106,7 @@ fn verdict(verdict: oracle::Verdict) -> larkhammock::Verdict {
 fn the_safe_crate_says_the_same() {
     let mut rng = Rng::new(0x5afe);
     for round in 0..4_000 {
-        let case = if round % 2 == 0 {
-            sound_case(&mut rng)
-        } else {
-            damaged_case(&mut rng)
-        };
+        let case = case_of_round(&mut rng, round);
         let Case {
             problem,
             plan,

@@ -60,6 +60,15 @@ pub fn damaged_case(rng: &mut Rng) -> Case {
     case
 }
 
+/// Sound in even rounds, damaged in odd ones.
+pub fn case_of_round(rng: &mut Rng, round: usize) -> Case {
+    if round % 2 == 0 {
+        sound_case(rng)
+    } else {
+        damaged_case(rng)
+    }
+}
+
 /// A case of which some blocks are arbitrary bytes.
 pub fn arbitrary_case(rng: &mut Rng) -> Case {
     let mut case = sound_case(rng);
