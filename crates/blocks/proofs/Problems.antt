@@ -115,9 +115,6 @@ module _ (s : List ℕ) where
     parts-refused n q e = rw (next-refused (formula version1 s facts p) n q (sym e))
 
     module _ (k : ℕ) (e : Next k ≡ nextOf (formula version1 s facts p)) where
-      pub initial-stands : (f : Formula) × FormulaStands s facts p f × (formula version1 s facts p ≡ got f k)
-      initial-stands = let o = next-got _ k (sym e) in (o .value, record { next = k; read = o .is }, o .is)
-
       pub parts-goal-refused : (n q : ℕ) → Refused n q ≡ nextOf (formula version1 s facts k) → parts version1 s facts m p ≡ reject n q
       unfolding parts _>>=_ andThen
       parts-goal-refused n q g =

@@ -112,9 +112,6 @@ module _ (list : List ℕ) (n i x : ℕ) where
 
   -- a line of sound form: only its claim is left
   module _ (r : Line) (e : formFault (version1 .width) n (lineNumber list i) x ≡ 0) (R : Reads list i r) where
-    kind-is : lineNumber list i .kind ≡ r .kind
-    kind-is = sym (ap (λ (z : model.Line). z .kind) (R .is))
-
     k-is : lineNumber list i .k ≡ r .k
     k-is = sym (ap (λ (z : model.Line). z .k) (R .is))
 

@@ -182,9 +182,3 @@ module _ (s : List ℕ) (facts p : ℕ) (f : Formula) (q : ℕ) where
             is = omega (arith, l .is);
             read = cc (l .next);
           }
-
-pub formula-within : (s : List ℕ) (facts p q : ℕ) → nextOf (formula version1 s facts p) ≡ Next q → (p + 2 < q) × (q ≤ length s)
-formula-within s facts p q h =
-    let g = next-got (formula version1 s facts p) q h in
-    let w = formula-got s facts p (g .value) q (g .is) in
-    (omega (arith, w .some, w .is), w .inside)
