@@ -15,10 +15,11 @@ use Rattle.model.specs.FormulaBytes.{literalOf}
 use Rattle.model.specs.ProblemBytes.{effects, effectList}
 use Rattle.model.specs.Values.{inBytes, Valued}
 use Rattle.model.proofs.Laws.Held.{zeros}
-use Rattle.formula.specs.Evaluations.{FormulaValue}
+use Rattle.formula.specs.Evaluations.{FormulaEnds}
 use Rattle.formula.specs.declared.eval.Valued as eval
 use Rattle.formula.proofs.Heads.{literal-below}
-use Rattle.execute.specs.Steps.{Held, After}
+use Rattle.formula.proofs.Lengths.{formula-got}
+use Rattle.execute.specs.Steps.{AfterEntry, Held, After}
 use Rattle.execute.proofs.Entries.{fact-of, denial-of, same-literal, other-byte, entry-got, entries-end, listed}
 
 -- ---- the values by what is stored
@@ -77,6 +78,19 @@ module _ (values : List ℕ) where
             getD (set conditions l v) (f + 64) 0 ≡ getD conditions (f + 64) 0 → getD after f 0 ≡ worked values (set conditions l v) f
         kept f d a b = rw (a, b) (r .is f d)
 
+    -- what an entry makes of its fact is what the row says
+    pub row-entry :
+        (l v x : ℕ) → l < 128 → AfterEntry l v (getD values (l % 64) 0) (set conditions l v) x → x ≡ worked values (set conditions l v) (l % 64)
+    row-entry l v x h e =
+        let d = getD-set-same conditions l v 0 (omega (arith, r .size)) in
+        elim (decLt l 64) [
+          | yes k ↦ let a : l % 64 ≡ l = omega arith in rw (a, d) (rw a at (e .set k))
+          | no k ↦
+              let a : l % 64 + 64 ≡ l = omega arith in
+              let b : l - 64 ≡ l % 64 = omega arith in
+              rw (a, d) (rw b at (e .clear (omega arith)))
+        ]
+
     pub row-held : Valued values → Held after
     row-held h =
         record {
@@ -115,27 +129,31 @@ module _ (s values : List ℕ) (facts : ℕ) (es : List Effect) (q : ℕ) where
       }
 
   module _ (conditions : List ℕ) (k p : ℕ) (m : Remains s values conditions facts k p es q) where
-    pub remains-inside : 0 < k → p < length s
-    remains-inside h = entry-got s facts k (m .least) p (m .rest) q h (m .read) .inside
+    -- an entry has four bytes at least
+    pub remains-inside : 0 < k → p + 4 ≤ length s
+    remains-inside h =
+        let e = entry-got s facts k (m .least) p (m .rest) q h (m .read) in
+        let f = formula-got s facts (p + 1) (e .condition) (e .end) (e .read) in
+        omega (arith, f .some, f .inside, f .is)
 
     pub remains-next :
-        facts ≤ 64 → 0 < k → length conditions ≡ 128 → (l : ℕ) → l ≡ getD s p 0 % 128 → (r : eval.Valued) → FormulaValue s values (p + 1) r →
+        facts ≤ 64 → 0 < k → length conditions ≡ 128 → (l : ℕ) → l ≡ getD s p 0 % 128 → (r : eval.Valued) → FormulaEnds s values (p + 1) r →
         Remains s values (set conditions l (r .value)) facts (k - 1) (r .next) es q
     unfolding conditionIn
     remains-next most h size l a r v =
         let e = entry-got s facts k (m .least) p (m .rest) q h (m .read) in
         let b : l ≡ getD s p 0 = omega (arith, literal-below facts (getD s p 0) most (e .literal)) in
-        let w = v .is facts (e .condition) (e .end) most (e .read) in
+        let w = v .value .is facts (e .condition) (e .end) most (e .read) in
         record {
           rest = e .rest;
           least = e .least;
-          read = rw (w .1) (e .further);
+          read = rw (v .end facts (e .condition) (e .end) most (e .read)) (e .further);
           found = λ i. cond (sameLiteral (literalOf i) (literalOf (getD s p 0))) (e .condition) (m .found i);
           same = λ i. rw (e .is) at (m .same i);
           stored = λ i d. elim (ℕ-discrete i l) [
             | yes j ↦
                 rw (j, b, same-literal (literalOf (getD s p 0)))
-                (getD-set-same conditions (getD s p 0) (r .value) 0 (omega arith) ∙ w .0)
+                (getD-set-same conditions (getD s p 0) (r .value) 0 (omega arith) ∙ w)
             | no j ↦
                 rw (other-byte i (getD s p 0) (λ z. j (omega arith))) (getD-set-other conditions l i (r .value) 0 j ∙ m .stored i d)
           ];

@@ -1,6 +1,6 @@
 -- A run step by step, and what a look makes of it. Assumes nothing.
 use mathlib.Core.Path.{_≡_, refl, sym, ap, _∙_}
-use mathlib.Core.Bool.{true, false}
+use mathlib.Core.Bool.{Bool, true, false}
 use mathlib.Core.List.{List, []}
 use Prim.Native.Nat.{ℕ, suc, _+_, _≤_, _<_}
 use native.Mathlib.Numerals.{add-one}
@@ -21,9 +21,7 @@ use Rattle.model.specs.Values.{valueByte, Shows}
 use Rattle.model.proofs.Laws.Held.{eval-held, applicable-held, yes-byte}
 use Rattle.model.proofs.Laws.Tabulate.{length-tabulate}
 use Rattle.formula.specs.Evaluations.{FormulaValue}
-use Rattle.formula.specs.declared.eval.Valued as eval
 use Rattle.blocks.specs.Parts.{FormulaStands, ActionStands}
-use Rattle.execute.specs.declared.step.Stepped.{Stepped}
 use Rattle.execute.specs.Steps.{Steps}
 use Rattle.execute.specs.Runs.{Ready, Runs}
 use Rattle.execute.proofs.Stepping.{step-shows}
@@ -59,66 +57,66 @@ module _ (s t actions : List ℕ) (goal steps : ℕ) (values : List ℕ) (facts 
   run-begins = record { case = c; fixed = y .fixed; shows = y .shows; same = refl }
 
   module _ (i : ℕ) (current : List ℕ) (u : Underway facts g plan c i current) where
-    module _ (l : i < steps) (b : ℕ) (j : b ≡ getD t (5 + i) 0) (r : Stepped) (x : Steps s current (getD actions b 0) r) where
+    module _ (l : i < steps) (b : ℕ) (j : b ≡ getD t (5 + i) 0) (after : List ℕ) (r : Bool) (x : Steps s current (getD actions b 0) after r) where
       a : ActionStands s facts (getD actions b 0) (actionAt plan i)
       a = rw j (y .acting i l)
 
-      is : r .applicable ≡ applicable three (actionAt plan i) (u .case)
+      is : r ≡ applicable three (actionAt plan i) (u .case)
       is =
           x .is facts (actionAt plan i) (a .next) (y .most) (a .read) .0 ∙ applicable-held current (u .case) (u .shows) (actionAt plan i)
 
-      pub run-next : r .applicable ≡ true → Underway facts g plan c (i + 1) (r .values)
+      pub run-next : r ≡ true → Underway facts g plan c (i + 1) after
       unfolding step
       run-next e =
           record {
             case = step three facts (actionAt plan i) (u .case);
             fixed = length-tabulate facts _;
             shows =
-                step-shows s facts (y .most) _ (actionAt plan i) (a .next) (a .read) current (u .case) (u .shows) (u .fixed) (r .values)
-                (x .size e)
+                step-shows s facts (y .most) _ (actionAt plan i) (a .next) (a .read) current (u .case) (u .shows) (u .fixed) after
+                (x .held .size)
                 (x .is facts (actionAt plan i) (a .next) (y .most) (a .read) .1 e);
             same = u .same ∙ run-applies facts g plan i (u .case) (omega (arith, y .counted)) (sym e ∙ is);
           }
 
-      pub run-stops : r .applicable ≡ false → blocked (record { step = i }) ≡ run three facts g plan 0 c
+      pub run-stops : r ≡ false → blocked (record { step = i }) ≡ run three facts g plan 0 c
       run-stops e = sym (u .same ∙ run-blocks facts g plan i (u .case) (omega (arith, y .counted)) (sym e ∙ is))
 
-    module _ (l : steps ≤ i) (r : eval.Valued) (v : FormulaValue s current goal r) where
-      ends : run three facts g plan 0 c ≡ atEnd (eqb (r .value) 2)
+    module _ (l : steps ≤ i) (r : ℕ) (v : FormulaValue s current goal r) where
+      ends : run three facts g plan 0 c ≡ atEnd (eqb (r) 2)
       unfolding run
       ends =
           let b = y .reaching in
-          let e : r .value ≡ valueByte (eval three (u .case) g) =
-          v .is facts g (b .next) (y .most) (b .read) .0 ∙ eval-held current (u .case) (u .shows) g
+          let e : r ≡ valueByte (eval three (u .case) g) =
+          v .is facts g (b .next) (y .most) (b .read) ∙ eval-held current (u .case) (u .shows) g
           in
           let d : drop i plan ≡ [] = drop-of-length-le plan {i = i} (omega (arith, y .counted)) in
           u .same ∙ rw (d, e, yes-byte (eval three (u .case) g))
 
-      pub run-reaches : r .value ≡ 2 → reached ≡ run three facts g plan 0 c
-      run-reaches e = sym (ends ∙ ap atEnd (eq-eqb (r .value) 2 e))
+      pub run-reaches : r ≡ 2 → reached ≡ run three facts g plan 0 c
+      run-reaches e = sym (ends ∙ ap atEnd (eq-eqb (r) 2 e))
 
-      pub run-misses : (r .value ≡ 2 → ⊥) → missed ≡ run three facts g plan 0 c
-      run-misses e = sym (ends ∙ ap atEnd (ne-eqb (r .value) 2 e))
+      pub run-misses : (r ≡ 2 → ⊥) → missed ≡ run three facts g plan 0 c
+      run-misses e = sym (ends ∙ ap atEnd (ne-eqb (r) 2 e))
 
   -- a look: empty where the initial formula reads no, else as the run ends
-  module _ (p : ℕ) (f : Formula) (b : FormulaStands s facts p f) (r : eval.Valued) (v : FormulaValue s values p r) where
-    initially : r .value ≡ valueByte (eval three c f)
-    initially = v .is facts f (b .next) (y .most) (b .read) .0 ∙ eval-held values c (y .shows) f
+  module _ (p : ℕ) (f : Formula) (b : FormulaStands s facts p f) (r : ℕ) (v : FormulaValue s values p r) where
+    initially : r ≡ valueByte (eval three c f)
+    initially = v .is facts f (b .next) (y .most) (b .read) ∙ eval-held values c (y .shows) f
 
-    pub look-empty : r .value ≡ 0 → closed empty ≡ lookOf (eval three c f) (run three facts g plan 0 c)
+    pub look-empty : r ≡ 0 → closed empty ≡ lookOf (eval three c f) (run three facts g plan 0 c)
     look-empty e = go (eval three c f) initially
       where
-        go : (k : Kleene) → r .value ≡ valueByte k → closed empty ≡ lookOf k (run three facts g plan 0 c)
+        go : (k : Kleene) → r ≡ valueByte k → closed empty ≡ lookOf k (run three facts g plan 0 c)
         go No i = refl
         go Unknown i = absurd (omega arith)
         go Yes i = absurd (omega arith)
 
     pub look-runs :
-        (r .value ≡ 0 → ⊥) → (o : declared.Outcome) → Runs s t actions goal steps values o →
+        (r ≡ 0 → ⊥) → (o : declared.Outcome) → Runs s t actions goal steps values o →
         lookEnd (outcome o) ≡ lookOf (eval three c f) (run three facts g plan 0 c)
     look-runs e o x = ap lookEnd (x .is facts plan g c y) ∙ go (eval three c f) initially
       where
-        go : (k : Kleene) → r .value ≡ valueByte k → lookEnd (run three facts g plan 0 c) ≡ lookOf k (run three facts g plan 0 c)
+        go : (k : Kleene) → r ≡ valueByte k → lookEnd (run three facts g plan 0 c) ≡ lookOf k (run three facts g plan 0 c)
         go No i = absurd (e i)
         go Unknown i = refl
         go Yes i = refl

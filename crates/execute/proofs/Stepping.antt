@@ -19,7 +19,7 @@ use Rattle.model.specs.Values.{inBytes, valueByte, Shows}
 use Rattle.model.proofs.Laws.Reading.{then-got, carried}
 use Rattle.model.proofs.Laws.FormulaCodec.{literal-got}
 use Rattle.model.proofs.Laws.Held.{next-held, shows-tabulate}
-use Rattle.formula.specs.Evaluations.{FormulaValue}
+use Rattle.formula.specs.Evaluations.{FormulaEnds}
 use Rattle.formula.specs.declared.eval.Valued as eval
 use Rattle.execute.specs.Steps.{After}
 use Rattle.execute.proofs.Entries.{entry-got, entries-end, listed}
@@ -39,24 +39,24 @@ parts-got s facts p a q h =
     let x : Parts s facts p (record { precondition = f; effects = es }) n = record { middle = m; precondition = h₁; effects = h₃ } in
     carried (Parts s facts p) h₄ x
 
-module _ (s values : List ℕ) (p : ℕ) (r : eval.Valued) (v : FormulaValue s values p r) (facts : ℕ) (a : Action) (q : ℕ) (most : facts ≤ 64) (h : action version1 s facts p ≡ got a q) where
+module _ (s values : List ℕ) (p : ℕ) (r : eval.Valued) (v : FormulaEnds s values p r) (facts : ℕ) (a : Action) (q : ℕ) (most : facts ≤ 64) (h : action version1 s facts p ≡ got a q) where
   parts : Parts s facts p a q
   parts = parts-got s facts p a q h
 
   pub blocks : (r .value ≡ 2 → ⊥) → false ≡ applicable inBytes a values
   unfolding applicable
   blocks n =
-      let e = v .is facts (a .precondition) (parts .middle) most (parts .precondition) .0 in
+      let e = v .value .is facts (a .precondition) (parts .middle) most (parts .precondition) in
       sym (ne-eqb (eval inBytes values (a .precondition)) 2 (λ z. n (omega arith)))
 
   pub applies : r .value ≡ 2 → true ≡ applicable inBytes a values
   unfolding applicable
   applies y =
-      let e = v .is facts (a .precondition) (parts .middle) most (parts .precondition) .0 in
+      let e = v .value .is facts (a .precondition) (parts .middle) most (parts .precondition) in
       sym (eq-eqb (eval inBytes values (a .precondition)) 2 (omega arith))
 
   pub goes-on : effectList version1 s facts (r .next) ≡ got (a .effects) q
-  goes-on = rw (v .is facts (a .precondition) (parts .middle) most (parts .precondition) .1) (parts .effects)
+  goes-on = rw (v .end facts (a .precondition) (parts .middle) most (parts .precondition)) (parts .effects)
 
 -- ---- a fact that is not declared
 

@@ -11,7 +11,6 @@ pub use operation::run;
 pub use state::Decoded;
 pub use state::case_values;
 pub use state::state_values;
-pub use step::Stepped;
 pub use step::step_action;
 pub use steps::Look;
 pub use steps::look_at;

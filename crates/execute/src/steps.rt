@@ -25,15 +25,12 @@ pub fn run_steps(
     let mut i: usize = 0;
     while i < steps {
         let b = crate::wide(t[model::Limits::HEAD_BYTES + i]);
-        let r = crate::step_action(s, actions[b], &current);
-        if !r.applicable {
+        if !crate::step_action(s, actions[b], &mut current) {
             return model::Outcome::Blocked { step: i };
         }
-        current = r.values;
         i = i + 1;
     }
-    let r = formula::eval_formula(s, goal, &current);
-    if r.value == 2 {
+    if formula::formula_value(s, goal, &current) == 2 {
         model::Outcome::Reached
     } else {
         model::Outcome::Missed
@@ -53,8 +50,7 @@ pub fn look_at(
     requires { ⌜ Runnable (now t) steps × Valued values ⌝ }
     ensures { λ r. ⌜ Looks (now (s .entry)) (now (t .entry)) (now (actions .entry)) initial goal steps values r ⌝ }
 {
-    let r = formula::eval_formula(s, initial, &values);
-    if r.value == 0 {
+    if formula::formula_value(s, initial, &values) == 0 {
         return Look::Empty;
     }
     match run_steps(s, t, actions, goal, steps, values) {

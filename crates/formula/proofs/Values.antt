@@ -12,7 +12,7 @@ use Rattle.model.specs.Read.{got}
 use Rattle.model.specs.FormulaBytes.{literalOf, Group, conjunction, disjunction, mark, grouped, members, item, formula}
 use Rattle.model.specs.Values.{inBytes}
 use Rattle.model.specs.Values as Bytes
-use Rattle.formula.specs.Evaluations.{Stands, StandIn, ValueOf, GroupValue, MembersValue, OutermostValue}
+use Rattle.formula.specs.Evaluations.{Stands, StandIn, ValueOf, GroupValue, MembersValue, OutermostValue, FormulaValue}
 use Rattle.formula.specs.declared.eval.Valued.{Valued}
 use Rattle.formula.proofs.Heads.{literal-below}
 use Rattle.formula.proofs.Items.{members-got, members-none, IsLiteral, IsGroup, item-got}
@@ -259,6 +259,15 @@ module _ (s values : List ℕ) (g : Group) (n at : ℕ) where
             small = rw d (join-small g value (r .value) (h .small) (w .small));
           }
 
+-- a group without members
+pub empty-value :
+    (s values : List ℕ) (g : Group) (n at v : ℕ) → Bytes.Valued values → n ≡ 0 → v ≡ unit g → MembersValue s values g n at v
+empty-value s values g n at v k e d =
+    record {
+      is = λ fs q t. d ∙ held-ends s values g n at (unit g) n at (held-begins s values g n at k) e fs q t .0;
+      small = rw d (unit-small g);
+    }
+
 -- the outermost formula, by its first byte
 module _ (s : List ℕ) (p : ℕ) (f : Formula) (q : ℕ) (h : Stands s 0 p f q) where
   one : IsLiteral s (h .end) (h .facts) (h .left) 0 p f q ⊎ IsGroup s (h .end) (h .facts) (h .left) 0 p f q
@@ -306,8 +315,15 @@ module _ (s : List ℕ) (p facts : ℕ) (f : Formula) (q : ℕ) (small : facts �
   pub formula-short : length s ≤ p + 1 → ⊥
   formula-short e = omega (arith, whole .some, whole .inside, whole .is)
 
-  pub formula-value :
-      (values : List ℕ) (v next : ℕ) → OutermostValue s values (p + 2) v → next ≡ p + 2 + stated-bytes s p →
-      (v ≡ eval inBytes values f) × (next ≡ q)
-  formula-value values v next w e =
-      (w .is f q (record { end = q; facts = facts; left = version1 .depth; inside = whole .inside; declared = small; read = whole .read }), e ∙ sym (whole .is))
+  pub formula-value : (values : List ℕ) (v : ℕ) → OutermostValue s values (p + 2) v → v ≡ eval inBytes values f
+  formula-value values v w =
+      w .is f q (record { end = q; facts = facts; left = version1 .depth; inside = whole .inside; declared = small; read = whole .read })
+
+  pub formula-end : (next : ℕ) → next ≡ p + 2 + stated-bytes s p → next ≡ q
+  formula-end next e = e ∙ sym (whole .is)
+
+pub short-value : (s values : List ℕ) (p : ℕ) → length s ≤ p + 1 → FormulaValue s values p 0
+short-value s values p l = record { is = λ facts f q e h. absurd (formula-short s p facts f q e h l); small = omega arith }
+
+pub outermost-value : (s values : List ℕ) (p v : ℕ) → OutermostValue s values (p + 2) v → FormulaValue s values p v
+outermost-value s values p v w = record { is = λ facts f q e h. formula-value s p facts f q e h values v w; small = w .small }

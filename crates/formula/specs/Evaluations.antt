@@ -49,9 +49,12 @@ pub record OutermostValue (s values : List ℕ) (p r : ℕ) : Type 0 where
   pub is : (f : Formula) (q : ℕ) → Stands s 0 p f q → r ≡ eval inBytes values f
   pub small : r ≤ 2
 
--- the value of the formula whose length field stands at p, and the position after it
-pub record FormulaValue (s values : List ℕ) (p : ℕ) (r : Valued) : Type 0 where
-  pub is :
-      (facts : ℕ) (f : Formula) (q : ℕ) → facts ≤ 64 → formula version1 s facts p ≡ got f q →
-      (r .value ≡ eval inBytes values f) × (r .next ≡ q)
-  pub small : r .value ≤ 2
+-- the value of the formula whose length field stands at p
+pub record FormulaValue (s values : List ℕ) (p r : ℕ) : Type 0 where
+  pub is : (facts : ℕ) (f : Formula) (q : ℕ) → facts ≤ 64 → formula version1 s facts p ≡ got f q → r ≡ eval inBytes values f
+  pub small : r ≤ 2
+
+-- and the position after it
+pub record FormulaEnds (s values : List ℕ) (p : ℕ) (r : Valued) : Type 0 where
+  pub value : FormulaValue s values p (r .value)
+  pub end : (facts : ℕ) (f : Formula) (q : ℕ) → facts ≤ 64 → formula version1 s facts p ≡ got f q → r .next ≡ q

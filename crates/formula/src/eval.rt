@@ -4,7 +4,7 @@ ghost use mathlib.Core.Path.{_≡_};
 ghost use Prim.Native.Nat.{min, max};
 ghost use Rattle.model.specs.FormulaBytes.{conjunction, disjunction};
 ghost use Rattle.model.specs.Values as Bytes;
-ghost use Rattle.formula.specs.Evaluations.{ValueOf, GroupValue, MembersValue, OutermostValue, FormulaValue};
+ghost use Rattle.formula.specs.Evaluations.{ValueOf, GroupValue, MembersValue, OutermostValue, FormulaValue, FormulaEnds};
 
 // A value, and the position after what has it.
 pub struct Valued {
@@ -178,10 +178,45 @@ fn eval_outermost(s: &[u8], at: usize, values: &model::Values) -> u8
     }
 }
 
-// The value of the formula whose length field stands at `at`, and where it ends.
-pub fn eval_formula(s: &[u8], at: usize, values: &model::Values) -> Valued
+// The same for a condition or a precondition: most are one literal or an empty group, and need no walk over members.
+fn eval_condition(s: &[u8], at: usize, values: &model::Values) -> u8
+    requires { ⌜ Bytes.Valued (now values) ⌝ }
+    ensures { λ r. ⌜ OutermostValue (now (s .entry)) (now (values .entry)) at r ⌝ }
+{
+    if s.len() <= at {
+        return 0;
+    }
+    let b = s[at];
+    if b < crate::ALL {
+        return literal_value(b, values);
+    }
+    if s.len() - at < 2 {
+        return 0;
+    }
+    if s[at + 1] != 0 {
+        return eval_outermost(s, at, values);
+    }
+    if b == crate::ALL { 2 } else { 0 }
+}
+
+// The value of the formula whose length field stands at `at`.
+pub fn formula_value(s: &[u8], at: usize, values: &model::Values) -> u8
     requires { ⌜ Bytes.Valued (now values) ⌝ }
     ensures { λ r. ⌜ FormulaValue (now (s .entry)) (now (values .entry)) at r ⌝ }
+{
+    if s.len() <= at {
+        return 0;
+    }
+    if s.len() - at < 2 {
+        return 0;
+    }
+    eval_outermost(s, at + 2, values)
+}
+
+// The same for a condition or a precondition, and where it ends.
+pub fn eval_formula(s: &[u8], at: usize, values: &model::Values) -> Valued
+    requires { ⌜ Bytes.Valued (now values) ⌝ }
+    ensures { λ r. ⌜ FormulaEnds (now (s .entry)) (now (values .entry)) at r ⌝ }
 {
     let len = s.len();
     if len <= at {
@@ -193,7 +228,7 @@ pub fn eval_formula(s: &[u8], at: usize, values: &model::Values) -> Valued
     let begin = at + 2;
     let n = crate::wide(s[at]) * 256 + crate::wide(s[at + 1]);
     Valued {
-        value: eval_outermost(s, begin, values),
+        value: eval_condition(s, begin, values),
         next: begin + n,
     }
 }

@@ -7,6 +7,7 @@ pub mod read;
 
 pub use eval::Valued;
 pub use eval::eval_formula;
+pub use eval::formula_value;
 pub use read::Reading;
 pub use read::is_literal;
 pub use read::read_formula;
