@@ -77,18 +77,21 @@ module _ (s : ℕ) (values : List ℕ) (rest span i : ℕ) (h : i < 48) (r : Rea
   unfolding bit
   bit-of b e = ap (λ (x : ℕ). eqb x 1) e
 
-  -- one bit more, read as b
+  -- one bit more
   one-more :
-      (after : List ℕ) (left : ℕ) → length after ≡ 64 → left ≡ s % 2 ^ (48 - suc i) →
-      ((j : ℕ) → (j ≡ i → ⊥) → getD after j 0 ≡ getD values j 0) → getD after i 0 ≡ valueByte (known (bit 48 s i)) →
-      Read s after left (span / 2) (i + 1)
-  one-more after left size e same new =
+      (v left : ℕ) → left ≡ s % 2 ^ (48 - suc i) → v ≡ valueByte (known (bit 48 s i)) → Read s (set values i v) left (span / 2) (i + 1)
+  one-more v left e new =
+      let same : (j : ℕ) → (j ≡ i → ⊥) → getD (set values i v) j 0 ≡ getD values j 0 = λ j d. getD-set-other values i j v 0 d in
+      let stored = getD-set-same values i v 0 (omega (arith, r .bits .size)) ∙ new in
       record {
         span-is = span-half ∙ next-span;
         bits = record {
-          size = size;
+          size = length-set values i v ∙ r .bits .size;
           left = e ∙ ap (λ (x : ℕ). s % x) next-span;
-          below = λ j l. elim (ℕ-discrete j i) [ yes d ↦ subst (λ (x : ℕ). getD after x 0 ≡ valueByte (known (bit 48 s x))) (sym d) new | no d ↦ same j d ∙ r .bits .below j (omega arith) ];
+          below = λ j l. elim (ℕ-discrete j i) [
+            | yes d ↦ subst (λ (x : ℕ). getD (set values i v) x 0 ≡ valueByte (known (bit 48 s x))) (sym d) stored
+            | no d ↦ same j d ∙ r .bits .below j (omega arith)
+          ];
           past = λ j l. same j (λ d. omega arith) ∙ r .bits .past j (omega arith);
         };
       }
@@ -97,16 +100,13 @@ module _ (s : ℕ) (values : List ℕ) (rest span i : ℕ) (h : i < 48) (r : Rea
   read-yes l =
       let b = s / 2 ^ (48 - suc i) % 2 in
       let t = top-set b (2 ^ (48 - suc i)) (s % 2 ^ (48 - suc i)) (mod-lt (s / 2 ^ (48 - suc i)) (omega arith)) (mod-lt s (pow-pos (48 - suc i))) (omega (arith, span-half, rest-is)) in
-      one-more (set values i 2) (rest - span / 2) (length-set values i 2 ∙ r .bits .size) (omega (arith, t .1, span-half, rest-is))
-      (λ j d. getD-set-other values i j 2 0 d)
-      (getD-set-same values i 2 0 (omega (arith, r .bits .size)) ∙ ap (λ (x : Bool). valueByte (known x)) (sym (bit-of 1 (t .0))))
+      one-more 2 (rest - span / 2) (omega (arith, t .1, span-half, rest-is)) (ap (λ (x : Bool). valueByte (known x)) (sym (bit-of 1 (t .0))))
 
-  pub read-no : rest < span / 2 → Read s values rest (span / 2) (i + 1)
+  pub read-no : rest < span / 2 → Read s (set values i 0) rest (span / 2) (i + 1)
   read-no l =
       let b = s / 2 ^ (48 - suc i) % 2 in
       let t = top-clear b (2 ^ (48 - suc i)) (s % 2 ^ (48 - suc i)) (mod-lt (s / 2 ^ (48 - suc i)) (omega arith)) (omega (arith, span-half, rest-is)) in
-      one-more values rest (r .bits .size) (omega (arith, t .1, rest-is)) (λ j d. refl)
-      (r .bits .past i (omega arith) ∙ ap (λ (x : Bool). valueByte (known x)) (sym (bit-of 0 (t .0))))
+      one-more 0 rest (omega (arith, t .1, rest-is)) (ap (λ (x : Bool). valueByte (known x)) (sym (bit-of 0 (t .0))))
 
 -- ---- the answers
 

@@ -14,7 +14,8 @@ pub struct Bits {
     pub rest: u64,
 }
 
-// The first k facts fixed to the bits of `number`, from the top one on.
+// The first k facts fixed to the bits of `number`, from the top one on. A line's bits are as good as random, so nothing but what is
+// stored hangs on them.
 fn bits_of(number: u64, k: usize) -> Bits
     requires { ⌜ (k ≤ 48) × (number < 2 ^ 48) ⌝ }
     ensures { λ r. ⌜ BitsOf number (r .values) (r .rest) k ⌝ }
@@ -25,10 +26,14 @@ fn bits_of(number: u64, k: usize) -> Bits
     let mut i: usize = 0;
     while i < k {
         span = span / 2;
+        let mut value: u8 = 0;
+        let mut left = rest;
         if span <= rest {
-            values[i] = 2;
-            rest = rest - span;
+            value = 2;
+            left = rest - span;
         }
+        values[i] = value;
+        rest = left;
         i = i + 1;
     }
     Bits { values, rest }

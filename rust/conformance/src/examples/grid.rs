@@ -1,69 +1,26 @@
 //! A robot on a grid that does not know where it is.
 
-use super::{action, exactly_one, shift, shift_back, Example, Trial};
+use super::{Example, Trial};
 use crate::encode;
-use crate::model::{Formula, Problem};
+use crate::families::grid;
 
 const SIDE: u8 = 5;
-const CENTRE: u8 = SIDE / 2;
-
-const NORTH: u8 = 0;
-const SOUTH: u8 = 1;
-const WEST: u8 = 2;
-const EAST: u8 = 3;
-
-fn rows() -> Vec<u8> {
-    (0..SIDE).collect()
-}
-
-fn columns() -> Vec<u8> {
-    (SIDE..2 * SIDE).collect()
-}
-
-fn problem() -> Problem {
-    let mut somewhere = exactly_one(&rows());
-    somewhere.extend(exactly_one(&columns()));
-    Problem {
-        facts: 2 * SIDE,
-        initial: Formula::all(somewhere),
-        goal: Formula::all([Formula::fact(CENTRE), Formula::fact(SIDE + CENTRE)]),
-        actions: vec![
-            action(shift_back(&rows())),
-            action(shift(&rows())),
-            action(shift_back(&columns())),
-            action(shift(&columns())),
-        ],
-    }
-}
-
-/// To a corner with these many steps north, and from there to the centre.
-fn plan(north: u8) -> Vec<u8> {
-    [
-        (NORTH, north),
-        (WEST, SIDE - 1),
-        (SOUTH, CENTRE),
-        (EAST, CENTRE),
-    ]
-    .into_iter()
-    .flat_map(|(step, times)| vec![step; usize::from(times)])
-    .collect()
-}
 
 pub fn example() -> Example {
-    let problem = encode::problem(&problem());
+    let problem = encode::problem(&grid::problem(SIDE));
     Example {
         folder: "grid",
         about: ABOUT.into(),
         trials: vec![
             Trial::right(
                 &problem,
-                &plan(SIDE - 1),
+                &grid::plan(SIDE),
                 "Four times north and four times west lead to the corner from anywhere, then\n\
                  twice south and twice east to the centre. `plan` is right.",
             ),
             Trial::wrong(
                 &problem,
-                &plan(SIDE - 2),
+                &grid::north_times(SIDE, SIDE - 2),
                 "`wrong-plan` is one step north short. From the south wall it ends one row too far\n\
                  south.",
             ),

@@ -1,61 +1,20 @@
 //! A sorting network.
 
-use super::{action, Example, Trial};
+use super::{Example, Trial};
 use crate::encode;
-use crate::model::{Action, Effect, Formula, Problem};
+use crate::families::sorting;
 
 const CHANNELS: u8 = 8;
-
-/// Batcher's odd-even merge sort, each comparator as its two channels.
-const COMPARATORS: [(u8, u8); 19] = [
-    (0, 1),
-    (2, 3),
-    (4, 5),
-    (6, 7),
-    (0, 2),
-    (1, 3),
-    (4, 6),
-    (5, 7),
-    (1, 2),
-    (5, 6),
-    (0, 4),
-    (1, 5),
-    (2, 6),
-    (3, 7),
-    (2, 4),
-    (3, 5),
-    (1, 2),
-    (3, 4),
-    (5, 6),
-];
 
 /// The comparator that the wrong plan leaves out.
 const DROPPED: u8 = 14;
 
-/// Both conditions are read before the action, so one of each is enough.
-fn comparator((upper, lower): (u8, u8)) -> Action {
-    action(vec![
-        Effect::sets(lower, Formula::fact(upper)),
-        Effect::clears(upper, Formula::not(lower)),
-    ])
-}
-
-fn problem() -> Problem {
-    let in_order = |i: u8| Formula::any([Formula::not(i), Formula::fact(i + 1)]);
-    Problem {
-        facts: CHANNELS,
-        initial: Formula::always(),
-        goal: Formula::all((0..CHANNELS - 1).map(in_order)),
-        actions: COMPARATORS.map(comparator).to_vec(),
-    }
-}
-
 pub fn example() -> Example {
-    let problem = encode::problem(&problem());
-    let whole: Vec<u8> = (0..COMPARATORS.len() as u8).collect();
+    let problem = encode::problem(&sorting::problem(CHANNELS));
+    let whole = sorting::plan(CHANNELS);
     let mut dropped = whole.clone();
     dropped.retain(|comparator| *comparator != DROPPED);
-    let table: String = COMPARATORS
+    let table: String = sorting::comparators(CHANNELS)
         .iter()
         .enumerate()
         .map(|(number, (upper, lower))| format!("| {number} | {upper}, {lower} |\n"))

@@ -1,91 +1,38 @@
 //! Carriages in a store after a stoppage.
 
-use super::{action, exactly_one, shift, shift_back, Example, Trial};
+use super::{Example, Trial};
 use crate::encode;
-use crate::model::{Action, Effect, Formula, Problem};
+use crate::families::store::Store;
 
-const CARRIAGES: u8 = 3;
-const AISLES: u8 = 3;
-
-/// The facts "carriage c is in aisle 0, 1, 2".
-fn aisles(carriage: u8) -> Vec<u8> {
-    (0..AISLES).map(|a| carriage * AISLES + a).collect()
-}
-
-/// The loads come after all aisles: no case needs to fix them.
-fn load(carriage: u8) -> u8 {
-    CARRIAGES * AISLES + carriage
-}
-
-fn down(carriage: u8) -> u8 {
-    carriage
-}
-
-fn up(carriage: u8) -> u8 {
-    CARRIAGES + carriage
-}
-
-fn unload(carriage: u8) -> u8 {
-    2 * CARRIAGES + carriage
-}
-
-fn problem() -> Problem {
-    let each = || 0..CARRIAGES;
-    // A loaded carriage must not move.
-    let moves = |carriage: u8, effects: Vec<Effect>| Action {
-        precondition: Formula::not(load(carriage)),
-        ..action(effects)
-    };
-    let mut actions = Vec::new();
-    actions.extend(each().map(|c| moves(c, shift_back(&aisles(c)))));
-    actions.extend(each().map(|c| moves(c, shift(&aisles(c)))));
-    actions.extend(each().map(|c| action(vec![Effect::clears(load(c), Formula::always())])));
-    let home = |carriage: u8| {
-        (0..AISLES).map(move |aisle| {
-            let fact = aisles(carriage)[usize::from(aisle)];
-            if aisle == carriage {
-                Formula::fact(fact)
-            } else {
-                Formula::not(fact)
-            }
-        })
-    };
-    Problem {
-        facts: CARRIAGES * (AISLES + 1),
-        initial: Formula::all(each().flat_map(|c| exactly_one(&aisles(c)))),
-        goal: Formula::all(each().flat_map(home)),
-        actions,
-    }
-}
+const STORE: Store = Store {
+    carriages: 3,
+    aisles: 3,
+};
 
 pub fn example() -> Example {
-    let problem = encode::problem(&problem());
-    let unloads = [unload(0), unload(1), unload(2)];
-    // To one end from anywhere, and from there home.
-    let moves = [down(0), down(0), down(1), down(1), up(1), up(2), up(2)];
-    let short = &moves[..moves.len() - 1];
-    let loaded = &unloads[..2];
+    let problem = encode::problem(&STORE.problem());
+    let plan = STORE.plan();
+    let short = &plan[..plan.len() - 1];
+    let mut loaded = plan.clone();
+    loaded.retain(|step| *step != STORE.unload(2));
     Example {
         folder: "store",
         about: ABOUT.into(),
         trials: vec![
             Trial::right(
                 &problem,
-                &[&unloads[..], &moves].concat(),
+                &plan,
                 "Unload all, then carriage 0 down twice, carriage 1 down twice and up once,\n\
                  carriage 2 up twice. `plan` is right, wherever the carriages were.",
             ),
             Trial::wrong(
                 &problem,
-                &[&unloads[..], short].concat(),
+                short,
                 "`wrong-plan` lacks the last move. If carriage 2 was in aisle 0, it comes no\n\
                  further than aisle 1.",
             ),
             Trial {
-                plan: (
-                    "blocked-plan",
-                    encode::plan(&[loaded, &moves[..]].concat()),
-                ),
+                plan: ("blocked-plan", encode::plan(&loaded)),
                 output: "blocked-output",
                 ..Trial::right(
                     &problem,

@@ -62,7 +62,7 @@ pub fn damaged_case(rng: &mut Rng) -> Case {
 
 /// Sound in even rounds, damaged in odd ones.
 pub fn case_of_round(rng: &mut Rng, round: usize) -> Case {
-    if round % 2 == 0 {
+    if round.is_multiple_of(2) {
         sound_case(rng)
     } else {
         damaged_case(rng)

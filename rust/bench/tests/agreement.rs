@@ -1,0 +1,114 @@
+//! What is measured beside the library says what the library says.
+
+use bench::plain;
+use bench::problems;
+use bench::sat::{self, Cnf, Lit};
+use conformance::gen::{damaged_case, sound_case, Rng};
+use conformance::model::values;
+use conformance::oracle;
+use larkhammock::{Outcome, Verdict};
+
+/// The library's verdict in the words of the other.
+fn library(problem: &[u8], plan: &[u8], grant: u64) -> plain::Verdict {
+    match larkhammock::judge(problem, plan, grant) {
+        Err(refusal) => plain::Verdict::Refused {
+            number: refusal.number as u8,
+            place: refusal.place as usize,
+        },
+        Ok(Verdict::Right { lines, visits }) => plain::Verdict::Right { lines, visits },
+        Ok(Verdict::Undecided { visits }) => plain::Verdict::Undecided { visits },
+        Ok(Verdict::Wrong {
+            state,
+            outcome,
+            visits,
+        }) => plain::Verdict::Wrong {
+            state,
+            outcome: match outcome {
+                Outcome::Reached => plain::Outcome::Reached,
+                Outcome::Missed => plain::Outcome::Missed,
+                Outcome::Blocked { step } => plain::Outcome::Blocked(step as usize),
+            },
+            visits,
+        },
+    }
+}
+
+#[test]
+fn plain_judges_and_refuses_alike() {
+    let mut rng = Rng::new(0xbe7c);
+    for round in 0..20_000 {
+        let case = match round % 2 {
+            0 => sound_case(&mut rng),
+            _ => damaged_case(&mut rng),
+        };
+        for grant in [case.grant.min(2_000), 2_000] {
+            let plain = plain::judge(&case.problem, &case.plan, grant);
+            assert_eq!(plain, library(&case.problem, &case.plan, grant), "{round}");
+        }
+    }
+    for measured in problems::for_solvers() {
+        let plain = plain::judge(&measured.problem, &measured.plan, 1 << 16);
+        assert_eq!(plain, library(&measured.problem, &measured.plan, 1 << 16));
+    }
+}
+
+/// Whether the clauses hold once the start facts have these values: every other
+/// variable follows by clauses of one open literal.
+fn holds(cnf: &Cnf, start: &[Lit], facts: &[bool]) -> bool {
+    let mut value = vec![None; cnf.variables as usize + 1];
+    for (variable, fact) in start.iter().zip(facts) {
+        value[*variable as usize] = Some(*fact);
+    }
+    let truth =
+        |value: &[Option<bool>], l: Lit| value[l.unsigned_abs() as usize].map(|v| v == (l > 0));
+    loop {
+        let mut changed = false;
+        for clause in &cnf.clauses {
+            if clause.iter().any(|l| truth(&value, *l) == Some(true)) {
+                continue;
+            }
+            let open: Vec<Lit> = clause
+                .iter()
+                .copied()
+                .filter(|l| truth(&value, *l).is_none())
+                .collect();
+            match open[..] {
+                [] => return false,
+                [one] => {
+                    value[one.unsigned_abs() as usize] = Some(one > 0);
+                    changed = true;
+                }
+                _ => {}
+            }
+        }
+        if !changed {
+            assert!(value[1..].iter().all(Option::is_some));
+            return true;
+        }
+    }
+}
+
+/// Lemma 4: the satisfying assignments are the counterexamples.
+#[test]
+fn satisfying_assignments_are_counterexamples() {
+    let mut rng = Rng::new(0x5a7);
+    let (mut some, mut none) = (0, 0);
+    for _ in 0..300 {
+        let case = sound_case(&mut rng);
+        let problem = oracle::read_problem(&case.problem).expect("the case is sound");
+        let steps = &case.plan[5..];
+        let sat::Encoded { cnf, start } = sat::encode(&problem, steps);
+        for state in (0..1u64 << problem.facts.min(6)).map(|n| n << (48 - problem.facts)) {
+            let facts = values(state, problem.facts);
+            let fails = oracle::holds(&problem.initial, &facts)
+                && larkhammock::run(&case.problem, &case.plan, state) != Ok(Outcome::Reached);
+            assert_eq!(holds(&cnf, &start, &facts), fails);
+            if fails {
+                some += 1;
+            } else {
+                none += 1;
+            }
+        }
+    }
+    assert!(some > 100 && none > 100, "{some} {none}");
+}
