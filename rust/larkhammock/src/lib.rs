@@ -45,6 +45,11 @@ pub use refusal::Refusal;
 /// holds what [`write_list`] writes for any plan.
 pub const LONGEST_LIST: usize = 65_533;
 
+/// The README's call is a test.
+#[cfg(doctest)]
+#[doc = include_str!("../../../README.md")]
+struct Readme;
+
 /// What a problem declares.
 #[derive(Clone, Copy, Debug, PartialEq, Eq, Hash)]
 pub struct Counts {
