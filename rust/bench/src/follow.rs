@@ -5,7 +5,6 @@ use std::hint::black_box;
 use conformance::encode;
 use conformance::families::bombs;
 use conformance::model::{Action, Effect, Formula, Line, Problem};
-
 use larkhammock::Refusal;
 
 use crate::page::{nanoseconds, whole, Table};
@@ -20,8 +19,8 @@ const MOST_LINES: usize = 8_191;
 /// The longest problem block.
 const LONGEST: usize = 32_768;
 
-/// A list of so many lines that carry, as even as may be. Of the case that fixes
-/// the first k facts to the top bits of `value`.
+/// So many lines that carry, as even as may be, for the case that fixes the first
+/// k facts to the top bits of `value`.
 fn carrying(lines: usize, k: u8, value: u64) -> Vec<Line> {
     if lines == 1 {
         return vec![Line { kind: 1, k, value }];
