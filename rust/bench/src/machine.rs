@@ -8,7 +8,7 @@ use std::process::Command;
 /// The page's title, the machine, the compilers and the commit.
 pub fn head(root: &Path) -> io::Result<String> {
     let cpu = field(&fs::read_to_string("/proc/cpuinfo")?, "model name");
-    let memory = field(&fs::read_to_string("/proc/meminfo")?, "MemTotal");
+    let memory = gibibytes(&field(&fs::read_to_string("/proc/meminfo")?, "MemTotal"));
     let cores = std::thread::available_parallelism()?;
     let kernel = fs::read_to_string("/proc/sys/kernel/osrelease")?;
     let rustc = said("rustc", &["--version"], root)?;
@@ -25,6 +25,14 @@ pub fn head(root: &Path) -> io::Result<String> {
         crate::timing::SAMPLES,
         crate::timing::SAMPLE.as_millis(),
     ))
+}
+
+/// A number of kB, as the system has it, in GiB.
+fn gibibytes(memory: &str) -> String {
+    match memory.trim_end_matches(" kB").parse::<f64>() {
+        Ok(kib) => format!("{:.0} GiB", kib / 1024.0 / 1024.0),
+        Err(_) => memory.to_string(),
+    }
 }
 
 /// What follows `name :` on its line.

@@ -150,12 +150,13 @@ solver's verdict was held to the judge's, and each counterexample was run.
 ";
 
 const VERDICT: &str = "\
-**Where a SAT solver wins.** Wherever the walk needs more than some thousand visits: the largest network and the largest store, and by
-far the store whose loads come first. The walk fixes facts in their order, so facts that decide nothing double its work each time they
-come before those that decide; a solver finds its own order, and its times here hardly differ from those of its start alone.
+**Where a SAT solver wins.** Wherever the walk takes longer than a solver's start, which is some milliseconds: the largest network, the
+largest store, the largest grid by little, and by far the store whose loads come first. The walk fixes facts in their order, so each
+fact that decides nothing doubles its work where it comes before those that decide. A solver finds its own order: its times here hardly
+differ from those of its start alone.
 
-**Where the walk wins.** Below that, by one to three orders of magnitude, and for every wrong plan above: it starts at once, and the
-lowest failing state came early.
+**Where the walk wins.** Below that, by up to three orders of magnitude, and for every wrong plan above: it starts at once, and the lowest
+failing state came early.
 
 **Why the walk is what the certificate needs.** A solver's \"unsatisfiable\" is the word of a large program that nobody proved, about
 an encoding that nobody proved. A proof in its terms (DRAT) speaks of clauses and auxiliary variables, is checked by another large
