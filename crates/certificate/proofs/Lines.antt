@@ -1,11 +1,10 @@
 -- A line's bytes, its span, and the faults of its form. Assumes nothing.
 use mathlib.Core.Path.{_≡_, sym, ap, _∙_, subst}
 use mathlib.Core.List.{List, [], _∷_}
-use Prim.Native.Nat.{ℕ, suc, _+_, _-_, _*_, _/_, _%_, _^_, _≤_, _<_}
+use Prim.Native.Nat.{ℕ, suc, _+_, _-_, _*_, _%_, _^_, _≤_, _<_}
 use native.Mathlib.Omega.{arith}
 use lib.ListN.{length, getD, take, drop}
 use lib.Seq.{drop-cons}
-use lib.Pow.{pow-add, shl-shr}
 use borrow.Author.Tests.{lt-ltb, le-ltb, eq-eqb, ne-eqb}
 use Rattle.model.specs.Walk as model
 use Rattle.model.specs.Read.{bigEndianFrom, bigEndian}
@@ -14,12 +13,6 @@ use Rattle.model.specs.ListBytes.{lineAt}
 use Rattle.certificate.specs.Lines.{lineNumber, lineOf, Reads, formFault, ChecksLine}
 use Rattle.certificate.specs.declared.line.Line.{Line}
 use Rattle.certificate.specs.declared.line.Checked.the-variants.{Fault, Sound}
-
--- 2^48 shifted right by k
-pub span : (k : ℕ) → k ≤ 48 → 281474976710656 / 2 ^ k ≡ 2 ^ (48 - k)
-span k h =
-    let e : 48 ≡ (48 - k) + k = omega arith in
-    ap (λ (x : ℕ). 2 ^ x / 2 ^ k) e ∙ ap (λ (x : ℕ). x / 2 ^ k) (pow-add 2 (48 - k) k) ∙ shl-shr (2 ^ (48 - k)) k
 
 module _ (s : List ℕ) (p : ℕ) (h : p + 8 ≤ length s) where
   from : (q n : ℕ) → suc q ≡ n → q < length s → drop q s ≡ getD s q 0 ∷ drop n s

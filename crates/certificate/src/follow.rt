@@ -1,6 +1,6 @@
 // Following a case list, line by line.
 ghost use mathlib.Core.Path.{_≡_};
-ghost use Prim.Native.Nat.{_+_, _*_, _≤_, _<_, _^_};
+ghost use Prim.Native.Nat.{_+_, _*_, _≤_};
 ghost use lib.ListN.{length};
 ghost use Rattle.model.specs.Limits.{version1};
 ghost use Rattle.model.specs.Operations.{followList};
@@ -26,7 +26,7 @@ use model::Refusal;
 
 // Whether the case of a line is of the kind that the line claims.
 fn check_claim(s: &[u8], t: &[u8], actions: &[usize; 64], at: Places, facts: usize, l: Line) -> bool
-    requires { ⌜ Runnable (now t) (at .steps) × (facts ≤ 48) × (l .k ≤ facts) × (l .value < 2 ^ 48) ⌝ }
+    requires { ⌜ Runnable (now t) (at .steps) × (facts ≤ 48) × (l .k ≤ facts) ⌝ }
     ensures { λ r. ⌜ Claims (now (s .entry)) (now (t .entry)) (now (actions .entry)) at facts l r ⌝ }
 {
     let values = case_values(l.value, crate::wide(l.k), facts);

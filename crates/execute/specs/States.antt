@@ -11,10 +11,9 @@ use Rattle.model.specs.Case.{bit, caseOf}
 use Rattle.model.specs.Values.{valueByte, Shows}
 use Rattle.execute.specs.declared.state.Decoded.{Decoded}
 
--- the first i facts are fixed to the top bits of s, no stands past them, and `rest` is left of s
-pub record BitsOf (s : ℕ) (values : List ℕ) (rest i : ℕ) : Type 0 where
+-- the first i facts are fixed to the top bits of s, and no stands past them
+pub record BitsOf (s : ℕ) (values : List ℕ) (i : ℕ) : Type 0 where
   pub size : length values ≡ 64
-  pub left : rest ≡ s % 2 ^ (48 - i)
   pub below : (j : ℕ) → j < i → getD values j 0 ≡ valueByte (known (bit 48 s j))
   pub past : (j : ℕ) → i ≤ j → getD values j 0 ≡ 0
 

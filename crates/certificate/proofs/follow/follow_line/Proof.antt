@@ -21,7 +21,7 @@ wide-requires c κs = search needs
 
 check-claim-requires : tie.Need-check-claim-requires
 check-claim-requires c κs = let o = checked-sound _ _ _ _ _ (c .before .before .before .before .check-at .ensures) _ (c .before .before .l .given .1) in
-    (c .before .before .before .before .before .before .before .before .pre .0, omega (arith, c .wide .ensures .0), omega (arith, c .wide .ensures .0, k-fits _ _ _ _ _ (o .0) (o .1)), o .1 .small)
+    (c .before .before .before .before .before .before .before .before .pre .0, omega (arith, c .wide .ensures .0), omega (arith, c .wide .ensures .0, k-fits _ _ _ _ _ (o .0) (o .1)))
 
 span-of-requires : tie.Need-span-of-requires
 span-of-requires c κs = let o = checked-sound _ _ _ _ _ (c .before .before .before .before .before .before .check-at .ensures) _ (c .before .before .before .before .l .given .1) in omega (arith, k-fits _ _ _ _ _ (o .0) (o .1))

@@ -1,6 +1,6 @@
 -- `span_of` meets its contract. Assumes nothing.
 use native.Mathlib.Omega.{arith}
-use Rattle.certificate.proofs.Lines.{span}
+use Rattle.execute.proofs.Bits.{span}
 use borrow.Author.Needs.{needs}
 use Rattle.certificate.proofs.line.span_of.Statement.{statement}
 use Rattle.certificate.proofs.line.span_of.Tie as tie

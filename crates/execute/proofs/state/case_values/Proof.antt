@@ -12,10 +12,10 @@ abbrev μ-loop : tie.MeasureT-loop
 μ-loop number k facts values₀ i₀ values i = facts - i
 
 bits-of-requires : tie.Need-bits-of-requires Inv-loop μ-loop
-bits-of-requires c κs = (omega arith, omega arith)
+bits-of-requires c κs = omega arith
 
 loop-holds : tie.Need-loop-holds Inv-loop μ-loop
-loop-holds c = (omega arith, omega arith, opened-none _ _ _ _ (c .before .bits-of .ensures))
+loop-holds c = (omega arith, omega arith, opened-none _ _ _ (c .bits-of .ensures))
 
 array-write-values : tie.Need-array-write-values Inv-loop μ-loop
 array-write-values c = omega arith
