@@ -12,7 +12,6 @@ use Rattle.model.specs.Read.{Read, reject, got, andThen, _>>=_, done}
 use Rattle.model.specs.ProblemBytes.{action, actions, actionAt}
 use Rattle.model.proofs.Laws.Reading.{then-got, got-inj}
 use Rattle.formula.specs.Readings.{nextOf}
-use Rattle.formula.specs.declared.read.Reading.{Reading}
 use Rattle.formula.specs.declared.read.Reading.the-variants.{Refused, Next}
 use Rattle.formula.proofs.Readers.{next-got, next-refused}
 use Rattle.blocks.specs.Parts.{ActionStands, ActionsAt}

@@ -1,10 +1,10 @@
 -- A problem's reader, part by part, and what is found of it. Assumes nothing.
 use mathlib.Core.Path.{_≡_, refl, sym, ap, ap₂, _∙_, subst}
-use mathlib.Core.Bool.{Bool, true, false, true≢false}
+use mathlib.Core.Bool.{true, false, true≢false}
 use mathlib.Core.List.{List}
 use Prim.Native.Nat.{ℕ, _+_, _≤_, _<_}
 use native.Mathlib.Omega.{arith}
-use lib.ListN.{length, getD}
+use lib.ListN.{length}
 use borrow.Author.Tests.{le-leb, lt-leb}
 use Rattle.model.specs.Limits.{version1}
 use Rattle.model.specs.Formula.{Formula}
@@ -13,7 +13,6 @@ use Rattle.model.specs.Read.{Read, reject, got, andThen, _>>=_, _>>_, done, pos
 use Rattle.model.specs.FormulaBytes.{formula}
 use Rattle.model.specs.ProblemBytes.{Problem, actions, ending, parts, body, problem}
 use Rattle.formula.specs.Readings.{nextOf}
-use Rattle.formula.specs.declared.read.Reading.{Reading}
 use Rattle.formula.specs.declared.read.Reading.the-variants.{Refused, Next}
 use Rattle.formula.proofs.Readers.{next-got, next-refused}
 use Rattle.blocks.specs.declared.problem.Actions.{Actions}

@@ -1,16 +1,15 @@
 -- What is found of a problem and a plan, as the operations have it. Assumes nothing.
-use mathlib.Core.Path.{_≡_, refl, sym, ap, ap₂, _∙_, subst}
-use mathlib.Core.Bool.{Bool, true, false, true≢false}
-use mathlib.Core.List.{List, [], _∷_}
+use mathlib.Core.Path.{_≡_, sym, ap, _∙_, subst}
+use mathlib.Core.Bool.{true, false, true≢false}
+use mathlib.Core.List.{List, _∷_}
 use Prim.Native.Nat.{ℕ, zero, suc, _+_, _-_, _≤_, _<_}
-use native.Mathlib.Numerals.{add-one}
 use native.Mathlib.Omega.{arith}
 use lib.ListN.{length, getD}
 use borrow.Author.Tests.{ltb-true, leb-true}
 use Rattle.model.specs.Limits.{version1}
 use Rattle.model.specs.Answer as Answer
 use Rattle.model.specs.Answer.{refused, answered}
-use Rattle.model.specs.Read.{Read, reject, got, andThen, _>>=_, _>>_, done, position, require, counted, header, answerOf}
+use Rattle.model.specs.Read.{Read, reject, got, andThen, _>>=_, _>>_, done, position, counted, header, answerOf}
 use Rattle.model.specs.ProblemBytes as bytes
 use Rattle.model.specs.ProblemBytes.{problemOf, steps, plan, planOf}
 use Rattle.model.specs.Operations.{readProblem, readPlan, readTask, taskOf}
@@ -20,7 +19,7 @@ use Rattle.formula.specs.declared.read.Reading.the-variants.{Refused, Next}
 use Rattle.formula.proofs.Readers.{next-got, next-refused}
 use Rattle.blocks.specs.declared.problem.Found.{Found}
 use Rattle.blocks.specs.declared.plan.Task.{Task}
-use Rattle.blocks.specs.Parts.{Placed, Finds, TaskAt, FindsTask}
+use Rattle.blocks.specs.Parts.{Placed, Finds, FindsTask}
 
 -- ---- a plan's steps
 

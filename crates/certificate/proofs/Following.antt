@@ -1,7 +1,7 @@
 -- Following a list line by line. Assumes nothing.
 use mathlib.Core.Path.{_≡_, refl, sym, ap, ap₂, _∙_, subst}
 use mathlib.Core.Bool.{Bool, true, false, cond, not}
-use mathlib.Core.List.{List, [], _∷_}
+use mathlib.Core.List.{List, _∷_}
 use Prim.Native.Nat.{ℕ, zero, suc, _+_, _-_, _*_, _/_, _%_, _^_, _≤_, _<_}
 use native.Mathlib.Numerals.{add-one}
 use native.Mathlib.Omega.{arith}
@@ -26,14 +26,13 @@ use Rattle.blocks.specs.Parts.{TaskAt, FindsTask}
 use Rattle.blocks.proofs.Tasks.{header-length}
 use Rattle.model.specs.Case.{caseOf, Task}
 use Rattle.model.specs.Walk as model
-use Rattle.model.specs.Walk.{Kind, empty, carries, kindNumber, closed, opened, lookAt}
+use Rattle.model.specs.Walk.{Kind, kindNumber, closed, opened, lookAt}
 use Rattle.model.specs.CaseList.{claims, first, refuseAt, ends, fault, follow}
 use Rattle.model.specs.ListBytes.{lineAt, linesFrom, caseList, listOf}
 use Rattle.model.specs.Values.{Valued, Shows}
 use Rattle.model.proofs.Laws.Held.{shows-valued}
 use Rattle.execute.specs.Runs.{lookIs, Looks}
 use Rattle.execute.specs.declared.steps.Look.{Look}
-use Rattle.execute.specs.declared.steps.Look.the-variants.{Empty, Carries, Open}
 use Rattle.execute.proofs.Tasks.{ready, task, read-task}
 use Rattle.judge.specs.Verdicts.{PartsOf}
 use Rattle.judge.proofs.Verdicts.{parts-of}
@@ -43,7 +42,7 @@ use Rattle.certificate.specs.declared.line.Checked.{Checked}
 use Rattle.certificate.specs.declared.line.Checked.the-variants.{Fault as Faulty, Sound}
 use Rattle.certificate.specs.declared.follow.Followed.{Followed}
 use Rattle.certificate.specs.declared.follow.Followed.the-variants.{Fault, Next}
-use Rattle.certificate.specs.Lines.{lineNumber, lineOf, Reads, formFault, Found, ChecksLine}
+use Rattle.certificate.specs.Lines.{lineNumber, Reads, formFault, Found, ChecksLine}
 use Rattle.certificate.specs.Follows.{TaskOver, Claims, LineIs, FollowsLine, FollowsLines, bodyAnswer, FollowsBody}
 
 -- ---- a claim

@@ -1,24 +1,21 @@
 -- Demand 3 of the code, from the two contracts and the theorem about the definitions. Assumes nothing.
-use mathlib.Core.Path.{_≡_, refl, sym, ap, _∙_, subst}
+use mathlib.Core.Path.{_≡_, sym, ap, _∙_, subst}
 use mathlib.Core.List.{List}
 use Prim.Native.Nat.{ℕ, _≤_}
 use native.Mathlib.Omega.{arith}
 use lib.ListN.{length, take}
 use Rattle.model.specs.Limits.{version1}
-use Rattle.model.specs.Answer as Answer
-use Rattle.model.specs.Answer.{Answer, refused, answered}
-use Rattle.model.specs.Case.{Task, Right}
-use Rattle.model.specs.Operations.{readTask, linesFor, listFor, written, writeList, followList}
+use Rattle.model.specs.Answer.{Answer, answered}
+use Rattle.model.specs.Case.{Task}
+use Rattle.model.specs.Operations.{readTask, listFor, written, writeList, followList}
 use Rattle.model.specs.Demands.{linesIn}
 use Rattle.model.specs.Answers.{writeAnswer, followAnswer}
-use Rattle.model.specs.declared.WriteAnswer.{WriteAnswer}
-use Rattle.model.specs.declared.WriteAnswer.the-variants.{Written}
 use Rattle.model.specs.declared.FollowAnswer.{FollowAnswer}
 use Rattle.model.specs.declared.FollowAnswer.the-variants.{Refused, Passes}
 use Rattle.model.proofs.Laws.Tasks.{answer-then}
 use Rattle.model.proofs.Laws.Lists.{written-answered}
 use Rattle.model.proofs.Demands.{version1-holds}
-use Rattle.certificate.specs.Promise.{FollowCall, WriteCall, Promised}
+use Rattle.certificate.specs.Promise.{FollowCall, Promised}
 
 passes-answered : (r : FollowAnswer) (m : ℕ) → followAnswer r ≡ answered m → r ≡ Passes m
 passes-answered (Refused x) m e = let z : _≡_ {A = ℕ} 0 1 = cc in absurd (omega arith)

@@ -1,6 +1,6 @@
 -- A number's bits from the top one on. Assumes nothing.
 use mathlib.Core.Path.{_≡_, refl, sym, ap, _∙_, subst}
-use mathlib.Core.Bool.{Bool, true, false, cond, _&&_, false≢true}
+use mathlib.Core.Bool.{true, false, cond, false≢true}
 use mathlib.Core.List.{List}
 use Prim.Native.Nat.{ℕ, zero, suc, _+_, _-_, _*_, _/_, _%_, _^_, _≤_, _<_}
 use native.Mathlib.Nat.{mod-lt}
@@ -10,13 +10,11 @@ use lib.ListN.{length, getD, set, replicate, length-set}
 use lib.Seq.{getD-set-same, getD-set-other}
 use lib.Pow.{pow-add, shl-shr}
 use lib.Dec.{eqb, ltb}
-use borrow.Author.Tests.{lt-ltb, le-ltb, eq-eqb, ne-eqb}
-use Rattle.model.specs.Limits.{version1}
+use borrow.Author.Tests.{lt-ltb, le-ltb}
 use Rattle.model.specs.Kleene.{Unknown, known}
 use Rattle.model.specs.Case.{bit, caseOf}
 use Rattle.model.specs.Values.{valueByte, Shows}
 use Rattle.model.proofs.Laws.Held.{zeros, shows-tabulate}
-use Rattle.execute.specs.declared.state.Decoded.{Decoded}
 use Rattle.execute.specs.States.{BitsOf, Decodes}
 
 -- 2^48 shifted right by k

@@ -1,30 +1,27 @@
 -- A case and its two parts, as the walk holds them. Assumes nothing.
 use mathlib.Core.Path.{_≡_, refl, sym, ap, _∙_, subst}
-use mathlib.Core.Bool.{Bool, true, false}
+use mathlib.Core.Bool.{true, false}
 use mathlib.Core.List.{List, [], _∷_}
-use Prim.Native.Nat.{ℕ, zero, suc, _+_, _-_, _*_, _/_, _%_, _^_, _≤_, _<_}
+use Prim.Native.Nat.{ℕ, zero, suc, _+_, _-_, _/_, _%_, _^_, _≤_, _<_}
 use native.Mathlib.Nat.{pow-suc, mul-div-cancel}
 use native.Mathlib.Decide.{ℕ-discrete}
 use native.Mathlib.Omega.{arith}
 use lib.ListN.{length, getD, set, length-set, List·getD-eq-default}
 use lib.Seq.{getD-set-same, getD-set-other}
 use native.Mathlib.Decide.{decLt}
-use lib.Pow.{pow-pos}
-use Rattle.model.specs.Limits.{version1}
 use Rattle.model.specs.Case.{caseOf, Task}
 use Rattle.model.specs.Walk.{Kind, closed, opened, Walked, lookAt}
 use Rattle.model.specs.Values.{Valued, Shows}
-use Rattle.model.proofs.Laws.Cover.{Block, pow-half, rescale, next-block, block-of-mod, mod-of-block}
+use Rattle.model.proofs.Laws.Cover.{Block, rescale, next-block, block-of-mod, mod-of-block}
 use Rattle.model.proofs.Laws.Splitting.{split-no, split-yes}
 use Rattle.execute.specs.Runs.{lookIs, Looks}
 use Rattle.execute.specs.Tasks.{Stands}
 use Rattle.execute.specs.declared.steps.Look.{Look}
-use Rattle.execute.specs.declared.steps.Look.the-variants.{Empty, Carries, Open}
 use Rattle.execute.proofs.Tasks.{ready}
 use Rattle.judge.specs.declared.walk.Places.{Places}
 use Rattle.judge.specs.declared.walk.Case.{Case}
 use Rattle.judge.specs.declared.walk.Ending.{Ending}
-use Rattle.judge.specs.Walks.{CaseAt, CaseFits, Ended, Counted, walkOf, Walks, Splits, Joined}
+use Rattle.judge.specs.Walks.{CaseAt, CaseFits, Ended, walkOf, Walks, Splits, Joined}
 use Rattle.judge.proofs.Endings.{outOfVisits, oneLine, failsAt, ended-out, ended-closed, ended-failing, ended-split, first-out, first-failed, second}
 
 -- ---- values

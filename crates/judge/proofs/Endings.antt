@@ -1,7 +1,7 @@
 -- How walks end, put together from the endings of their parts. Assumes nothing.
-use mathlib.Core.Path.{_≡_, refl, sym, ap, _∙_, subst}
-use mathlib.Core.Bool.{Bool, true, false, true≢false}
-use mathlib.Core.List.{List, _++_}
+use mathlib.Core.Path.{_≡_, refl, sym, ap, _∙_}
+use mathlib.Core.Bool.{true, false, true≢false}
+use mathlib.Core.List.{List}
 use Prim.Native.Nat.{ℕ, zero, suc, _+_, _-_, _^_, _≤_, _<_}
 use native.Mathlib.Omega.{arith}
 use native.Mathlib.Decide.{decLe}
@@ -10,7 +10,7 @@ use Rattle.model.specs.Case.{Task}
 use Rattle.model.specs.Walk.{Kind, Look, closed, opened, Line, Walked, covered, failed, visits, join, walkFrom, lookAt}
 use Rattle.model.proofs.Laws.Grants.{visits-walk}
 use Rattle.judge.specs.declared.walk.Ending.{Ending}
-use Rattle.judge.specs.Walks.{Within, Ended, Counted, walkOf, Joined}
+use Rattle.judge.specs.Walks.{Within, Ended, walkOf, Joined}
 
 -- ---- one visit
 

@@ -1,5 +1,5 @@
 -- An answer of `judge` means what demand 2 says: from its contract and the theorem about the definitions. Assumes nothing.
-use mathlib.Core.Path.{_≡_, sym, ap, _∙_}
+use mathlib.Core.Path.{_≡_, sym}
 use mathlib.Core.List.{List}
 use Prim.Native.Nat.{ℕ}
 use native.Mathlib.Omega.{arith}

@@ -1,5 +1,5 @@
 -- The three demands hold of every version whose numbers are sensible, and so of version 1. Assumes nothing.
-use mathlib.Core.Path.{_≡_, refl, ap, _∙_}
+use mathlib.Core.Path.{_≡_, refl, ap}
 use mathlib.Core.List.{List}
 use Prim.Native.Nat.{ℕ, _≤_}
 use native.Mathlib.Omega.{arith}
@@ -13,7 +13,7 @@ use Rattle.model.specs.Walk.{Line}
 use Rattle.model.specs.ProblemBytes.{Problem, problem, problemOf, plan, planOf, encodeProblem, encodePlan}
 use Rattle.model.specs.ListBytes.{caseList, listOf, encodeList}
 use Rattle.model.specs.Operations.{taskOf, readTask, listFor, writeList}
-use Rattle.model.specs.WellFormed.{Bytes, ProblemOk, PlanOk, ListOk, Sensible}
+use Rattle.model.specs.WellFormed.{ProblemOk, PlanOk, ListOk, Sensible}
 use Rattle.model.specs.Demands.{Demand1, Demands}
 use Rattle.model.proofs.Laws.Reading.{answer-got}
 use Rattle.model.proofs.Laws.ProblemCodec.{problem-got, problem-ok, plan-got, plan-ok}

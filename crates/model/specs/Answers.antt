@@ -1,6 +1,5 @@
 -- The answer enums of src/lib.rt: the paper's number and values for each of their cases. The contracts of the operations are
 -- equations between these and the definitions of Operations.
-use mathlib.Core.List.{List}
 use Prim.Native.Nat.{ℕ}
 use Rattle.model.specs.Answer.{Answer, refused, answered}
 use Rattle.model.specs.Run as Run

@@ -1,9 +1,9 @@
 -- Following the lines of a case list (document 01, "Follow a list", refusals 65 to 70).
-use mathlib.Core.Bool.{Bool, true, false, cond, not}
+use mathlib.Core.Bool.{Bool, true, false, not}
 use mathlib.Core.List.{List, [], _∷_}
 use Prim.Native.Nat.{ℕ, zero, suc, _+_, _-_, _%_, _^_}
 use lib.Dec.{eqb, ltb}
-use Rattle.model.specs.Walk.{Kind, kindNumber, Look, closed, opened, Line}
+use Rattle.model.specs.Walk.{kindNumber, Look, closed, opened, Line}
 use Rattle.model.specs.Answer.{Answer, refused, answered}
 
 -- whether a case that looks so is of the kind claimed

@@ -1,12 +1,12 @@
 -- Formulas in bytes (document 01, "Blocks" and "Read a problem", refusals 14 and 17 to 21).
-use mathlib.Core.Bool.{Bool, true, false, cond, _&&_, _||_, not}
+use mathlib.Core.Bool.{Bool, cond, _&&_, _||_, not}
 use mathlib.Core.List.{List, [], _∷_, _++_}
 use Prim.Native.Nat.{ℕ, zero, suc, _+_, _-_, _*_}
-use lib.ListN.{length, getD}
+use lib.ListN.{length}
 use lib.Dec.{eqb, ltb, leb}
 use Rattle.model.specs.declared.Limits.{Limits}
 use Rattle.model.specs.Formula.{Literal, fact, denial, Formula, Formulas, lit, all, any, none, more}
-use Rattle.model.specs.Read.{Read, reject, got, Reader, _>>=_, _>>_, done, position, require, byte, bytesOf}
+use Rattle.model.specs.Read.{Read, reject, Reader, _>>=_, _>>_, done, position, require, byte, bytesOf}
 
 -- "A byte 0 to 47 is a fact; 64 to 111 is the denial of fact (byte less 64)": the bytes of the literals of the declared facts
 unfoldable pub isLiteral : ℕ → ℕ → Bool

@@ -6,7 +6,7 @@ use lib.Dec.{eqb}
 use Rattle.model.specs.declared.Limits.{Limits}
 use Rattle.model.specs.Answer.{Answer}
 use Rattle.model.specs.Walk.{Line}
-use Rattle.model.specs.Read.{got, Reader, _>>=_, _>>_, done, require, answerOf, headBytes, header, bigEndian, bytesOf, block}
+use Rattle.model.specs.Read.{Reader, _>>=_, _>>_, done, require, answerOf, headBytes, header, bigEndian, bytesOf, block}
 
 module _ (F : Limits) (s : List ℕ) where
   -- "lines of 8 bytes: kind, k, six bytes of values": the line whose first byte is at p

@@ -1,10 +1,10 @@
 -- The six public operations, each from the bytes of its arguments to its whole answer (document 01, "The operations and what they
 -- turn down").
-use mathlib.Core.Bool.{Bool, true, false, cond, _&&_}
-use mathlib.Core.List.{List, [], _∷_, _++_, map}
+use mathlib.Core.Bool.{Bool, cond, _&&_}
+use mathlib.Core.List.{List, _++_, map}
 use Prim.Native.Nat.{ℕ, _+_, _-_, _*_, _%_, _^_}
 use lib.ListN.{length, drop}
-use lib.Dec.{eqb, ltb, leb}
+use lib.Dec.{eqb, ltb}
 use Rattle.model.specs.declared.Limits.{Limits}
 use Rattle.model.specs.Answer.{Answer, refused, answered, _>>=_}
 use Rattle.model.specs.Run.{Outcome}

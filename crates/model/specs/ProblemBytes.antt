@@ -1,14 +1,14 @@
 -- Problem and plan blocks (document 01, "Blocks", "Read a problem" and "Read a plan").
-use mathlib.Core.Bool.{Bool, cond, _&&_}
-use mathlib.Core.List.{List, [], _∷_, _++_, map}
+use mathlib.Core.Bool.{cond}
+use mathlib.Core.List.{List, [], _∷_, _++_}
 use Prim.Native.Nat.{ℕ, zero, suc, _+_, _-_}
 use lib.ListN.{length, getD}
-use lib.Dec.{eqb, ltb, leb}
+use lib.Dec.{ltb, leb}
 use Rattle.model.specs.declared.Limits.{Limits}
 use Rattle.model.specs.Answer.{Answer}
 use Rattle.model.specs.Formula.{Formula, all, none}
 use Rattle.model.specs.Action.{Effect, Action}
-use Rattle.model.specs.Read.{Read, got, Reader, _>>=_, _>>_, done, position, require, answerOf, headBytes, byte, counted, header, count, block}
+use Rattle.model.specs.Read.{Read, Reader, _>>=_, _>>_, done, position, require, answerOf, headBytes, byte, counted, header, count, block}
 use Rattle.model.specs.FormulaBytes.{isLiteral, literalOf, literalByte, formula, encodeFormula}
 
 -- "A problem has facts numbered from 0, actions numbered from 0, an initial formula and a goal formula."

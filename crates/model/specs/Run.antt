@@ -1,5 +1,5 @@
 -- One run of a plan (document 01, "The store as facts").
-use mathlib.Core.Bool.{Bool, true, false, cond}
+use mathlib.Core.Bool.{Bool, true, false}
 use mathlib.Core.List.{List, [], _∷_}
 use Prim.Native.Nat.{ℕ, suc}
 use Rattle.model.specs.Kleene.{Logic}

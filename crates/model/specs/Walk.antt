@@ -1,5 +1,5 @@
 -- Cases, the walk over them, and the verdict under a grant (document 01, "Cases and the walk").
-use mathlib.Core.Bool.{Bool, true, false, cond}
+use mathlib.Core.Bool.{cond}
 use mathlib.Core.List.{List, [], _∷_, _++_}
 use Prim.Native.Nat.{ℕ, zero, suc, _+_, _-_, _^_}
 use lib.Dec.{leb}

@@ -2,7 +2,7 @@
 use mathlib.Core.Path.{_≡_, refl, sym, ap, ap₂, _∙_, subst}
 use mathlib.Core.Bool.{Bool, true, false, cond}
 use mathlib.Core.List.{List, [], _∷_, _++_}
-use Prim.Native.Nat.{ℕ, zero, suc, _+_, _-_, _*_, _/_, _<_, _≤_}
+use Prim.Native.Nat.{ℕ, zero, suc, _+_, _-_, _*_, _/_, _≤_}
 use native.Mathlib.Omega.{arith}
 use lib.Dec.{ltb, leb}
 use lib.ListN.{length, drop}
@@ -12,7 +12,7 @@ use Rattle.model.specs.Answer.{Answer, refused, answered}
 use Rattle.model.specs.Case.{Task}
 use Rattle.model.specs.Read.{block, bytesOf}
 use Rattle.model.specs.Walk.{Line, Walked, covered, failed, visits, walked, found, Verdict, right, wrong, undecided, judged}
-use Rattle.model.specs.Operations.{readTask, listBytes, linesFor, listFor, written, writeList}
+use Rattle.model.specs.Operations.{listBytes, linesFor, listFor, written, writeList}
 use Rattle.model.specs.ListBytes.{lineAt, linesFrom, linesBytes, encodeList}
 use Rattle.model.specs.WellFormed.{LineOk, Each}
 use Rattle.model.specs.DeskText.{sentence, kindText, marks, linesText, listText, deskGrant}
@@ -25,7 +25,7 @@ use Rattle.model.proofs.Laws.Lists.{follows-ok, chosen, written-answered, rest-
 use Rattle.blocks.specs.declared.plan.Task as blocks
 use Rattle.blocks.specs.Parts.{TaskAt, FindsTask}
 use Rattle.execute.proofs.Tasks.{task, read-task}
-use Rattle.report.specs.FirstLine.{lineText, verdictRest, answerRest, laterLines, Facts}
+use Rattle.report.specs.FirstLine.{lineText, verdictRest, answerRest, laterLines}
 use Rattle.report.specs.Later.{listed, tooLong, RestOf}
 use Rattle.report.specs.declared.rest.Rest.{Rest}
 use Rattle.report.specs.declared.rest.Rest.the-variants.{Nothing, TooLong, Lines}

@@ -1,5 +1,4 @@
 // The lines of the desk program's text, each from the buffer's start on; the length is returned.
-ghost use mathlib.Core.Path.{_≡_};
 ghost use Prim.Native.Nat.{_+_, _*_, _≤_, _<_};
 ghost use lib.ListN.{length};
 ghost use Rattle.model.specs.Limits.{version1};

@@ -3,13 +3,13 @@
 use mathlib.Core.Path.{_≡_, refl, sym, ap, ap₂, _∙_}
 use mathlib.Core.Bool.{Bool, true, false, _&&_, _||_, not}
 use mathlib.Core.List.{List, [], _∷_}
-use Prim.Native.Nat.{ℕ, zero, suc, _≤_, _<_, suc-le-suc}
+use Prim.Native.Nat.{ℕ, zero, suc, _<_, suc-le-suc}
 use lib.ListN.{getD}
 use native.Mathlib.Omega.{arith}
 use Rattle.model.specs.Kleene.{Kleene, No, Unknown, Yes, both, either, denied, isYes, known, Logic, two, three}
 use Rattle.model.specs.Formula.{Literal, fact, denial, Formula, Formulas, lit, all, any, none, more, valueOf, eval, evalAll, evalAny}
 use Rattle.model.specs.Action.{Action, conditionOf, tabulate, applicable, next, step}
-use Rattle.model.specs.Run.{Outcome, reached, missed, blocked, Stop, atEnd, goesOn, run}
+use Rattle.model.specs.Run.{Outcome, reached, Stop, atEnd, goesOn, run}
 
 -- ---- a run that is reached
 

@@ -1,10 +1,10 @@
 -- Document 004's solutions are the right plans: belief states and runs of single states agree, and every list of n values is a
 -- state. Assumes nothing.
-use mathlib.Core.Path.{_≡_, refl, sym, ap, _∙_, subst}
+use mathlib.Core.Path.{_≡_, sym, ap, _∙_, subst}
 use mathlib.Core.Bool.{Bool, true, false, cond}
 use mathlib.Core.Logic.{_↔_}
 use mathlib.Core.List.{List, [], _∷_}
-use Prim.Native.Nat.{ℕ, zero, suc, _+_, _-_, _*_, _/_, _%_, _^_, _≤_, _<_}
+use Prim.Native.Nat.{ℕ, zero, suc, _+_, _-_, _*_, _^_, _≤_, _<_}
 use native.Mathlib.Nat.{pow-suc, mod-eq-of-lt, mul-add-mod-self-right, mul-add-div-right, not-suc-le-zero}
 use native.Mathlib.Omega.{arith}
 use lib.ListN.{length, getD}
@@ -13,11 +13,11 @@ use lib.Dec.{eqb}
 use lib.Arith.{digits-div}
 use lib.Pow.{pow-pos, pow-add}
 use Rattle.model.specs.Kleene.{two}
-use Rattle.model.specs.Formula.{Formula, eval}
+use Rattle.model.specs.Formula.{Formula}
 use Rattle.model.specs.Action.{Action, tabulate, applicable, next, step}
 use Rattle.model.specs.Run.{reached, atEnd, goesOn, run}
 use Rattle.model.specs.Case.{bit, stateOf, Task, runOf, initially, IsStart, Right}
-use Rattle.model.specs.Belief.{Belief, Entails, Image, Solution, initialBelief}
+use Rattle.model.specs.Belief.{Belief, Image, Solution, initialBelief}
 use Rattle.model.proofs.Laws.Tabulate.{length-tabulate, getD-tabulate}
 use Rattle.model.proofs.Laws.Agreement.{goes-on-reached, at-end-reached}
 use Rattle.model.proofs.Laws.Cover.{Block, mod-of-block}

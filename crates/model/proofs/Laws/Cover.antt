@@ -12,7 +12,7 @@ use lib.Dec.{leb, eqb}
 use borrow.Author.Tests.{le-leb, lt-leb, leb-true, eq-eqb}
 use lib.Pow.{pow-add, pow-pos, shr-shr}
 use Rattle.model.specs.Case.{bit}
-use Rattle.model.specs.Walk.{Kind, empty, carries, kindNumber, Look, closed, opened, Line, Walked, covered, failed, line, join, walkFrom, walk}
+use Rattle.model.specs.Walk.{Kind, kindNumber, Look, closed, opened, Line, Walked, covered, failed, line, join, walkFrom, walk}
 use Rattle.model.specs.CaseList.{claims}
 
 -- ---- v is a multiple of what a case of k facts covers

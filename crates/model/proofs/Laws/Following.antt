@@ -2,12 +2,12 @@
 use mathlib.Core.Path.{_≡_, refl, ap, _∙_}
 use mathlib.Core.Bool.{Bool, true, false, not, false≢true}
 use mathlib.Core.List.{List, [], _∷_}
-use Prim.Native.Nat.{ℕ, zero, suc, _+_, _-_, _*_, _%_, _^_, _≤_}
+use Prim.Native.Nat.{ℕ, zero, suc, _+_, _-_, _%_, _^_, _≤_}
 use native.Mathlib.Omega.{arith}
 use lib.ListN.{length}
 use lib.Dec.{eqb, ltb}
 use borrow.Author.Tests.{ltb-false, le-ltb, eqb-true, eq-eqb, not-false}
-use Rattle.model.specs.Answer.{Answer, refused, answered}
+use Rattle.model.specs.Answer.{Answer, answered}
 use Rattle.model.specs.Walk.{Kind, empty, carries, kindNumber, Look, closed, opened, Line}
 use Rattle.model.specs.CaseList.{claims, first, refuseAt, ends, fault, follow}
 use Rattle.model.proofs.Laws.Cover.{LineHolds, Follows}

@@ -1,6 +1,5 @@
 -- Values as the code holds them: reading in bytes is reading in three values. Assumes nothing.
 use mathlib.Core.Path.{_≡_, refl, sym, ap, ap₂, _∙_, subst}
-use mathlib.Core.Bool.{Bool, true, false}
 use mathlib.Core.List.{List}
 use Prim.Native.Nat.{ℕ, zero, suc, _+_, _-_, _≤_, _<_, min, max}
 use native.Mathlib.Nat.{not-suc-le-zero}
@@ -12,7 +11,7 @@ use lib.Dec.{eqb}
 use Rattle.model.specs.Kleene.{Kleene, No, Unknown, Yes, both, either, denied, isYes, three}
 use Rattle.model.specs.Formula.{Formula, eval}
 use Rattle.model.specs.Action.{Action, tabulate, applicable, next}
-use Rattle.model.specs.Values.{firstCase, emptyState, valueByte, inBytes, Valued, Shows}
+use Rattle.model.specs.Values.{valueByte, inBytes, Valued, Shows}
 use Rattle.model.proofs.Laws.Tabulate.{getD-tabulate, getD-tabulate-past}
 use Rattle.model.proofs.Laws.Agreement.{Keeps, eval-keeps, next-keeps}
 

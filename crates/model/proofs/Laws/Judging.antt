@@ -1,22 +1,20 @@
 -- Demand 2 for the judge's definition. Assumes nothing.
 use mathlib.Core.Path.{_≡_, refl, sym, ap, _∙_, subst}
-use mathlib.Core.Bool.{Bool, true, false, cond}
-use mathlib.Core.Logic.{_↔_, _≢_}
+use mathlib.Core.Logic.{_≢_}
 use mathlib.Core.List.{List}
 use Prim.Native.Nat.{ℕ, suc, _*_, _≤_, _<_}
 use native.Mathlib.Omega.{arith}
-use native.Mathlib.Decide.{decLe}
 use lib.ListN.{length}
 use lib.Dec.{leb}
-use borrow.Author.Tests.{le-leb, lt-leb, leb-true}
+use borrow.Author.Tests.{le-leb, lt-leb}
 use Rattle.model.specs.declared.Limits.{Limits}
 use Rattle.model.specs.Answer.{answered}
-use Rattle.model.specs.Run.{Outcome, reached}
-use Rattle.model.specs.Case.{Task, runOf, IsStart, Right}
-use Rattle.model.specs.Walk.{Line, Walked, covered, failed, Verdict, right, wrong, undecided, visits, found, granted, walked, judged}
+use Rattle.model.specs.Run.{Outcome}
+use Rattle.model.specs.Case.{Task, runOf, Right}
+use Rattle.model.specs.Walk.{Line, Walked, covered, failed, Verdict, right, wrong, undecided, visits, found, walked, judged}
 use Rattle.model.specs.Operations.{readTask, lineCount, judge}
 use Rattle.model.specs.Demands.{LowestFailing, Demand2}
-use Rattle.model.proofs.Laws.Verdicts.{Means, judged-means, right-closes, larger-grant, walk-fails-first, walk-closes-right}
+use Rattle.model.proofs.Laws.Verdicts.{Means, judged-means, right-closes, larger-grant, walk-closes-right}
 use Rattle.model.proofs.Laws.Beliefs.{solution-right}
 use Rattle.model.proofs.Laws.Tasks.{judge-is}
 

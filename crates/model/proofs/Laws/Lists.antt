@@ -1,22 +1,21 @@
 -- Demand 3 for the definitions of writing and following, where what is encoded is decoded. Assumes nothing.
 use mathlib.Core.Path.{_≡_, refl, sym, ap, _∙_, subst}
 use mathlib.Core.Bool.{Bool, true, false, cond}
-use mathlib.Core.List.{List, [], _∷_, _++_}
-use Prim.Native.Nat.{ℕ, zero, suc, _+_, _-_, _*_, _/_, _^_, _≤_, _<_}
+use mathlib.Core.List.{List, [], _∷_}
+use Prim.Native.Nat.{ℕ, zero, suc, _+_, _-_, _^_, _≤_, _<_}
 use native.Mathlib.Omega.{arith}
 use lib.ListN.{length, take, drop}
 use lib.Seq.{take-at, drop-at}
 use lib.Pow.{pow-pos}
-use lib.Dec.{ltb, leb}
-use borrow.Author.Tests.{le-ltb, le-leb, ltb-false}
+use lib.Dec.{ltb}
+use borrow.Author.Tests.{le-ltb, ltb-false}
 use Rattle.model.specs.declared.Limits.{Limits}
 use Rattle.model.specs.Answer as Answer
 use Rattle.model.specs.Answer.{Answer, refused, answered}
-use Rattle.model.specs.Run.{Outcome}
-use Rattle.model.specs.Case.{Task, Right}
-use Rattle.model.specs.Walk.{Look, Line, Walked, covered, Verdict, right, wrong, undecided, visits, lookAt, walked, judged}
+use Rattle.model.specs.Case.{Task}
+use Rattle.model.specs.Walk.{Look, Line, covered, Verdict, right, wrong, undecided, visits, lookAt, walked, judged}
 use Rattle.model.specs.CaseList.{follow}
-use Rattle.model.specs.Read.{headBytes, _>>=_, _>>_, done, require}
+use Rattle.model.specs.Read.{headBytes, _>>=_, _>>_, done}
 use Rattle.model.specs.ListBytes.{linesFrom, caseList, listOf, linesBytes, encodeList}
 use Rattle.model.specs.Operations.{Written, readTask, listBytes, linesFor, written, listFor, writeList, followList}
 use Rattle.model.specs.WellFormed.{Each, LineOk, ListOk, Sensible}

@@ -1,19 +1,18 @@
 -- A task that was read is within the limits of its version, and the operations on it. Assumes nothing.
-use mathlib.Core.Path.{_≡_, refl, sym, ap, _∙_, subst}
+use mathlib.Core.Path.{_≡_, refl, subst}
 use mathlib.Core.List.{List}
 use Prim.Native.Nat.{ℕ, _≤_}
 use native.Mathlib.Omega.{arith}
-use lib.ListN.{length}
 use Rattle.model.specs.declared.Limits.{Limits}
 use Rattle.model.specs.Answer as Answer
 use Rattle.model.specs.Answer.{Answer, refused, answered}
 use Rattle.model.specs.Case.{Task}
-use Rattle.model.specs.Walk.{Verdict, judged, lookAt}
+use Rattle.model.specs.Walk.{judged, lookAt}
 use Rattle.model.specs.CaseList.{follow}
 use Rattle.model.specs.Read.{_>>=_, _>>_, done}
-use Rattle.model.specs.ProblemBytes.{Problem, ending, parts, body, problem, problemOf, planOf}
+use Rattle.model.specs.ProblemBytes.{Problem, ending, parts, body, problem, problemOf}
 use Rattle.model.specs.ListBytes.{listOf}
-use Rattle.model.specs.Operations.{taskOf, readTask, lineCount, judge, linesFor, listFor, writeList, written, followList}
+use Rattle.model.specs.Operations.{taskOf, readTask, lineCount, judge, linesFor, listFor, followList}
 use Rattle.model.proofs.Laws.Reading.{then-got, got-inj, answer-got, count-got}
 
 -- what comes after an answer

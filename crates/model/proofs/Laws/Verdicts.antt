@@ -3,7 +3,7 @@
 use mathlib.Core.Path.{_≡_, refl, sym, ap, ap₂, _∙_, subst}
 use mathlib.Core.Bool.{Bool, true, false, cond}
 use mathlib.Core.Logic.{_≢_}
-use mathlib.Core.List.{List, [], _∷_, append-nil}
+use mathlib.Core.List.{List, [], append-nil}
 use Prim.Native.Nat.{ℕ, suc, _+_, _-_, _*_, _^_, _≤_, _<_, zero-le}
 use native.Mathlib.Omega.{arith}
 use lib.Dec.{leb, ltb}
@@ -13,12 +13,11 @@ use Rattle.model.specs.Kleene.{Kleene, No, Unknown, Yes, isYes, known, t
 use Rattle.model.specs.Formula.{Formula, eval}
 use Rattle.model.specs.Action.{Action}
 use Rattle.model.specs.Run.{Outcome, reached, missed, blocked, run}
-use Rattle.model.specs.Case.{bit, stateOf, caseOf, Task, runOf, initially, IsState, IsStart, Right}
-use Rattle.model.specs.Walk.{Kind, empty, carries, kindNumber, Look, closed, opened, Line, Walked, covered, failed, visits, lookEnd, lookOf, Verdict, right, wrong, undecided, initialAt, runAt, lookAt, walked, found, granted, judged}
-use Rattle.model.specs.CaseList.{claims}
+use Rattle.model.specs.Case.{bit, stateOf, caseOf, Task, runOf, initially, Right}
+use Rattle.model.specs.Walk.{Kind, empty, carries, closed, opened, Line, Walked, covered, failed, visits, lookOf, Verdict, right, wrong, undecided, initialAt, runAt, lookAt, walked, found, granted, judged}
 use Rattle.model.specs.Demands.{LowestFailing}
 use Rattle.model.proofs.Laws.Agreement.{Along, eval-keeps, tabulate-keeps, run-keeps, run-same, Refines, same, wider, refining, refines-yes, Exact, exact, yes-exact, from-yes, from-no}
-use Rattle.model.proofs.Laws.Cover.{Block, agree, Closes, Traced, walk-traced, closes-good, FailsAt, fails-at, Hit, hit, later, each-hit, claimed, Follows, closes-follows, closes-visits, fewest, root-block, root-span, mod-of-block}
+use Rattle.model.proofs.Laws.Cover.{Block, agree, Closes, Traced, walk-traced, closes-good, fails-at, Hit, hit, later, each-hit, claimed, Follows, closes-follows, closes-visits, fewest, root-block, root-span, mod-of-block}
 
 module _ (w n : ℕ) where
   -- the state s, or the case of v, has the first k values of v

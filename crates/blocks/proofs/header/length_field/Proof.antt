@@ -1,5 +1,4 @@
 -- `length_field` meets its contract. Assumes nothing.
-use mathlib.Core.Path.{_∙_}
 use native.Mathlib.Omega.{arith}
 use Rattle.blocks.proofs.Headers.{length-field}
 use borrow.Author.Needs.{needs}

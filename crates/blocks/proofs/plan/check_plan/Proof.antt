@@ -1,6 +1,5 @@
 -- `check_plan` meets its contract. Assumes nothing.
 use mathlib.Core.Path.{_∙_, sym}
-use native.Mathlib.Omega.{arith}
 use Rattle.blocks.proofs.Steps.{plan-refused, plan-next}
 use borrow.Author.Needs.{needs}
 use Rattle.blocks.proofs.plan.check_plan.Statement.{statement}

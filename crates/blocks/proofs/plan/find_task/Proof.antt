@@ -1,6 +1,5 @@
 -- `find_task` meets its contract. Assumes nothing.
 use mathlib.Core.Path.{_∙_, sym}
-use native.Mathlib.Omega.{arith}
 use Rattle.blocks.proofs.Tasks.{finds-no-problem, finds-no-plan, five-first, finds-task}
 use borrow.Author.Needs.{needs}
 use Rattle.blocks.proofs.plan.find_task.Statement.{statement}

@@ -1,6 +1,5 @@
 -- `check_claim` meets its contract. Assumes nothing.
 use mathlib.Core.Path.{ap}
-use native.Mathlib.Omega.{arith}
 use Rattle.model.specs.Walk.{empty, carries}
 use Rattle.execute.specs.Runs.{lookIs}
 use Rattle.certificate.proofs.Following.{claim-closed, claim-open, case-as, case-valued}

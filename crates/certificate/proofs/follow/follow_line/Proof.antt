@@ -1,5 +1,5 @@
 -- `follow_line` meets its contract. Assumes nothing.
-use mathlib.Core.Path.{_≡_, _∙_, ap}
+use mathlib.Core.Path.{ap}
 use Prim.Native.Nat.{ℕ, _+_}
 use native.Mathlib.Omega.{arith}
 use Rattle.certificate.proofs.Following.{checked-fault, checked-sound, span-small, k-fits, line-claims, line-denied, line-faulty, claims-over}

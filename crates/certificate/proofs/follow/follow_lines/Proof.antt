@@ -1,6 +1,5 @@
 -- `follow_lines` meets its contract: what is left to follow answers for all. Assumes nothing.
-use mathlib.Core.Path.{_≡_, sym}
-use Prim.Native.Nat.{_-_, _≤_, _^_}
+use Prim.Native.Nat.{_-_, _≤_}
 use borrow.Author.Needs.{needs}
 use native.Mathlib.Omega.{arith}
 use Rattle.certificate.proofs.Following.{Followed-so-far, none-followed, lines-fault, lines-next, lines-short, lines-pass}

@@ -1,6 +1,5 @@
 -- `follow_list` meets its contract. Assumes nothing.
 use mathlib.Core.Path.{_∙_, sym, refl}
-use native.Mathlib.Omega.{arith}
 use Rattle.execute.proofs.Tasks.{runnable, wide-most}
 use Rattle.certificate.proofs.Following.{follow-refused, follow-header, follow-body, header-five}
 use borrow.Author.Needs.{needs}

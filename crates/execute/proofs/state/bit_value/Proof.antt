@@ -1,8 +1,6 @@
 use borrow.Author.Needs.{needs}
 use Rattle.execute.proofs.state.bit_value.Statement.{statement}
 use Rattle.execute.proofs.state.bit_value.Tie as tie
-use Rattle.execute.proofs.state.bit_value.Reads as reads
-use Rattle.execute.proofs.state.bit_value.Lts as lts
 use native.Mathlib.Omega.{arith}
 use mathlib.Core.Path.{refl}
 use Rattle.execute.proofs.Bits.{bit-byte}

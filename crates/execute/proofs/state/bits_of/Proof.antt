@@ -1,8 +1,5 @@
 use Rattle.execute.proofs.state.bits_of.Statement.{statement}
 use Rattle.execute.proofs.state.bits_of.Tie as tie
-use Rattle.execute.proofs.state.bits_of.Reads as reads
-use Rattle.execute.proofs.state.bits_of.Lts as lts
-use Rattle.execute.proofs.state.bit_value.Reads as bit-value-reads
 use borrow.Author.Needs.{needs}
 use mathlib.Core.Path.{subst}
 use Prim.Native.Nat.{_-_, _≤_}

@@ -1,10 +1,6 @@
 use borrow.Author.Needs.{needs}
 use Rattle.execute.proofs.state.state_values.Statement.{statement}
 use Rattle.execute.proofs.state.state_values.Tie as tie
-use Rattle.execute.proofs.state.state_values.Reads as reads
-use Rattle.execute.proofs.state.state_values.Lts as lts
-use Rattle.execute.proofs.state.bits_of.Reads as bits-of-reads
-use Rattle.model.proofs.Problem.empty_state.Reads as empty-state-reads
 use mathlib.Core.Path.{ap}
 use Prim.Native.Nat.{ℕ, _-_, _%_}
 use native.Mathlib.Omega.{arith}

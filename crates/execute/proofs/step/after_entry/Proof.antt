@@ -1,9 +1,6 @@
 use borrow.Author.Needs.{needs}
 use Rattle.execute.proofs.step.after_entry.Statement.{statement}
 use Rattle.execute.proofs.step.after_entry.Tie as tie
-use Rattle.execute.proofs.step.after_entry.Reads as reads
-use Rattle.execute.proofs.step.after_entry.Lts as lts
-use Rattle.execute.proofs.step.after_one.Reads as after-one-reads
 use native.Mathlib.Omega.{arith}
 
 -- src/step.rt:24:45

@@ -1,8 +1,6 @@
 use borrow.Author.Needs.{needs}
 use Rattle.execute.proofs.step.after_one.Statement.{statement}
 use Rattle.execute.proofs.step.after_one.Tie as tie
-use Rattle.execute.proofs.step.after_one.Reads as reads
-use Rattle.execute.proofs.step.after_one.Lts as lts
 use native.Mathlib.Omega.{arith}
 use mathlib.Core.Logic.{⊎-elim}
 

@@ -1,10 +1,5 @@
 use Rattle.execute.proofs.step.apply_effects.Statement.{statement}
 use Rattle.execute.proofs.step.apply_effects.Tie as tie
-use Rattle.execute.proofs.step.apply_effects.Reads as reads
-use Rattle.execute.proofs.step.apply_effects.Lts as lts
-use Rattle.execute.proofs.step.after_entry.Reads as after-entry-reads
-use Rattle.formula.proofs.eval_formula.Reads as eval-formula-reads
-use Rattle.formula.proofs.wide.Reads as wide-reads
 use borrow.Author.Needs.{needs}
 use native.Mathlib.Omega.{arith}
 use mathlib.Core.Path.{_≡_}

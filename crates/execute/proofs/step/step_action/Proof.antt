@@ -1,10 +1,6 @@
 use borrow.Author.Needs.{needs}
 use Rattle.execute.proofs.step.step_action.Statement.{statement}
 use Rattle.execute.proofs.step.step_action.Tie as tie
-use Rattle.execute.proofs.step.step_action.Reads as reads
-use Rattle.execute.proofs.step.step_action.Lts as lts
-use Rattle.execute.proofs.step.apply_effects.Reads as apply-effects-reads
-use Rattle.formula.proofs.eval_formula.Reads as eval-formula-reads
 use native.Mathlib.Omega.{arith}
 use mathlib.Core.Path.{_≡_}
 use Prim.Native.Nat.{ℕ}

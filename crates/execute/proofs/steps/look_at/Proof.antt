@@ -1,10 +1,6 @@
 use borrow.Author.Needs.{needs}
 use Rattle.execute.proofs.steps.look_at.Statement.{statement}
 use Rattle.execute.proofs.steps.look_at.Tie as tie
-use Rattle.execute.proofs.steps.look_at.Reads as reads
-use Rattle.execute.proofs.steps.look_at.Lts as lts
-use Rattle.execute.proofs.steps.run_steps.Reads as run-steps-reads
-use Rattle.formula.proofs.formula_value.Reads as formula-value-reads
 use mathlib.Core.Path.{sym, ap, _∙_}
 use Rattle.model.specs.Walk.{lookEnd}
 use Rattle.model.specs.Answers.{outcome}

@@ -1,10 +1,5 @@
 use Rattle.execute.proofs.steps.run_steps.Statement.{statement}
 use Rattle.execute.proofs.steps.run_steps.Tie as tie
-use Rattle.execute.proofs.steps.run_steps.Reads as reads
-use Rattle.execute.proofs.steps.run_steps.Lts as lts
-use Rattle.execute.proofs.step.step_action.Reads as step-action-reads
-use Rattle.formula.proofs.formula_value.Reads as formula-value-reads
-use Rattle.formula.proofs.wide.Reads as wide-reads
 use borrow.Author.Needs.{needs}
 use borrow.Author.Tests.{not-true, not-false}
 use native.Mathlib.Omega.{arith}

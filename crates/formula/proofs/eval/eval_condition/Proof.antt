@@ -1,10 +1,6 @@
 use borrow.Author.Needs.{needs}
 use Rattle.formula.proofs.eval.eval_condition.Statement.{statement}
 use Rattle.formula.proofs.eval.eval_condition.Tie as tie
-use Rattle.formula.proofs.eval.eval_condition.Reads as reads
-use Rattle.formula.proofs.eval.eval_condition.Lts as lts
-use Rattle.formula.proofs.eval.eval_outermost.Reads as eval-outermost-reads
-use Rattle.formula.proofs.eval.literal_value.Reads as literal-value-reads
 use native.Mathlib.Omega.{arith}
 use mathlib.Core.Path.{refl}
 use Rattle.model.specs.FormulaBytes.{conjunction, disjunction}

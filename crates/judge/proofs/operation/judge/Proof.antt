@@ -1,6 +1,5 @@
 -- `judge` meets its contract. Assumes nothing.
 use mathlib.Core.Path.{refl}
-use native.Mathlib.Omega.{arith}
 use Rattle.execute.proofs.Tasks.{runnable, wide-most}
 use Rattle.judge.proofs.Verdicts.{judge-refused, judge-undecided, judge-right, judge-wrong}
 use borrow.Author.Needs.{needs}

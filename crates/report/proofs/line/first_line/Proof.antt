@@ -1,6 +1,6 @@
 -- `first_line` meets its contract. Assumes nothing.
 use native.Mathlib.Omega.{arith}
-use mathlib.Core.Path.{_≡_, refl, sym, ap, _∙_}
+use mathlib.Core.Path.{sym, ap, _∙_}
 use Rattle.model.specs.Answers.{judgeAnswer}
 use Rattle.report.proofs.Puts.{put-as}
 use Rattle.report.proofs.Sentences.{first-refused, first-right, first-wrong, first-undecided}

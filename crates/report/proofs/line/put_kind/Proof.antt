@@ -1,8 +1,7 @@
 -- `put_kind` meets its contract. Assumes nothing.
 use native.Mathlib.Omega.{arith}
-use mathlib.Core.Path.{_≡_, refl, sym, ap, _∙_}
 use Rattle.model.specs.Text.{ascii}
-use Rattle.report.proofs.Puts.{_then_, put-as, number}
+use Rattle.report.proofs.Puts.{put-as}
 use Rattle.report.proofs.Sentences.{kind-none, kind-carries}
 use borrow.Author.Needs.{needs}
 use Rattle.report.proofs.line.put_kind.Statement.{statement}

@@ -1,6 +1,6 @@
 -- `put_place` meets its contract. Assumes nothing.
 use native.Mathlib.Omega.{arith}
-use mathlib.Core.Path.{_≡_, refl, sym, ap, _∙_}
+use mathlib.Core.Path.{sym, ap}
 use Rattle.model.specs.Text.{ascii}
 use Rattle.model.specs.Answers.{outcome}
 use Rattle.model.specs.declared.Outcome.{Outcome}

@@ -7,14 +7,14 @@ use Rattle.report.proofs.text.+write_decimal.Lts-write_decimal as write
 use Rattle.report.proofs.text.digit.Reads as digit-reads
 use Rattle.report.proofs.text.+write_decimal.{statement}
 use Rattle.report.proofs.text.+write_decimal.Tie.{close}
-use Prim.Native.Nat.{_-_, _≤_, _+_, _/_, _%_}
-use lib.ListN.{length, set, length-set}
-use lib.Seq.{sets, length-sets}
+use Prim.Native.Nat.{_-_, _+_}
+use lib.ListN.{length, set}
+use lib.Seq.{sets}
 use native.Mathlib.Omega.{arith}
-use mathlib.Core.Path.{sym, ap, _∙_, subst}
+use mathlib.Core.Path.{sym, ap, _∙_}
 use borrow.Author.Needs.{needs}
 use Rattle.model.specs.DeskText.{decimal}
-use Rattle.report.proofs.Decimal.{one-digit, more-digits, len-one, len-more, last-store}
+use Rattle.report.proofs.Decimal.{one-digit, len-one, len-more, last-store}
 use mathlib.Core.List.{List}
 
 abbrev μ-write-decimal : Measures 1 write-decimal-kinds.ps ℕ
