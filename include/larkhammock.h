@@ -6,7 +6,8 @@
  * for any bytes of any length.
  *
  * A slice is a pointer and then a length. A pointer is never null, also where
- * the length is 0.
+ * the length is 0. A buffer that a call writes (out) overlaps no other
+ * argument.
  */
 #ifndef LARKHAMMOCK_H
 #define LARKHAMMOCK_H

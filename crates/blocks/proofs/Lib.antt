@@ -3,4 +3,6 @@ pub mod Effects
 pub mod Steps
 pub mod Actions
 pub mod Problems
+pub mod Standing
 pub mod Tasks
+pub mod Promise

@@ -13,13 +13,15 @@ use Rattle.model.specs.Read.{Read, reject, got, andThen, _>>=_, _>>_, done, pos
 use Rattle.model.specs.ProblemBytes as bytes
 use Rattle.model.specs.ProblemBytes.{problemOf, steps, plan, planOf}
 use Rattle.model.specs.Operations.{readProblem, readPlan, readTask, taskOf}
+use Rattle.model.specs.WellFormed.{Bytes}
 use Rattle.model.proofs.Laws.Reading.{then-got, got-inj, needed}
 use Rattle.formula.specs.Readings.{nextOf}
 use Rattle.formula.specs.declared.read.Reading.the-variants.{Refused, Next}
 use Rattle.formula.proofs.Readers.{next-got, next-refused}
 use Rattle.blocks.specs.declared.problem.Found.{Found}
 use Rattle.blocks.specs.declared.plan.Task.{Task}
-use Rattle.blocks.specs.Parts.{Placed, Finds, FindsTask}
+use Rattle.blocks.specs.Parts.{Placed, Finds, TaskAt, FindsTask}
+use Rattle.blocks.proofs.Standing.{stands-found}
 
 -- ---- a plan's steps
 
@@ -90,7 +92,8 @@ module _ (s : List ℕ) (r : Found) (f : Finds s (bytes.problem version1 s 0) r)
     pub finds-no-problem :
         (t : List ℕ) (k : ℕ) →
         FindsTask s t (record { refused = true; number = r .number; place = r .place; problem = r .problem; steps = k })
-    finds-no-problem t k = record { refusal = λ z. task-refused t; found = λ z. absurd (true≢false z) }
+    finds-no-problem t k =
+        record { refusal = λ z. task-refused t; found = λ z. absurd (true≢false z); stands = λ z. absurd (true≢false z) }
 
   -- the problem that was found
   pub record Holds : Type 0 where
@@ -126,7 +129,11 @@ module _ (s : List ℕ) (r : Found) (f : Finds s (bytes.problem version1 s 0) r)
           (n q k : ℕ) → Refused n q ≡ nextOf plan-as →
           FindsTask s t (record { refused = true; number = n; place = q; problem = r .problem; steps = k })
       finds-no-plan n q k e =
-          record { refusal = λ z. task-plan-refused n q (next-refused plan-as n q (sym e)); found = λ z. absurd (true≢false z) }
+          record {
+            refusal = λ z. task-plan-refused n q (next-refused plan-as n q (sym e));
+            found = λ z. absurd (true≢false z);
+            stands = λ z. absurd (true≢false z);
+          }
 
       module _ (q : ℕ) (e : Next q ≡ nextOf plan-as) where
         pub found-plan : (bs : List ℕ) × (plan-as ≡ got bs q) × (5 ≤ length t) × Stepped t (r .problem .actions) (length t - 5) 5 bs q
@@ -142,26 +149,31 @@ module _ (s : List ℕ) (r : Found) (f : Finds s (bytes.problem version1 s 0) r)
         unfolding planOf answerOf
         plan-read p w bs a = rw (plan-is p w ∙ a)
 
-        pub finds-task :
-            FindsTask s t (record { refused = false; number = 0; place = 0; problem = r .problem; steps = q - 5 })
-        finds-task =
+        abbrev pub result : Task
+        result = record { refused = false; number = 0; place = 0; problem = r .problem; steps = q - 5 }
+
+        task-at : TaskAt s t result
+        task-at =
             let o = holds in
             let (bs, a, b, d) = found-plan in
             let w = o .placed in
             record {
+              problem = o .problem;
+              steps = bs;
+              problem-read = o .read;
+              plan-read = plan-read (o .problem) w bs a;
+              placed = w;
+              count = omega (arith, d .size, d .end);
+              fits = omega (arith, d .end);
+              step = λ i l. let k = d .step i (omega (arith, d .end)) in (k .0, omega (arith, k .1, w .actions));
+            }
+
+        pub finds-task : Bytes s → FindsTask s t result
+        finds-task b =
+            record {
               refusal = λ z. absurd (true≢false (sym z));
-              found =
-                  λ z.
-                  record {
-                    problem = o .problem;
-                    steps = bs;
-                    problem-read = o .read;
-                    plan-read = plan-read (o .problem) w bs a;
-                    placed = w;
-                    count = omega (arith, d .size, d .end);
-                    fits = omega (arith, d .end);
-                    step = λ i l. let k = d .step i (omega (arith, d .end)) in (k .0, omega (arith, k .1, w .actions));
-                  };
+              found = λ z. task-at;
+              stands = λ z. stands-found s t result b task-at;
             }
 
 -- ---- the plan beside its problem

@@ -20,6 +20,7 @@ use Rattle.formula.specs.Readings.{nextOf}
 use Rattle.blocks.specs.declared.problem.Actions.{Actions}
 use Rattle.blocks.specs.declared.problem.Found.{Found}
 use Rattle.blocks.specs.declared.plan.Task.{Task}
+use Rattle.blocks.specs.Standing.{StandsFound}
 
 -- an effect that was read from p on, with its literal's byte at p
 pub record EffectGot (s : List ℕ) (facts least p q : ℕ) : Type 0 where
@@ -81,6 +82,8 @@ pub record TaskAt (s t : List ℕ) (r : Task) : Type 0 where
   pub fits : headBytes + r .steps ≡ length t
   pub step : (i : ℕ) → i < r .steps → (getD t (headBytes + i) 0 ≡ getD steps i 0) × (getD steps i 0 < length (problem .actions))
 
+-- what is found of both; a found task is known by its bytes too, so that who runs it needs no reader
 pub record FindsTask (s t : List ℕ) (r : Task) : Type 0 where
   pub refusal : r .refused ≡ true → readTask version1 s t ≡ refused (r .number) (r .place)
   pub found : r .refused ≡ false → TaskAt s t r
+  pub stands : r .refused ≡ false → StandsFound s t r

@@ -8,6 +8,7 @@ ghost use Rattle.model.specs.Operations.{readPlan};
 ghost use Rattle.model.specs.Answers.{planAnswer};
 ghost use Rattle.formula.specs.Readings.{nextOf};
 ghost use Rattle.blocks.specs.Parts.{FindsTask};
+ghost use Rattle.blocks.specs.Promise.{PlanPromised};
 use crate::header::check_header;
 use crate::problem::find_problem;
 use formula::Reading;
@@ -86,6 +87,7 @@ pub fn find_task(problem: &[u8], plan: &[u8]) -> Task
 // Read a plan: the problem's refusal, the plan's, or its step count.
 pub fn read_plan(problem: &[u8], plan: &[u8]) -> PlanAnswer
     ensures { λ r. ⌜ planAnswer r ≡ readPlan version1 (now (problem .entry)) (now (plan .entry)) ⌝ }
+    ensures { λ r. ⌜ PlanPromised (now (problem .entry)) (now (plan .entry)) (planAnswer r) ⌝ }
 {
     let task = find_task(problem, plan);
     if task.refused {

@@ -7,6 +7,7 @@ ghost use Rattle.model.specs.ProblemBytes as bytes;
 ghost use Rattle.model.specs.Operations.{readProblem};
 ghost use Rattle.model.specs.Answers.{problemAnswer};
 ghost use Rattle.blocks.specs.Parts.{ActionsAt, Ends, Finds};
+ghost use Rattle.blocks.specs.Promise.{ProblemPromised};
 use crate::action::read_action;
 use crate::header::Counted;
 use crate::header::check_header;
@@ -149,6 +150,7 @@ pub fn find_problem(s: &[u8]) -> Found
 // Read a problem: its refusal, or its fact and action counts.
 pub fn read_problem(s: &[u8]) -> ProblemAnswer
     ensures { λ r. ⌜ problemAnswer r ≡ readProblem version1 (now (s .entry)) ⌝ }
+    ensures { λ r. ⌜ ProblemPromised (now (s .entry)) (problemAnswer r) ⌝ }
 {
     let found = find_problem(s);
     if found.refused {

@@ -5,80 +5,89 @@ use mathlib.Core.List.{List, _∷_}
 use Prim.Native.Nat.{ℕ, zero, suc, _+_, _-_, _*_, _/_, _%_, _^_, _≤_, _<_}
 use native.Mathlib.Numerals.{add-one}
 use native.Mathlib.Omega.{arith}
-use lib.ListN.{length}
+use lib.ListN.{length, take, drop, length-drop}
+use lib.Seq.{take-all}
 use lib.Dec.{eqb, ltb}
-use lib.Pow.{pow-mono}
+use lib.Pow.{pow-mono, pow-pos}
 use borrow.Author.Tests.{ltb-false, eqb-true, eq-eqb, ne-eqb, not-false}
 use Rattle.model.specs.Limits.{version1}
 use Rattle.model.specs.Answer as Answer
 use Rattle.model.specs.Answer.{Answer, refused, answered}
-use Rattle.model.specs.Read.{got, andThen, _>>_, done, require, answerOf, header}
+use Rattle.model.specs.Read.{got, andThen, _>>_, done, require, answerOf, headBytes, header}
 use Rattle.model.specs.Operations.{followList}
 use Rattle.model.specs.Answers.{followAnswer}
 use Rattle.model.specs.declared.FollowAnswer.{FollowAnswer}
 use Rattle.model.specs.declared.FollowAnswer.the-variants.{Refused as FollowRefused, Passes}
+use Rattle.model.specs.declared.Problem.{Problem}
+use Rattle.model.specs.Kleene.{three}
+use Rattle.model.specs.Formula.{eval}
+use Rattle.model.specs.Run.{run}
+use Rattle.model.specs.Case.{caseOf, Task}
+use Rattle.model.specs.Walk as model
+use Rattle.model.specs.Walk.{empty, carries, closed, opened, lookOf, lookAt}
+use Rattle.model.specs.Planes.{laneBit}
+use Rattle.model.specs.CaseList.{claims, first, refuseAt, ends, fault, follow}
+use Rattle.model.specs.ListBytes.{lineAt, linesFrom, caseList, listOf}
+use Rattle.model.proofs.Laws.Splitting.{length-case, case-first}
 use Rattle.model.proofs.Laws.Tasks.{follow-is}
 use Rattle.formula.specs.Readings.{nextOf}
 use Rattle.formula.specs.declared.read.Reading.the-variants.{Refused, Next as Reading-Next}
 use Rattle.formula.proofs.Readers.{next-got, next-refused}
 use Rattle.blocks.specs.declared.plan.Task as blocks
-use Rattle.blocks.specs.Parts.{TaskAt, FindsTask}
+use Rattle.blocks.specs.Parts.{FindsTask}
+use Rattle.blocks.specs.Standing.{TaskStands, StandsFound}
 use Rattle.blocks.proofs.Tasks.{header-length}
-use Rattle.model.specs.Case.{caseOf, Task}
-use Rattle.model.specs.Walk as model
-use Rattle.model.specs.Walk.{Kind, kindNumber, closed, opened, lookAt}
-use Rattle.model.specs.CaseList.{claims, first, refuseAt, ends, fault, follow}
-use Rattle.model.specs.ListBytes.{lineAt, linesFrom, caseList, listOf}
-use Rattle.model.specs.Values.{Valued, Shows}
-use Rattle.model.proofs.Laws.Held.{shows-valued}
-use Rattle.execute.specs.Runs.{lookIs, Looks}
-use Rattle.execute.specs.declared.steps.Look.{Look}
-use Rattle.execute.proofs.Tasks.{ready, task, read-task}
-use Rattle.judge.specs.Verdicts.{PartsOf}
-use Rattle.judge.proofs.Verdicts.{parts-of}
-use Rattle.judge.specs.declared.walk.Places.{Places}
+use Rattle.table.specs.Tables.{NoneFixed}
+use Rattle.table.specs.Cases.{SetsCase}
+use Rattle.execute.specs.declared.cases.Looks.{Looks}
+use Rattle.execute.specs.Cases.{lookBits, LooksAtCases}
 use Rattle.certificate.specs.declared.line.Line.{Line}
 use Rattle.certificate.specs.declared.line.Checked.{Checked}
 use Rattle.certificate.specs.declared.line.Checked.the-variants.{Fault as Faulty, Sound}
+use Rattle.certificate.specs.declared.follow.Parts.{Parts}
+use Rattle.certificate.specs.declared.follow.Before.{Before}
 use Rattle.certificate.specs.declared.follow.Followed.{Followed}
 use Rattle.certificate.specs.declared.follow.Followed.the-variants.{Fault, Next}
 use Rattle.certificate.specs.Lines.{lineNumber, Reads, formFault, Found, ChecksLine}
-use Rattle.certificate.specs.Follows.{TaskOver, Claims, LineIs, FollowsLine, FollowsLines, bodyAnswer, FollowsBody}
+use Rattle.certificate.specs.Follows.{Lanes, Claims, Within, LineIs, NextWithin, FollowsLine, FollowsLines, bodyAnswer, FollowsBody}
 
 -- ---- a claim
 
-look-is :
-    (s t actions : List ℕ) (at : Places) (n k v : ℕ) (values : List ℕ) (r : Look) →
-    Looks s t actions (at .initial) (at .goal) (at .steps) values r → Shows values (caseOf (version1 .width) n k v) →
-    (T : Task) → TaskOver s t actions at n T → lookAt T k v ≡ lookIs r
-unfolding lookAt
-look-is s t actions at n k v values r L h T y =
-    let z = y .stands in
-    let shows : Shows values (caseOf (T .width) (T .facts) k v) = shows-as (T .width) (sym (z .width)) (T .facts) (y .facts) in
-    sym
-    (L .is (T .facts) (T .plan) (T .goal) (T .initial) (caseOf (T .width) (T .facts) k v)
-    (ready s t actions (at .initial) (at .goal) (at .steps) T z values k v shows) (z .starting))
-  where
-    shows-as : (w : ℕ) → version1 .width ≡ w → (m : ℕ) → n ≡ m → Shows values (caseOf w m k v)
-    shows-as w e m f =
-        subst (λ (x : ℕ). Shows values (caseOf x m k v)) e (subst (λ (x : ℕ). Shows values (caseOf (version1 .width) x k v)) f h)
+look-empty : (a b : ℕ) → (a ≡ 0 → ⊥) → lookBits a b ≡ closed empty
+look-empty zero b h = absurd (h refl)
+look-empty (suc a) b h = refl
 
-module _ (s t actions : List ℕ) (at : Places) (n : ℕ) (l : Line) (values : List ℕ) (r : Look)
-    (L : Looks s t actions (at .initial) (at .goal) (at .steps) values r)
-    (h : Shows values (caseOf (version1 .width) n (l .k) (l .value))) where
-  -- a closed case is of its kind
-  pub claim-closed : (κ : Kind) → lookIs r ≡ closed κ → Claims s t actions at n l (eqb (l .kind) (kindNumber κ))
-  claim-closed κ e =
-      record { is = λ T y. sym (ap (claims (l .kind)) (look-is s t actions at n (l .k) (l .value) values r L h T y ∙ e)) }
+look-carries : (a b : ℕ) → a ≡ 0 → (b ≡ 0 → ⊥) → lookBits a b ≡ closed carries
+look-carries a zero e h = absurd (h refl)
+look-carries a (suc b) e h = rw e
 
-  pub claim-open : lookIs r ≡ opened → Claims s t actions at n l false
-  claim-open e =
-      record { is = λ T y. sym (ap (claims (l .kind)) (look-is s t actions at n (l .k) (l .value) values r L h T y ∙ e)) }
+look-open : (a b : ℕ) → a ≡ 0 → b ≡ 0 → lookBits a b ≡ opened
+look-open a b e f = rw (e, f)
 
--- the fact count as the code's wider number
-pub claims-over :
-    (s t actions : List ℕ) (at : Places) (n′ n : ℕ) (l : Line) (r : Bool) → n′ ≡ n → Claims s t actions at n′ l r → Claims s t actions at n l r
-claims-over s t actions at n′ n l r e c = subst (λ (m : ℕ). Claims s t actions at m l r) e c
+module _ (problem steps actions : List ℕ) (at : Parts) (kind : ℕ) (c : List ℕ) (r : Looks)
+    (L : LooksAtCases problem steps actions (at .initial) (at .goal) c r) where
+  look-is :
+      (T : Task) → TaskStands problem steps actions (at .initial) (at .goal) T → (k v : ℕ) → Lanes c T k v →
+      lookBits (laneBit 0 (r .empty)) (laneBit 0 (r .carries)) ≡ lookAt T k v
+  unfolding lookAt
+  look-is T S k v t =
+      L .is T S _ (λ j l. length-case (version1 .width) (T .facts) k v) t 0 (omega arith) ∙
+      ap (λ (w : ℕ). lookOf (eval three (caseOf w (T .facts) k v) (T .initial)) (run three (T .facts) (T .goal) (T .plan) 0 (caseOf w (T .facts) k v)))
+      (sym (S .width))
+
+  claim-is : (o : model.Look) → lookBits (laneBit 0 (r .empty)) (laneBit 0 (r .carries)) ≡ o → Claims problem steps actions at kind c (claims kind o)
+  claim-is o e = record { is = λ T S k v t. ap (claims kind) (sym e ∙ look-is T S k v t) }
+
+  module _ (e : ℕ) (e-is : e ≡ laneBit 0 (r .empty)) where
+    pub claim-empty : (e ≡ 0 → ⊥) → Claims problem steps actions at kind c (eqb kind 0)
+    claim-empty h = claim-is (closed empty) (look-empty _ _ (λ z. h (e-is ∙ z)))
+
+    module _ (h : e ≡ 0) (a : ℕ) (a-is : a ≡ laneBit 0 (r .carries)) where
+      pub claim-carries : (a ≡ 0 → ⊥) → Claims problem steps actions at kind c (eqb kind 1)
+      claim-carries g = claim-is (closed carries) (look-carries _ _ (sym e-is ∙ h) (λ z. g (a-is ∙ z)))
+
+      pub claim-open : a ≡ 0 → Claims problem steps actions at kind c false
+      claim-open g = claim-is opened (look-open _ _ (sym e-is ∙ h) (sym a-is ∙ g))
 
 -- ---- the faults of a line
 
@@ -138,29 +147,59 @@ module _ (list : List ℕ) (n i x : ℕ) where
         form-none _ _ _ _ _ e .0 ∙
         ap (λ (z : model.Line). first (not (claims (z .kind) (lookAt T (z .k) (z .value)))) 69 0) (sym (R .is))
 
-    module _ (s t actions : List ℕ) (at : Places) (b : Bool) (B : Claims s t actions at n r b) where
-      pub line-claims : (e′ : ℕ) → b ≡ true → e′ ≡ r .value + 2 ^ (version1 .width - r .k) → FollowsLine s t actions at n list i x (Next e′)
-      unfolding first
-      line-claims e′ h g =
-          record {
-            is =
-                λ T y. (
-                  fault-claim T ∙ ap (λ (z : Bool). first (not z) 69 0) (sym (B .is T y) ∙ h),
-                  g ∙ ap (λ (z : ℕ). z + 2 ^ (version1 .width - r .k)) begins ∙ ap (λ (z : ℕ). x + 2 ^ (version1 .width - z)) (sym k-is),
-                );
-            below = omega (arith, R .small, g, pow-mono {i = 48 - r .k} {j = 48} (omega arith));
-          }
+    fault-told :
+        (T : Task) (y z : Bool) → y ≡ claims (r .kind) (lookAt T (r .k) (r .value)) → y ≡ z →
+        fault (version1 .width) (lookAt T) n (lineNumber list i) x ≡ first (not z) 69 0
+    fault-told T y z C h = fault-claim T ∙ ap (λ (b : Bool). first (not b) 69 0) (sym C ∙ h)
 
-      pub line-denied : b ≡ false → FollowsLine s t actions at n list i x (Fault 69)
-      unfolding first
-      line-denied h =
-          record {
-            is = λ T y. (fault-claim T ∙ ap (λ (z : Bool). first (not z) 69 0) (sym (B .is T y) ∙ h), omega arith);
-            below = tt;
-          }
+    ends-at : r .value + 2 ^ (version1 .width - r .k) ≡ x + 2 ^ (version1 .width - lineNumber list i .k)
+    ends-at = ap (λ (z : ℕ). z + 2 ^ (version1 .width - r .k)) begins ∙ ap (λ (z : ℕ). x + 2 ^ (version1 .width - z)) (sym k-is)
 
-  pub line-faulty : (s t actions : List ℕ) (at : Places) (f : ℕ) → formFault (version1 .width) n (lineNumber list i) x ≡ f → 0 < f → FollowsLine s t actions at n list i x (Fault f)
-  line-faulty s t actions at f e h = record { is = λ T y. (fault-form T f e h, h); below = tt }
+-- what `check_at` answered and the table did, of the line numbered i
+module _ (problem steps actions : List ℕ) (at : Parts) (list : List ℕ) (i : ℕ) (b : Before) (c : List ℕ) where
+  pub line-faulty :
+      (f : ℕ) → formFault (version1 .width) (at .facts) (lineNumber list i) (b .end) ≡ f → 0 < f → length c ≡ 256 →
+      FollowsLine problem steps actions at list i b c (Fault f) c
+  line-faulty f e h g = record { is = λ T S m t. (fault-form list (at .facts) i (b .end) T f e h, h); within = tt; size = g }
+
+  module _ (r : Line) (e : formFault (version1 .width) (at .facts) (lineNumber list i) (b .end) ≡ 0) (R : Reads list i r) (W : Within (at .facts) b)
+      (k : ℕ) (k-as : k ≡ r .k) (d : List ℕ) (D : SetsCase c (b .k) (b .value) k (r .value) d)
+      (y : Bool) (C : Claims problem steps actions at (r .kind) d y) where
+    fits : k ≤ at .facts
+    fits = omega (arith, k-fits list (at .facts) i (b .end) r e R)
+
+    moved : (T : Task) → at .facts ≡ T .facts → Lanes c T (b .k) (b .value) → Lanes d T k (r .value)
+    moved T m t = D .is (T .facts) (omega (arith, W .k)) (omega (arith, fits)) t
+
+    told :
+        (T : Task) → TaskStands problem steps actions (at .initial) (at .goal) T → at .facts ≡ T .facts → Lanes c T (b .k) (b .value) →
+        y ≡ claims (r .kind) (lookAt T (r .k) (r .value))
+    told T S m t = C .is T S k (r .value) (moved T m t) ∙ ap (λ (z : ℕ). claims (r .kind) (lookAt T z (r .value))) k-as
+
+    pub line-claims :
+        (z : ℕ) → y ≡ true → z ≡ r .value + 2 ^ (version1 .width - r .k) →
+        FollowsLine problem steps actions at list i b c (Next (record { k = k; value = r .value; end = z })) d
+    unfolding first
+    line-claims z h g =
+        record {
+          is =
+              λ T S m t. (
+                fault-told list (at .facts) i (b .end) r e R T y true (told T S m t) h,
+                g ∙ ends-at list (at .facts) i (b .end) r e R,
+                moved T m t,
+              );
+          within = record { k = fits; value = R .small };
+          size = D .size;
+        }
+
+    pub line-denied : y ≡ false → FollowsLine problem steps actions at list i b c (Fault 69) d
+    unfolding first
+    line-denied h =
+        record {
+          is = λ T S m t. (fault-told list (at .facts) i (b .end) r e R T y false (told T S m t) h, omega arith);
+          within = tt;
+          size = D .size;
+        }
 
 -- what `check_at` answered
 pub checked-fault :
@@ -175,13 +214,6 @@ checked-sound list i n x r y l e = subst (Found list i n x) e (y .found)
 
 pub span-small : (k : ℕ) → 2 ^ (48 - k) ≤ 2 ^ 48
 span-small k = pow-mono {i = 48 - k} {j = 48} (omega arith)
-
--- the count of fixed facts as the code's wider number
-pub case-as : (values : List ℕ) (n k′ k v : ℕ) → k′ ≡ k → Shows values (caseOf (version1 .width) n k′ v) → Shows values (caseOf (version1 .width) n k v)
-case-as values n k′ k v e = subst (λ (x : ℕ). Shows values (caseOf (version1 .width) n x v)) e
-
-pub case-valued : (values : List ℕ) (n k v : ℕ) → Shows values (caseOf (version1 .width) n k v) → Valued values
-case-valued values n k v h = shows-valued values (caseOf (version1 .width) n k v) h
 
 -- ---- the lines one by one
 
@@ -217,93 +249,107 @@ module _ (w : ℕ) (look : ℕ → ℕ → model.Look) (n : ℕ) (list : List �
 
 -- ---- whole lists
 
--- i of m lines are followed: what is left answers for all
-pub record Followed-so-far (s t actions : List ℕ) (at : Places) (n : ℕ) (list : List ℕ) (m x i : ℕ) : Type 0 where
+-- i of m lines are followed, the last of them b, whose case the table c has: what is left answers for all
+pub record Followed-so-far (problem steps actions : List ℕ) (at : Parts) (list : List ℕ) (m : ℕ) (c : List ℕ) (b : Before) (i : ℕ) : Type 0 where
   pub same :
-      (T : Task) → TaskOver s t actions at n T →
-      follow (version1 .width) (lookAt T) n (linesFrom version1 list m 5) 0 0 ≡
-      follow (version1 .width) (lookAt T) n (linesFrom version1 list (m - i) (5 + 8 * i)) i x
+      (T : Task) → TaskStands problem steps actions (at .initial) (at .goal) T → at .facts ≡ T .facts →
+      (follow (version1 .width) (lookAt T) (at .facts) (linesFrom version1 list m 5) 0 0 ≡
+      follow (version1 .width) (lookAt T) (at .facts) (linesFrom version1 list (m - i) (5 + 8 * i)) i (b .end)) ×
+      Lanes c T (b .k) (b .value)
+  pub few : i ≤ m
+  pub within : Within (at .facts) b
+  pub size : length c ≡ 256
 
-module _ (s t actions : List ℕ) (at : Places) (n : ℕ) (list : List ℕ) (m : ℕ) where
-  pub none-followed : Followed-so-far s t actions at n list m 0 0
-  none-followed =
-      record { same = λ T y. ap (λ (k : ℕ). follow (version1 .width) (lookAt T) n (linesFrom version1 list k 5) 0 0) (omega arith) }
+module _ (problem steps actions : List ℕ) (at : Parts) (list : List ℕ) (m : ℕ) where
+  pub none-followed :
+      (n : ℕ) → n ≡ at .facts → (c : List ℕ) → NoneFixed n c →
+      Followed-so-far problem steps actions at list m c (record { k = 0; value = 0; end = 0 }) 0
+  none-followed n e c N =
+      record {
+        same =
+            λ T S g. (
+              ap (λ (k : ℕ). follow (version1 .width) (lookAt T) (at .facts) (linesFrom version1 list k 5) 0 0) (omega arith),
+              rw (case-first (version1 .width) (T .facts), sym g, sym e) (N .is),
+            );
+        few = omega arith;
+        within = record { k = omega arith; value = omega (arith, pow-pos 48) };
+        size = N .size;
+      }
 
-  module _ (x i : ℕ) (o : Followed-so-far s t actions at n list m x i) where
-    pub lines-fault :
-        (r : Followed) (f : ℕ) → i < m → FollowsLine s t actions at n list i x r → r ≡ Fault f →
-        FollowsLines s t actions at n list m (FollowRefused (record { number = f; place = i }))
-    lines-fault r f h y e =
+  module _ (c : List ℕ) (b : Before) (i : ℕ) (o : Followed-so-far problem steps actions at list m c b i) (r : Followed) (d : List ℕ)
+      (h : i < m) (y : FollowsLine problem steps actions at list i b c r d) where
+    pub lines-fault : (f : ℕ) → r ≡ Fault f → FollowsLines problem steps actions at list m (FollowRefused (record { number = f; place = i }))
+    lines-fault f e =
         record {
           is =
-              λ T z.
-              let (a, b) = subst (LineIs list n i x T) e (y .is T z) in
-              sym (o .same T z ∙ follow-fault (version1 .width) (lookAt T) n list (m - i) (5 + 8 * i) i x f (omega arith) a b);
+              λ T S g.
+              let (p, t) = o .same T S g in
+              let (a, l) = subst (λ (q : Followed). LineIs list (at .facts) i (b .end) T q d) e (y .is T S g t) in
+              sym (p ∙ follow-fault (version1 .width) (lookAt T) (at .facts) list (m - i) (5 + 8 * i) i (b .end) f (omega arith) a l);
         }
 
-    pub lines-next :
-        (r : Followed) (e : ℕ) → i < m → FollowsLine s t actions at n list i x r → r ≡ Next e → Followed-so-far s t actions at n list m e (i + 1)
-    lines-next r e h y g =
+    pub lines-next : (b′ : Before) → r ≡ Next b′ → Followed-so-far problem steps actions at list m d b′ (i + 1)
+    lines-next b′ e =
         record {
           same =
-              λ T z.
-              let (a, b) = subst (LineIs list n i x T) g (y .is T z) in
-              o .same T z ∙
-              follow-next (version1 .width) (lookAt T) n list (m - i) (5 + 8 * i) i x e (omega arith) a b ∙
-              at-line T (m - i - 1) (m - (i + 1)) (5 + 8 * i + 8) (5 + 8 * (i + 1)) (omega arith) (omega arith);
+              λ T S g.
+              let (p, t) = o .same T S g in
+              let (a, z, t′) = subst (λ (q : Followed). LineIs list (at .facts) i (b .end) T q d) e (y .is T S g t) in (
+                p ∙
+                    follow-next (version1 .width) (lookAt T) (at .facts) list (m - i) (5 + 8 * i) i (b .end) (b′ .end) (omega arith) a z ∙
+                    at-line T (m - i - 1) (m - (i + 1)) (5 + 8 * i + 8) (5 + 8 * (i + 1)) (omega arith) (omega arith),
+                t′,
+              );
+          few = omega arith;
+          within = subst (NextWithin (at .facts)) e (y .within);
+          size = y .size;
         }
       where
         at-line :
-            (T : Task) (a b p q : ℕ) → a ≡ b → p ≡ q →
-            follow (version1 .width) (lookAt T) n (linesFrom version1 list a p) (i + 1) e ≡
-            follow (version1 .width) (lookAt T) n (linesFrom version1 list b q) (i + 1) e
-        at-line T a b p q u v =
-            ap₂ (λ (k l : ℕ). follow (version1 .width) (lookAt T) n (linesFrom version1 list k l) (i + 1) e) u v
+            (T : Task) (u v p q : ℕ) → u ≡ v → p ≡ q →
+            follow (version1 .width) (lookAt T) (at .facts) (linesFrom version1 list u p) (i + 1) (b′ .end) ≡
+            follow (version1 .width) (lookAt T) (at .facts) (linesFrom version1 list v q) (i + 1) (b′ .end)
+        at-line T u v p q =
+            ap₂ (λ (k l : ℕ). follow (version1 .width) (lookAt T) (at .facts) (linesFrom version1 list k l) (i + 1) (b′ .end))
 
-    module _ (h : i ≤ m) (g : m ≤ i) where
-      pub lines-short : (x ≡ 2 ^ 48 → ⊥) → FollowsLines s t actions at n list m (FollowRefused (record { number = 70; place = m }))
-      lines-short d =
-          record {
-            is =
-                λ T z.
-                sym (o .same T z ∙ follow-short (version1 .width) (lookAt T) n list (m - i) (5 + 8 * i) i x (omega arith) d ∙ ap (refused 70) (omega arith));
-          }
+  module _ (c : List ℕ) (b : Before) (i : ℕ) (o : Followed-so-far problem steps actions at list m c b i) (h : m ≤ i) where
+    all-followed : i ≡ m
+    all-followed = omega (arith, o .few)
 
-      pub lines-pass : x ≡ 2 ^ 48 → FollowsLines s t actions at n list m (Passes m)
-      lines-pass d =
-          record {
-            is =
-                λ T z.
-                sym (o .same T z ∙ follow-ends (version1 .width) (lookAt T) n list (m - i) (5 + 8 * i) i x (omega arith) d ∙ ap answered (omega arith));
-          }
+    pub lines-short : (b .end ≡ 2 ^ 48 → ⊥) → FollowsLines problem steps actions at list m (FollowRefused (record { number = 70; place = m }))
+    lines-short d =
+        record {
+          is =
+              λ T S g.
+              sym (o .same T S g .0 ∙ follow-short (version1 .width) (lookAt T) (at .facts) list (m - i) (5 + 8 * i) i (b .end) (omega arith) d ∙ ap (refused 70) all-followed);
+        }
+
+    pub lines-pass : b .end ≡ 2 ^ 48 → FollowsLines problem steps actions at list m (Passes m)
+    lines-pass d =
+        record {
+          is =
+              λ T S g.
+              sym (o .same T S g .0 ∙ follow-ends (version1 .width) (lookAt T) (at .facts) list (m - i) (5 + 8 * i) i (b .end) (omega arith) d ∙ ap answered all-followed);
+        }
 
 -- ---- the block
 
-module _ (s t : List ℕ) (task : blocks.Task) (list : List ℕ) where
+module _ (problem steps : List ℕ) (parts : Problem) (list : List ℕ) where
   pub body-refused :
-      ((length list - 5) % 8 ≡ 0 → ⊥) → FollowsBody s t task list (FollowRefused (record { number = 64; place = length list }))
-  body-refused h = record { is = λ T p. rw (ne-eqb ((length list - 5) % 8) 0 h) }
-
-  abbrev pub places : Places
-  places = record { initial = task .problem .initial; goal = task .problem .goal; steps = task .steps }
+      ((length list - 5) % 8 ≡ 0 → ⊥) → FollowsBody problem steps parts list (FollowRefused (record { number = 64; place = length list }))
+  body-refused h = record { is = λ T S g. rw (ne-eqb ((length list - 5) % 8) 0 h) }
 
   pub body-lines :
       (r : FollowAnswer) → (length list - 5) % 8 ≡ 0 →
-      FollowsLines s t (task .problem .action) places (task .problem .facts) list ((length list - 5) / 8) r → FollowsBody s t task list r
-  body-lines r h y =
-      record {
-        is =
-            λ T p.
-            y .is T (record { facts = p .facts; stands = p .stands }) ∙
-            rw (eq-eqb ((length list - 5) % 8) 0 h) (over T p);
-      }
+      FollowsLines problem steps (parts .action) (record { facts = parts .facts; initial = parts .initial; goal = parts .goal }) list ((length list - 5) / 8) r →
+      FollowsBody problem steps parts list r
+  body-lines r h y = record { is = λ T S g. y .is T S g ∙ rw (eq-eqb ((length list - 5) % 8) 0 h) (over T S g) }
     where
       over :
-          (T : Task) (p : PartsOf s t (task .problem) (task .steps) T) →
-          follow (version1 .width) (lookAt T) (task .problem .facts) (linesFrom version1 list ((length list - 5) / 8) 5) 0 0 ≡
+          (T : Task) → TaskStands problem steps (parts .action) (parts .initial) (parts .goal) T → parts .facts ≡ T .facts →
+          follow (version1 .width) (lookAt T) (parts .facts) (linesFrom version1 list ((length list - 5) / 8) 5) 0 0 ≡
           follow (T .width) (lookAt T) (T .facts) (linesFrom version1 list ((length list - 5) / 8) 5) 0 0
-      over T p =
-          ap₂ (λ (w n : ℕ). follow w (lookAt T) n (linesFrom version1 list ((length list - 5) / 8) 5) 0 0) (sym (p .stands .width)) (p .facts)
+      over T S = ap₂ (λ (w n : ℕ). follow w (lookAt T) n (linesFrom version1 list ((length list - 5) / 8) 5) 0 0) (sym (S .width))
 
 -- ---- the operation
 
@@ -336,30 +382,38 @@ pub follow-refused :
 unfolding followList Answer._>>=_
 follow-refused s t list r f h = rw (f .refusal h)
 
-module _ (s t list : List ℕ) (r : blocks.Task) (o : TaskAt s t r) where
-  pub follow-header : (n q : ℕ) → Refused n q ≡ nextOf (header list 60 65533 1 0) → refused n q ≡ followList version1 s t list
-  unfolding Answer._>>=_
-  follow-header n q e =
-      sym (follow-is version1 s t (task s t r o) (read-task s t r o) list ∙ rw (list-header-refused list n q e))
+-- a plan's steps, as the code has them
+part-from : (plan : List ℕ) → take (length plan - headBytes) (drop headBytes plan) ≡ drop headBytes plan
+part-from plan = take-all (length plan - headBytes) (drop headBytes plan) (omega (arith, length-drop headBytes plan))
 
-  body-is : (q : ℕ) → Reading-Next q ≡ nextOf (header list 60 65533 1 0) → followList version1 s t list ≡ bodyAnswer (task s t r o) list
+module _ (problem plan : List ℕ) (r : blocks.Task) (o : StandsFound problem plan r) where
+  pub facts-most : r .problem .facts ≤ 48
+  facts-most = omega (arith, o .facts, o .stands .most)
+
+module _ (problem plan list : List ℕ) (r : blocks.Task) (o : StandsFound problem plan r) where
+  pub follow-header : (n q : ℕ) → Refused n q ≡ nextOf (header list 60 65533 1 0) → refused n q ≡ followList version1 problem plan list
+  unfolding Answer._>>=_
+  follow-header n q e = sym (follow-is version1 problem plan (o .task) (o .read) list ∙ rw (list-header-refused list n q e))
+
+  body-is : (q : ℕ) → Reading-Next q ≡ nextOf (header list 60 65533 1 0) → followList version1 problem plan list ≡ bodyAnswer (o .task) list
   unfolding Answer._>>=_
   body-is q e =
       let g = next-got (header list 60 65533 1 0) q (sym e) in
-      follow-is version1 s t (task s t r o) (read-task s t r o) list ∙
+      follow-is version1 problem plan (o .task) (o .read) list ∙
       rw (list-body list q (g .value) (g .is)) (by-test (eqb ((length list - 5) % 8) 0))
     where
       by-test :
           (b : Bool) →
           Answer._>>=_ (cond b (answered (linesFrom version1 list ((length list - 5) / 8) 5)) (refused 64 (length list)))
-          (λ ls. follow (task s t r o .width) (lookAt (task s t r o)) (task s t r o .facts) ls 0 0) ≡
+          (λ ls. follow (o .task .width) (lookAt (o .task)) (o .task .facts) ls 0 0) ≡
           cond b
-          (follow (task s t r o .width) (lookAt (task s t r o)) (task s t r o .facts) (linesFrom version1 list ((length list - 5) / 8) 5) 0 0)
+          (follow (o .task .width) (lookAt (o .task)) (o .task .facts) (linesFrom version1 list ((length list - 5) / 8) 5) 0 0)
           (refused 64 (length list))
       by-test true = refl
       by-test false = refl
 
   pub follow-body :
-      (u : FollowAnswer) (q : ℕ) → Reading-Next q ≡ nextOf (header list 60 65533 1 0) → FollowsBody s t r list u →
-      followAnswer u ≡ followList version1 s t list
-  follow-body u q e y = y .is (task s t r o) (parts-of s t r o) ∙ sym (body-is q e)
+      (u : FollowAnswer) (q : ℕ) → Reading-Next q ≡ nextOf (header list 60 65533 1 0) → (steps : List ℕ) →
+      steps ≡ take (length plan - headBytes) (drop headBytes plan) → FollowsBody problem steps (r .problem) list u →
+      followAnswer u ≡ followList version1 problem plan list
+  follow-body u q e steps p y = y .is (o .task) (rw (p, part-from plan) (o .stands)) (o .facts) ∙ sym (body-is q e)

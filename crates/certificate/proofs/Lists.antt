@@ -1,21 +1,20 @@
 -- A whole list, and the answer of the call that writes it. Assumes nothing.
 use mathlib.Core.Path.{_≡_, refl, sym, ap, _∙_, subst}
-use mathlib.Core.Bool.{true, false, true≢false}
+use mathlib.Core.Bool.{true}
 use mathlib.Core.List.{List, _++_}
-use Prim.Native.Nat.{ℕ, suc, _+_, _*_, _≤_, _<_}
+use Prim.Native.Nat.{ℕ, suc, _+_, _-_, _*_, _/_, _%_, _≤_, _<_}
 use native.Mathlib.Omega.{arith}
-use lib.ListN.{length, drop}
+use lib.ListN.{length, take, drop, set}
 use lib.Seq.{sets, sets-eq, length-sets}
 use borrow.Author.Tests.{lt-ltb, le-ltb}
 use Rattle.model.specs.Limits.{version1}
 use Rattle.model.specs.Answer as Answer
 use Rattle.model.specs.Answer.{Answer, refused, answered}
 use Rattle.model.specs.Case.{Task}
-use Rattle.model.specs.Walk.{Line, Walked, covered, failed, visits, walkFrom, walk, lookAt, walked, judged, found}
-use Rattle.model.specs.Read.{block}
+use Rattle.model.specs.Walk.{Line, Walked, covered, failed, visits, walked, judged, found}
+use Rattle.model.specs.Read.{headBytes, bytesOf, block}
 use Rattle.model.specs.ListBytes.{linesBytes, encodeList}
-use Rattle.model.specs.Operations.{taskOf, listBytes, linesFor, written, listFor, writeList}
-use Rattle.model.specs.Values.{Shows, firstCase}
+use Rattle.model.specs.Operations.{listBytes, linesFor, written, listFor, writeList}
 use Rattle.model.specs.declared.Problem.{Problem}
 use Rattle.model.proofs.Demands.{version1-sensible}
 use Rattle.model.proofs.Laws.Reading.{length-bytesOf}
@@ -23,17 +22,28 @@ use Rattle.model.proofs.Laws.Lists.{length-encodeList}
 use Rattle.model.proofs.Laws.Judging.{judged-in, judged-out}
 use Rattle.model.proofs.Laws.Tasks.{list-for-is}
 use Rattle.blocks.specs.declared.plan.Task as blocks
-use Rattle.blocks.specs.Parts.{TaskAt, FindsTask}
-use Rattle.execute.proofs.Tasks.{task, read-task}
+use Rattle.blocks.specs.Parts.{FindsTask}
+use Rattle.blocks.specs.Standing.{StandsFound}
+use Rattle.lines.specs.Putting.{Put, Puts}
+use Rattle.lines.proofs.Stores.{sets-append, length-lines}
 use Rattle.judge.specs.declared.walk.Ending.{Ending}
-use Rattle.judge.specs.Walks.{Within, Ended}
+use Rattle.judge.specs.declared.walk.Ending.the-variants.{Out, Failed, Closed}
+use Rattle.judge.specs.Walks.{cut, endingOf, Ended}
 use Rattle.judge.specs.Verdicts.{WalksTask}
-use Rattle.judge.proofs.Endings.{needs-more, ends-within}
-use Rattle.judge.proofs.Verdicts.{places, wholeCase, whole-at, parts-of}
-use Rattle.certificate.specs.Writing.{headOf, Put, Writes, WritesTask}
-use Rattle.certificate.proofs.Stores.{sets-append, length-lines}
+use Rattle.judge.proofs.Walking.{closed-cut, stopped-cut, out-cut, cut-closed}
+use Rattle.judge.proofs.Verdicts.{parts-of}
+use Rattle.certificate.specs.Writing.{headOf, WritesTask}
 
 -- ---- the block
+
+-- the five stores of a header
+pub header-stored :
+    (l : List ℕ) (n a b c d : ℕ) → a ≡ (n / 16777216) % 256 → b ≡ (n / 65536) % 256 → c ≡ (n / 256) % 256 → d ≡ n % 256 →
+    set (set (set (set (set l 0 1) 1 a) 2 b) 3 c) 4 d ≡ sets l 0 (headOf n)
+unfolding bytesOf
+header-stored l n a b c d p q r s =
+    let z : d ≡ (n / 1) % 256 = omega arith in
+    λ i. set (set (set (set (set l 0 1) 1 (p i)) 2 (q i)) 3 (r i)) 4 (z i)
 
 -- a header and the lines after it are the block, and the rest is as it was
 block-written :
@@ -56,23 +66,27 @@ block-written before after ls n e room h =
     sized : 0 + length (encodeList version1 ls) ≡ 5 + n
     sized = omega (arith, length-encodeList version1 version1-sensible ls)
 
-module _ (s t : List ℕ) (parts : Problem) (steps n : ℕ) (e : n ≡ parts .facts) (values : List ℕ) (size : length values ≡ 64) (h : Shows values (firstCase n)) where
-  pub writes-task :
-      (body : ℕ) (before m after : List ℕ) (r : ℕ) → 5 + body ≤ length before → m ≡ sets before 0 (headOf body) →
-      Writes s t (parts .action) (places parts steps) (wholeCase n) values m 5 r after → WritesTask s t parts steps body before after
-  unfolding walked walk
-  writes-task body before m after r room em W =
-      record {
-        is =
-            λ T p ls a w b.
-            let x : n ≡ T .facts = e ∙ p .facts in
-            let q : Put m 5 ls r after =
-            W .is T (p .stands) (whole-at s t parts steps 0 n e values size h T p) ls a
-            (ap (λ (d : ℕ). walkFrom (T .width) (lookAt T) d (lookAt T 0 0) 0 0) x ∙ w)
-            (omega (arith, ap length em, length-sets before 0 (headOf body)))
-            in
-            block-written before after ls body b room (q .bytes ∙ ap (λ (l : List ℕ). sets l 5 (linesBytes version1 ls)) em);
-      }
+-- a walk that closes within its grant laid its lines
+lays-covered :
+    (g : ℕ) (w : Walked) (r : Ending) (before : List ℕ) (to : ℕ) (after : List ℕ) → Ended g w r before to after →
+    (ls : List Line) (a : ℕ) → w ≡ covered ls a → a ≤ g → (next : ℕ) × Puts before to ls next after
+lays-covered g w Out before to after E ls a e h =
+    let z : _≡_ {A = ℕ} 0 1 = (let x = E .ending in let y = cut-closed g w ls a e h in cc) in absurd (omega arith)
+lays-covered g w (Failed x b) before to after E ls a e h =
+    let z : _≡_ {A = ℕ} 0 1 = (let x = E .ending in let y = cut-closed g w ls a e h in cc) in absurd (omega arith)
+lays-covered g w (Closed n b next) before to after E ls a e h = (next, E .lays ls a e)
+
+pub writes-task :
+    (problem steps : List ℕ) (parts : Problem) (g body : ℕ) (before m after : List ℕ) (r : Ending) → headBytes + body ≤ length before →
+    m ≡ sets before 0 (headOf body) → WalksTask problem steps parts g r m headBytes after → WritesTask problem steps parts g body before after
+writes-task problem steps parts g body before m after r room em W =
+    record {
+      is =
+          λ T p ls a w h b.
+          let (next, puts) = lays-covered g (walked T) r m headBytes after (W .is T p) ls a w h in
+          let q : Put m headBytes ls next after = puts (omega (arith, ap length em, length-sets before 0 (headOf body))) in
+          block-written before after ls body b room (q .bytes ∙ ap (λ (l : List ℕ). sets l 5 (linesBytes version1 ls)) em);
+    }
 
 -- ---- the answer
 
@@ -102,97 +116,86 @@ pub list-refused :
 unfolding listFor Answer._>>=_
 list-refused s t r f h g before = left-refused s t g before (r .number) (r .place) (rw (f .refusal h))
 
-module _ (s t : List ℕ) (r : blocks.Task) (o : TaskAt s t r) (g : ℕ) (before : List ℕ) (w : Ending) (W : WalksTask s t (r .problem) (r .steps) g w) where
+module _ (s t : List ℕ) (r : blocks.Task) (F : StandsFound s t r) (g : ℕ) (before steps : List ℕ)
+    (own : steps ≡ take (length t - headBytes) (drop headBytes t)) (w : Ending) (room : List ℕ) (to : ℕ) (full : List ℕ)
+    (W : WalksTask s steps (r .problem) g w room to full) where
   abbrev T : Task
-  T = task s t r o
+  T = F .task
 
   n≤w : T .facts ≤ T .width
-  unfolding taskOf
-  n≤w = omega (arith, o .placed .most)
+  n≤w = omega (arith, F .stands .most, F .stands .width)
 
-  ended : Ended g w (walked T)
-  ended = W .is (task s t r o) (parts-of s t r o)
+  ended : endingOf w ≡ cut g (walked T)
+  ended = W .is T (parts-of s t r F steps own) .ending
 
   for : listFor version1 s t g (length before) ≡ linesFor version1 (length before) (judged T g)
-  for = list-for-is version1 s t T (read-task s t r o) g (length before)
+  for = list-for-is version1 s t T (F .read) g (length before)
 
-  pub list-undecided : w .out ≡ true → Left s t g before (refused 50 g) before
+  found-as : (x : Walked) → walked T ≡ x → visits (walked T) ≤ g → listFor version1 s t g (length before) ≡ linesFor version1 (length before) (found T x)
+  found-as x e l = for ∙ ap (linesFor version1 (length before)) (judged-in T n≤w g x e l)
+
+  pub list-undecided : w ≡ Out → Left s t g before (refused 50 g) before
   unfolding linesFor
-  list-undecided h =
+  list-undecided e =
       left-refused s t g before 50 g
-      (for ∙ ap (linesFor version1 (length before)) (judged-out T n≤w g (needs-more g w (walked T) h ended)))
+      (for ∙ ap (linesFor version1 (length before)) (judged-out T n≤w g (out-cut g (walked T) (sym ended ∙ ap endingOf e))))
 
-  module _ (h : w .out ≡ false) where
-    -- the walk, as its ending says
-    found-as : (x : Walked) → walked T ≡ x → visits (walked T) ≤ g → listFor version1 s t g (length before) ≡ linesFor version1 (length before) (found T x)
-    found-as x e l = for ∙ ap (linesFor version1 (length before)) (judged-in T n≤w g x e l)
+  pub list-wrong : (x a : ℕ) → w ≡ Failed x a → Left s t g before (refused 51 a) before
+  unfolding linesFor
+  list-wrong x a e =
+      let (i, k) = stopped-cut g (walked T) x a (sym ended ∙ ap endingOf e) in
+      left-refused s t g before 51 a (found-as (failed x a) i (omega (arith, ap visits i)))
 
-    wrong′ : (x : Walked) → walked T ≡ x → visits (walked T) ≤ g → Within w x → w .failed ≡ true → Left s t g before (refused 51 (w .visits)) before
-    unfolding linesFor
-    wrong′ (covered ls a) e l (w₀, w₁, w₂, w₃) z = absurd (true≢false (sym z ∙ w₁))
-    wrong′ (failed x a) e l (w₀, w₁, w₂, w₃) z =
-        left-refused s t g before 51 (w .visits) (found-as (failed x a) e l ∙ ap (refused 51) (sym w₃))
-
-    pub list-wrong : w .failed ≡ true → Left s t g before (refused 51 (w .visits)) before
-    list-wrong z = let (l, y) = ends-within g w (walked T) h ended in wrong′ (walked T) refl l y z
-
+  module _ (n a next : ℕ) (e : w ≡ Closed n a next) where
     -- the lines of a right plan
     record Lines : Type 0 where
       pub lines : List Line
-      pub visited : ℕ
-      pub is : walked T ≡ covered lines visited
-      pub count : w .lines ≡ length lines
-      pub for-them : listFor version1 s t g (length before) ≡ linesFor version1 (length before) (found T (covered lines visited))
+      pub is : walked T ≡ covered lines a
+      pub count : n ≡ length lines
+      pub within : a ≤ g
+      pub for-them : listFor version1 s t g (length before) ≡ linesFor version1 (length before) (found T (covered lines a))
 
-    lines′ : (x : Walked) → walked T ≡ x → visits (walked T) ≤ g → Within w x → w .failed ≡ false → Lines
-    lines′ (covered ls a) e l (w₀, w₁, w₂, w₃) z =
-        record { lines = ls; visited = a; is = e; count = w₂; for-them = found-as (covered ls a) e l }
-    lines′ (failed x a) e l (w₀, w₁, w₂, w₃) z = absurd (true≢false (sym w₁ ∙ z))
+    lines-of : Lines
+    lines-of =
+        let (ls, i, j, k) = closed-cut g (walked T) n a (sym ended ∙ ap endingOf e) in
+        record { lines = ls; is = i; count = sym j; within = k; for-them = found-as (covered ls a) i (omega (arith, ap visits i)) }
 
-    module _ (z : w .failed ≡ false) where
-      lines-of : Lines
-      lines-of = let (l, y) = ends-within g w (walked T) h ended in lines′ (walked T) refl l y z
+    over : (ls : List Line) → n ≡ length ls → 8191 < n → linesFor version1 (length before) (found T (covered ls a)) ≡ refused 52 n
+    unfolding linesFor
+    over ls e k = let q : 8191 < length ls = omega arith in rw (lt-ltb 8191 (length ls) q) (ap (refused 52) (sym e))
 
-      over : (n : ℕ) (ls : List Line) (a : ℕ) → n ≡ length ls → 8191 < n → linesFor version1 (length before) (found T (covered ls a)) ≡ refused 52 n
-      unfolding linesFor
-      over n ls a e k = let q : 8191 < length ls = omega arith in rw (lt-ltb 8191 (length ls) q) (ap (refused 52) (sym e))
+    pub list-over : 8191 < n → Left s t g before (refused 52 n) before
+    list-over k = let x = lines-of in left-refused s t g before 52 n (x .for-them ∙ over (x .lines) (x .count) k)
 
-      pub list-over : 8191 < w .lines → Left s t g before (refused 52 (w .lines)) before
-      list-over k =
-          let x = lines-of in
-          left-refused s t g before 52 (w .lines) (x .for-them ∙ over (w .lines) (x .lines) (x .visited) (x .count) k)
+    short :
+        (ls : List Line) → n ≡ length ls → n ≤ 8191 → length before < 5 + 8 * n →
+        linesFor version1 (length before) (found T (covered ls a)) ≡ refused 53 n
+    unfolding linesFor listBytes
+    short ls e k m =
+        let q : length ls ≤ 8191 = omega arith in
+        let u : length before < 5 + 8 * length ls = omega arith in
+        rw (le-ltb 8191 (length ls) q, lt-ltb (length before) (5 + 8 * length ls) u) (ap (refused 53) (sym e))
 
-      short :
-          (n : ℕ) (ls : List Line) (a : ℕ) → n ≡ length ls → n ≤ 8191 → length before < 5 + 8 * n →
-          linesFor version1 (length before) (found T (covered ls a)) ≡ refused 53 n
-      unfolding linesFor listBytes
-      short n ls a e k m =
-          let q : length ls ≤ 8191 = omega arith in
-          let u : length before < 5 + 8 * length ls = omega arith in
-          rw (le-ltb 8191 (length ls) q, lt-ltb (length before) (5 + 8 * length ls) u) (ap (refused 53) (sym e))
+    pub list-short : n ≤ 8191 → length before < 5 + 8 * n → Left s t g before (refused 53 n) before
+    list-short k m = let x = lines-of in left-refused s t g before 53 n (x .for-them ∙ short (x .lines) (x .count) k m)
 
-      pub list-short : w .lines ≤ 8191 → length before < 5 + 8 * w .lines → Left s t g before (refused 53 (w .lines)) before
-      list-short k m =
-          let x = lines-of in
-          left-refused s t g before 53 (w .lines) (x .for-them ∙ short (w .lines) (x .lines) (x .visited) (x .count) k m)
+    fits :
+        (ls : List Line) → n ≡ length ls → n ≤ 8191 → 5 + 8 * n ≤ length before →
+        linesFor version1 (length before) (found T (covered ls a)) ≡ answered ls
+    unfolding linesFor listBytes
+    fits ls e k m =
+        let q : length ls ≤ 8191 = omega arith in
+        let u : 5 + 8 * length ls ≤ length before = omega arith in
+        rw (le-ltb 8191 (length ls) q, le-ltb (length before) (5 + 8 * length ls) u)
 
-      fits :
-          (n : ℕ) (ls : List Line) (a : ℕ) → n ≡ length ls → n ≤ 8191 → 5 + 8 * n ≤ length before →
-          linesFor version1 (length before) (found T (covered ls a)) ≡ answered ls
-      unfolding linesFor listBytes
-      fits n ls a e k m =
-          let q : length ls ≤ 8191 = omega arith in
-          let u : 5 + 8 * length ls ≤ length before = omega arith in
-          rw (le-ltb 8191 (length ls) q, le-ltb (length before) (5 + 8 * length ls) u)
-
-      pub list-written :
-          (after : List ℕ) (body size : ℕ) → w .lines ≤ 8191 → body ≡ 8 * w .lines → size ≡ 5 + body → size ≤ length before →
-          WritesTask s t (r .problem) (r .steps) body before after → Left s t g before (answered size) after
-      list-written after body size k eb es m P =
-          let x = lines-of in
-          let eq : 5 + 8 * length (x .lines) ≡ size = omega (arith, x .count) in
-          let n : 5 + 8 * length (x .lines) ≡ 5 + body = omega (arith, x .count) in
-          let f = x .for-them ∙ fits (w .lines) (x .lines) (x .visited) (x .count) k (omega arith) in
-          let p = P .is T (parts-of s t r o) (x .lines) (x .visited) (x .is) (omega (arith, x .count)) in
-          subst (λ (y : ℕ). Left s t g before (answered y) after) eq
-          (left-answered s t g before after (x .lines) f (p ∙ ap (λ (y : ℕ). encodeList version1 (x .lines) ++ drop y before) (sym n)))
+    pub list-written :
+        (after : List ℕ) (body size : ℕ) → n ≤ 8191 → body ≡ 8 * n → size ≡ 5 + body → size ≤ length before →
+        WritesTask s steps (r .problem) g body before after → Left s t g before (answered size) after
+    list-written after body size k eb es m P =
+        let x = lines-of in
+        let eq : 5 + 8 * length (x .lines) ≡ size = omega (arith, x .count) in
+        let y : 5 + 8 * length (x .lines) ≡ 5 + body = omega (arith, x .count) in
+        let f = x .for-them ∙ fits (x .lines) (x .count) k (omega arith) in
+        let p = P .is T (parts-of s t r F steps own) (x .lines) a (x .is) (x .within) (omega (arith, x .count)) in
+        subst (λ (z : ℕ). Left s t g before (answered z) after) eq
+        (left-answered s t g before after (x .lines) f (p ∙ ap (λ (z : ℕ). encodeList version1 (x .lines) ++ drop z before) (sym y)))

@@ -1,67 +1,97 @@
-// Following a case list, line by line.
+// Following a case list, line by line. A table has the case of the line before in every lane: from one line to the next only the facts in
+// which their cases differ are touched.
 ghost use mathlib.Core.Path.{_≡_};
 ghost use Prim.Native.Nat.{_+_, _*_, _≤_};
 ghost use lib.ListN.{length};
 ghost use Rattle.model.specs.Limits.{version1};
 ghost use Rattle.model.specs.Operations.{followList};
 ghost use Rattle.model.specs.Answers.{followAnswer};
-ghost use Rattle.execute.specs.Runs.{Runnable};
-ghost use Rattle.certificate.specs.Follows.{Claims, FollowsLine, FollowsLines, FollowsBody};
+ghost use Rattle.certificate.specs.Follows.{Claims, Within, FollowsLine, FollowsLines, FollowsBody};
+ghost use Rattle.certificate.specs.Promise.{FollowPromised};
 use crate::line::Checked;
-use crate::line::Line;
 use crate::line::span_of;
 use crate::reader::check_at;
-use blocks::Task;
 use blocks::check_header;
 use blocks::find_task;
-use execute::Look;
-use execute::case_values;
-use execute::look_at;
+use execute::look_at_cases;
 use formula::Reading;
-use judge::Places;
 use model::CaseList;
 use model::FollowAnswer;
 use model::Limits;
+use model::Problem;
 use model::Refusal;
+use table::lane_bit;
+use table::none_fixed;
+use table::set_case;
 
-// Whether the case of a line is of the kind that the line claims.
-fn check_claim(s: &[u8], t: &[u8], actions: &[usize; 64], at: Places, facts: usize, l: Line) -> bool
-    requires { ⌜ Runnable (now t) (at .steps) × (facts ≤ 48) × (l .k ≤ facts) ⌝ }
-    ensures { λ r. ⌜ Claims (now (s .entry)) (now (t .entry)) (now (actions .entry)) at facts l r ⌝ }
-{
-    let values = case_values(l.value, crate::wide(l.k), facts);
-    match look_at(s, t, actions, at.initial, at.goal, at.steps, values) {
-        Look::Empty => l.kind == 0,
-        Look::Carries => l.kind == 1,
-        Look::Open => false,
-    }
+// What a line is followed by: the count of facts, and where the initial formula and the goal stand.
+pub struct Parts {
+    pub facts: u8,
+    pub initial: usize,
+    pub goal: usize,
 }
 
-// What following a line gives: the number of its fault, or where it ends.
+// The line before: its case, which the table has in every lane, and where it ended.
+pub struct Before {
+    pub k: usize,
+    pub value: u64,
+    pub end: u64,
+}
+
+// Whether the case in the table, of which lane 0 tells, is of the kind claimed.
+fn check_claim(
+    problem: &[u8],
+    steps: &[u8],
+    actions: &[usize; 64],
+    at: Parts,
+    kind: u8,
+    c: &[u64; 256],
+) -> bool
+    requires { ⌜ length (now c) ≡ 256 ⌝ }
+    ensures { λ r. ⌜ Claims (now (problem .entry)) (now (steps .entry)) (now (actions .entry)) at kind (now (c .entry)) r ⌝ }
+{
+    let looks = look_at_cases(problem, steps, actions, at.initial, at.goal, c);
+    if lane_bit(looks.empty, 0) != 0 {
+        return kind == 0;
+    }
+    if lane_bit(looks.carries, 0) != 0 {
+        return kind == 1;
+    }
+    false
+}
+
+// What following a line gives: the number of its fault, or the line as the one before the next.
 pub enum Followed {
     Fault(u8),
-    Next(u64),
+    Next(Before),
 }
 
-// The line numbered `line`, where the line before ended at `end`: one look.
+// The line numbered `line`: the table goes on to its case, and one look tells.
 fn follow_line(
-    s: &[u8],
-    t: &[u8],
+    problem: &[u8],
+    steps: &[u8],
     actions: &[usize; 64],
-    at: Places,
-    facts: u8,
+    at: Parts,
     list: &[u8],
     line: usize,
-    end: u64,
+    before: Before,
+    c: &mut [u64; 256],
 ) -> Followed
-    requires { ⌜ Runnable (now t) (at .steps) × (facts ≤ 48) × (5 + 8 * line + 8 ≤ length (now list)) ⌝ }
-    ensures { λ r. ⌜ FollowsLine (now (s .entry)) (now (t .entry)) (now (actions .entry)) at facts (now (list .entry)) line end r ⌝ }
+    requires { ⌜ (at .facts ≤ 48) × Within (at .facts) before × (5 + 8 * line + 8 ≤ length (now list)) × (length (now c) ≡ 256) ⌝ }
+    ensures { λ r. ⌜ FollowsLine (now (problem .entry)) (now (steps .entry)) (now (actions .entry)) at (now (list .entry)) line before (now (c .entry)) r (now (c .exit)) ⌝ }
 {
-    match check_at(list, line, facts, end) {
+    match check_at(list, line, at.facts, before.end) {
         Checked::Fault(number) => Followed::Fault(number),
         Checked::Sound(l) => {
-            if check_claim(s, t, actions, at, crate::wide(facts), l) {
-                Followed::Next(l.value + span_of(l.k))
+            let k = crate::wide(l.k);
+            set_case(c, before.k, before.value, k, l.value);
+            if check_claim(problem, steps, actions, at, l.kind, c) {
+                let end = l.value + span_of(l.k);
+                Followed::Next(Before {
+                    k,
+                    value: l.value,
+                    end,
+                })
             } else {
                 Followed::Fault(69)
             }
@@ -69,23 +99,27 @@ fn follow_line(
     }
 }
 
-// So many lines, one after the other, with the end of what they cover so far.
+// So many lines, one after the other, from the case that fixes no fact.
 fn follow_lines(
-    s: &[u8],
-    t: &[u8],
+    problem: &[u8],
+    steps: &[u8],
     actions: &[usize; 64],
-    at: Places,
-    facts: u8,
+    at: Parts,
     list: &[u8],
     lines: usize,
 ) -> FollowAnswer
-    requires { ⌜ Runnable (now t) (at .steps) × (facts ≤ 48) × (5 + 8 * lines ≤ length (now list)) ⌝ }
-    ensures { λ r. ⌜ FollowsLines (now (s .entry)) (now (t .entry)) (now (actions .entry)) at facts (now (list .entry)) lines r ⌝ }
+    requires { ⌜ (at .facts ≤ 48) × (5 + 8 * lines ≤ length (now list)) ⌝ }
+    ensures { λ r. ⌜ FollowsLines (now (problem .entry)) (now (steps .entry)) (now (actions .entry)) at (now (list .entry)) lines r ⌝ }
 {
-    let mut end: u64 = 0;
+    let mut c = none_fixed(crate::wide(at.facts));
+    let mut before = Before {
+        k: 0,
+        value: 0,
+        end: 0,
+    };
     let mut i: usize = 0;
     while i < lines {
-        match follow_line(s, t, actions, at, facts, list, i, end) {
+        match follow_line(problem, steps, actions, at, list, i, before, &mut c) {
             Followed::Fault(number) => {
                 return FollowAnswer::Refused(Refusal {
                     number,
@@ -93,12 +127,12 @@ fn follow_lines(
                 });
             }
             Followed::Next(next) => {
-                end = next;
+                before = next;
             }
         }
         i = i + 1;
     }
-    if end != CaseList::NUMBERS {
+    if before.end != CaseList::NUMBERS {
         return FollowAnswer::Refused(Refusal {
             number: 70,
             place: lines as u64,
@@ -108,9 +142,9 @@ fn follow_lines(
 }
 
 // The lines of a list block whose header is right.
-fn follow_body(s: &[u8], t: &[u8], task: Task, list: &[u8]) -> FollowAnswer
-    requires { ⌜ Runnable (now t) (task .steps) × (task .problem .facts ≤ 48) × (5 ≤ length (now list)) ⌝ }
-    ensures { λ r. ⌜ FollowsBody (now (s .entry)) (now (t .entry)) task (now (list .entry)) r ⌝ }
+fn follow_body(problem: &[u8], steps: &[u8], parts: Problem, list: &[u8]) -> FollowAnswer
+    requires { ⌜ (parts .facts ≤ 48) × (5 ≤ length (now list)) ⌝ }
+    ensures { λ r. ⌜ FollowsBody (now (problem .entry)) (now (steps .entry)) parts (now (list .entry)) r ⌝ }
 {
     let body = list.len() - Limits::HEAD_BYTES;
     if body % CaseList::LINE_BYTES != 0 {
@@ -119,19 +153,17 @@ fn follow_body(s: &[u8], t: &[u8], task: Task, list: &[u8]) -> FollowAnswer
             place: list.len() as u64,
         });
     }
-    let parts = task.problem;
-    let at = Places {
+    let at = Parts {
+        facts: parts.facts,
         initial: parts.initial,
         goal: parts.goal,
-        steps: task.steps,
     };
     let actions = parts.action;
     follow_lines(
-        s,
-        t,
+        problem,
+        steps,
         &actions,
         at,
-        parts.facts,
         list,
         body / CaseList::LINE_BYTES,
     )
@@ -140,6 +172,7 @@ fn follow_body(s: &[u8], t: &[u8], task: Task, list: &[u8]) -> FollowAnswer
 // Follow a list: the refusals of problem and plan, 60 to 70, or the line count of a list that passes.
 pub fn follow_list(problem: &[u8], plan: &[u8], list: &[u8]) -> FollowAnswer
     ensures { λ r. ⌜ followAnswer r ≡ followList version1 (now (problem .entry)) (now (plan .entry)) (now (list .entry)) ⌝ }
+    ensures { λ r. ⌜ FollowPromised (now (problem .entry)) (now (plan .entry)) (now (list .entry)) (followAnswer r) ⌝ }
 {
     let task = find_task(problem, plan);
     if task.refused {
@@ -153,6 +186,10 @@ pub fn follow_list(problem: &[u8], plan: &[u8], list: &[u8]) -> FollowAnswer
             number,
             place: place as u64,
         }),
-        Reading::Next(_) => follow_body(problem, plan, task, list),
+        Reading::Next(_) => {
+            let from = Limits::HEAD_BYTES;
+            let parts = task.problem;
+            follow_body(problem, &plan[from..], parts, list)
+        }
     }
 }

@@ -12,6 +12,24 @@ const PROBLEM_ROOM: usize = Problem::MAX_BYTES + 1;
 
 const PLAN_ROOM: usize = Plan::MAX_BYTES + 1;
 
+// Reads until the file ends or buf is full, and returns how many bytes came. A read that fails makes the whole file count as empty.
+fn read_file(fd: i32, buf: &mut [u8]) -> usize
+    ensures { λ r. ⌜ Counts r (now (buf .exit)) ⌝ }
+{
+    let mut done: usize = 0;
+    while done < buf.len() {
+        let got = libc::read(fd, &mut buf[done..]);
+        if got < 0 {
+            return 0;
+        }
+        if got == 0 {
+            return done;
+        }
+        done = done + got as usize;
+    }
+    done
+}
+
 // Reads the file that argument i names, and returns how many bytes; with no name or no such file, none.
 fn load(i: usize, buf: &mut [u8]) -> usize
     ensures { λ r. ⌜ Counts r (now (buf .exit)) ⌝ }
@@ -19,7 +37,7 @@ fn load(i: usize, buf: &mut [u8]) -> usize
     let mut path = io::buffer();
     let n = os::arg(i, &mut path);
     let fd = os::open_read(&path[..n]);
-    let got = io::read_full(fd, buf);
+    let got = read_file(fd, buf);
     libc::close(fd);
     got
 }

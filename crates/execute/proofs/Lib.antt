@@ -1,7 +1,7 @@
 -- Laws of the definitions, for several functions' proofs.
-pub mod Entries
-pub mod Rows
-pub mod Stepping
-pub mod Running
 pub mod Bits
-pub mod Tasks
+pub mod Promise
+pub mod Settling
+pub mod Finding
+pub mod Lanes
+pub mod Starting

@@ -1,17 +1,16 @@
-// Obeying a plan on one case: one action, one run, one look. The hot path: nothing that reading established is tested again, and a
+// Obeying a plan in 64 cases at once: one action, one run, one look. The hot path: nothing that reading established is tested again, and a
 // step touches only the facts that its action names.
 
+pub mod cases;
+pub mod effects;
 pub mod operation;
-pub mod state;
-pub mod step;
-pub mod steps;
+pub mod start;
 
+pub use cases::Looks;
+pub use cases::look_at_cases;
+pub use cases::obey_action;
 use formula::wide;
 pub use operation::run;
-pub use state::Decoded;
-pub use state::case_values;
-pub use state::state_values;
-pub use step::step_action;
-pub use steps::Look;
-pub use steps::look_at;
-pub use steps::run_steps;
+pub use start::StateTable;
+pub use start::run_state;
+pub use start::state_table;

@@ -3,15 +3,18 @@ ghost use mathlib.Core.Path.{_≡_};
 ghost use Rattle.model.specs.Limits.{version1};
 ghost use Rattle.model.specs.Operations.{runState};
 ghost use Rattle.model.specs.Answers.{runAnswer};
-use crate::run_steps;
-use crate::state_values;
+ghost use Rattle.execute.specs.Promise.{RunPromised};
+use crate::run_state;
+use crate::state_table;
 use blocks::find_task;
+use model::Limits;
 use model::Refusal;
 use model::RunAnswer;
 
 // Run one state, which need not be a start state: the refusals of problem and plan, 40, or how the run ends.
 pub fn run(problem: &[u8], plan: &[u8], state: u64) -> RunAnswer
     ensures { λ r. ⌜ runAnswer r ≡ runState version1 (now (problem .entry)) (now (plan .entry)) state ⌝ }
+    ensures { λ r. ⌜ RunPromised (now (problem .entry)) (now (plan .entry)) state (runAnswer r) ⌝ }
 {
     let task = find_task(problem, plan);
     if task.refused {
@@ -21,14 +24,15 @@ pub fn run(problem: &[u8], plan: &[u8], state: u64) -> RunAnswer
         });
     }
     let parts = task.problem;
-    let decoded = state_values(state, crate::wide(parts.facts));
-    if !decoded.valid {
+    let start = state_table(state, crate::wide(parts.facts));
+    if !start.valid {
         return RunAnswer::Refused(Refusal {
             number: 40,
             place: 0,
         });
     }
     let actions = parts.action;
-    let values = decoded.values;
-    RunAnswer::Ended(run_steps(problem, plan, &actions, parts.goal, task.steps, values))
+    let table = start.table;
+    let head = Limits::HEAD_BYTES;
+    RunAnswer::Ended(run_state(problem, &plan[head..], &actions, parts.goal, table))
 }

@@ -4,4 +4,4 @@ pub mod Heads
 pub mod Items
 pub mod Bounds
 pub mod Lengths
-pub mod Values
+pub mod Evaluating

@@ -2,12 +2,12 @@
 ghost use mathlib.Core.Path.{_≡_};
 ghost use Prim.Native.Nat.{_<_};
 
-pub mod eval;
+pub mod planes;
 pub mod read;
 
-pub use eval::Valued;
-pub use eval::eval_formula;
-pub use eval::formula_value;
+pub use planes::ONES;
+pub use planes::Planes;
+pub use planes::formula_planes;
 pub use read::Reading;
 pub use read::is_literal;
 pub use read::read_formula;

@@ -1,4 +1,4 @@
-pub mod Endings
-pub mod Cases
+-- Laws of the definitions, for several functions' proofs.
+pub mod Walking
 pub mod Verdicts
 pub mod Promise

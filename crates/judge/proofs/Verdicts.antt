@@ -1,111 +1,103 @@
 -- The walk of a whole problem, and the judge's verdict. Assumes nothing.
-use mathlib.Core.Path.{_≡_, refl, sym, ap, ap₂, _∙_, subst}
+use mathlib.Core.Path.{_≡_, sym, ap, ap₂, _∙_, subst}
 use mathlib.Core.Bool.{true, false, _&&_, true≢false}
 use mathlib.Core.List.{List}
 use Prim.Native.Nat.{ℕ, _-_, _%_, _^_, _≤_}
 use native.Mathlib.Nat.{zero-mod}
 use native.Mathlib.Omega.{arith}
-use lib.ListN.{length}
+use lib.ListN.{length, take, drop, replicate, length-replicate}
 use lib.Dec.{eqb, ltb}
 use borrow.Author.Tests.{lt-ltb, eq-eqb}
 use Rattle.model.specs.Limits.{version1}
+use Rattle.model.specs.Kleene.{Kleene, Unknown}
 use Rattle.model.specs.Answer as Answer
 use Rattle.model.specs.Answer.{refused, answered}
-use Rattle.model.specs.Case.{caseOf, Task, runOf}
-use Rattle.model.specs.Walk.{Walked, covered, failed, visits, walkFrom, walk, lookAt, walked, right, wrong, undecided, judged, found}
-use Rattle.model.specs.Operations.{taskOf, readTask, isState, lineCount, judge}
+use Rattle.model.specs.Case.{caseOf, Task, runOf, IsState}
+use Rattle.model.specs.Walk.{Walked, covered, failed, visits, walkFrom, walk, lookAt, walked, right, wrong, undecided, found}
+use Rattle.model.specs.Operations.{lineCount, judge}
+use Rattle.model.specs.Read.{headBytes}
 use Rattle.model.specs.Answers.{outcome}
-use Rattle.model.specs.Values.{Valued, Shows, firstCase}
+use Rattle.model.specs.Planes.{Table}
 use Rattle.model.specs.declared.Problem.{Problem}
 use Rattle.model.specs.declared.Outcome.{Outcome}
-use Rattle.model.proofs.Laws.Tabulate.{first-case}
-use Rattle.model.proofs.Laws.Held.{shows-valued}
+use Rattle.model.proofs.Laws.Splitting.{case-first, length-case}
 use Rattle.model.proofs.Laws.Verdicts.{run-full, walk-fails-first}
 use Rattle.model.proofs.Laws.Judging.{judged-in, judged-out}
 use Rattle.model.proofs.Laws.Tasks.{judge-is}
 use Rattle.blocks.specs.declared.plan.Task as blocks
-use Rattle.blocks.specs.Parts.{TaskAt, FindsTask}
-use Rattle.execute.specs.declared.state.Decoded.{Decoded}
-use Rattle.execute.specs.States.{Decodes}
-use Rattle.execute.specs.Runs.{Runs}
-use Rattle.execute.proofs.Tasks.{ready, task, read-task, task-stands}
+use Rattle.blocks.specs.Parts.{FindsTask}
+use Rattle.blocks.specs.Standing.{StandsFound}
+use Rattle.table.specs.Tables.{NoneFixed}
+use Rattle.table.specs.Blocks.{blockCase, FixesLevels}
+use Rattle.execute.proofs.Lanes.{part-from}
+use Rattle.execute.specs.Cases.{RunsState}
+use Rattle.execute.specs.Start.{HoldsState}
+use Rattle.execute.specs.declared.start.StateTable.{StateTable}
 use Rattle.judge.specs.declared.walk.Places.{Places}
 use Rattle.judge.specs.declared.walk.Case.{Case}
 use Rattle.judge.specs.declared.walk.Ending.{Ending}
-use Rattle.judge.specs.Walks.{CaseAt, CaseFits, Within, Ended, Walks}
+use Rattle.judge.specs.declared.walk.Ending.the-variants.{Out, Failed, Closed}
+use Rattle.judge.specs.Walks.{cut, endingOf, Ended, LevelsOf, BlockFits, WalksBlock}
 use Rattle.judge.specs.Verdicts.{PartsOf, WalksTask, OutcomeOf}
-use Rattle.judge.proofs.Endings.{needs-more, ends-within}
+use Rattle.judge.proofs.Walking.{closed-cut, stopped-cut, out-cut}
 
 -- ---- the whole walk
 
-abbrev pub places : Problem → ℕ → Places
-places p steps = record { initial = p .initial; goal = p .goal; steps = steps }
+abbrev pub places : Problem → Places
+places p = record { initial = p .initial; goal = p .goal }
 
 abbrev pub wholeCase : ℕ → Case
-wholeCase n = record { k = 0; left = n; number = 0; span = 281474976710656 }
+wholeCase n = record { k = 0; left = n; number = 0 }
 
-pub whole-fits : (n : ℕ) → n ≤ 64 → CaseFits (wholeCase n)
-whole-fits n h = record { slots = omega arith; numbers = omega arith }
+pub whole-fits : (n levels : ℕ) → n ≤ 48 → LevelsOf n levels → BlockFits (wholeCase n) levels
+whole-fits n levels h L = record { fits = record { slots = omega arith; numbers = omega arith }; levels-of = L }
 
-pub first-valued : (values : List ℕ) (n : ℕ) → Shows values (firstCase n) → Valued values
-first-valued values n h = shows-valued values (firstCase n) h
-
-module _ (s t : List ℕ) (parts : Problem) (steps g n : ℕ) (e : n ≡ parts .facts) (values : List ℕ) (size : length values ≡ 64) (h : Shows values (firstCase n)) where
-  pub whole-at : (T : Task) → PartsOf s t parts steps T → CaseAt T (wholeCase n) values
-  whole-at T p =
-      let y = p .stands in
-      record {
-        left-facts = omega (arith, e, p .facts);
-        span = ap (λ (w : ℕ). 2 ^ (w - 0)) (sym (y .width));
-        begins = zero-mod (2 ^ (T .width - 0));
-        size = size;
-        fits = omega (arith, y .most);
-        shows =
-            subst (Shows values) (sym (first-case (T .width) (T .facts) 0))
-            (subst (λ (m : ℕ). Shows values (firstCase m)) (e ∙ p .facts) h);
-      }
-
-  pub walks-task :
-      (r : Ending) → Walks s t (parts .action) (places parts steps) (wholeCase n) values g r → WalksTask s t parts steps g r
-  unfolding walked walk
-  walks-task r w =
-      record {
-        counted = w .counted;
-        is =
-            λ T p.
-            subst (λ (m : ℕ). Ended g r (walked-from T m)) (e ∙ p .facts) (w .is T (p .stands) (whole-at T p));
-      }
-    where
-      walked-from : Task → ℕ → Walked
-      walked-from T m = walkFrom (T .width) (lookAt T) m (lookAt T 0 0) 0 0
+pub walks-task :
+    (problem steps : List ℕ) (parts : Problem) (g n levels : ℕ) → n ≡ parts .facts → LevelsOf n levels → (c₀ c : List ℕ) → NoneFixed n c₀ → FixesLevels c₀ 0 levels c →
+    (r : Ending) (before : List ℕ) (to : ℕ) (after : List ℕ) → WalksBlock problem steps (parts .action) (places parts) c (wholeCase n) levels g r before to after →
+    WalksTask problem steps parts g r before to after
+unfolding walked walk
+walks-task problem steps parts g n levels e L c₀ c N F r before to after W =
+    record {
+      counted = W .counted;
+      size = W .size;
+      is =
+          λ T p.
+          let i : n ≡ T .facts = e ∙ p .facts in
+          subst (λ (m : ℕ). Ended g (walkFrom (T .width) (lookAt T) m (lookAt T 0 0) 0 0) r before to after) i
+          (W .is T
+          (record {
+            stands = p .stands;
+            case-at = record { left-facts = omega arith; begins = zero-mod (2 ^ (T .width - 0)) };
+            table =
+                subst (λ (v : List Kleene). Table c (λ j. blockCase v 0 levels j)) (ap (λ (m : ℕ). replicate m Unknown) i ∙ sym (case-first (T .width) (T .facts)))
+                (F .is (replicate n Unknown) (omega (arith, L .inside, length-replicate n Unknown)) (N .is));
+          }));
+    }
 
 -- ---- the outcome of a state
 
-module _ (s t : List ℕ) (parts : Problem) (steps x n : ℕ) (e : n ≡ parts .facts) (d : Decoded) (D : Decodes x n d) where
-  valid-state : (T : Task) → PartsOf s t parts steps T → d .valid ≡ isState T x
-  unfolding isState
-  valid-state T p =
-      let y = p .stands in
+module _ (problem steps : List ℕ) (parts : Problem) (x n : ℕ) (e : n ≡ parts .facts) (d : StateTable) (D : HoldsState x n d) where
+  valid-state : (T : Task) → PartsOf problem steps parts T → IsState T x → d .valid ≡ true
+  valid-state T p st =
       D .is ∙
-      ap₂ (λ (w m : ℕ). ltb x (2 ^ w) && eqb (x % 2 ^ (w - m)) 0) (sym (y .width)) (e ∙ p .facts)
+      ap₂ (λ (w m : ℕ). ltb x (2 ^ w) && eqb (x % 2 ^ (w - m)) 0) (sym (p .stands .width)) (e ∙ p .facts) ∙
+      rw (lt-ltb x (2 ^ T .width) (st .in-width), eq-eqb (x % 2 ^ (T .width - T .facts)) 0 (st .no-bits))
 
-  pub outcome-none : (u : Outcome) → d .valid ≡ false → OutcomeOf s t parts steps x u
-  outcome-none u h = record { is = λ T p i. absurd (true≢false (sym i ∙ sym (valid-state T p) ∙ h)) }
+  pub outcome-none : (u : Outcome) → d .valid ≡ false → OutcomeOf problem steps parts x u
+  outcome-none u h = record { is = λ T p st. absurd (true≢false (sym (valid-state T p st) ∙ h)) }
 
-  shows-state : (T : Task) → PartsOf s t parts steps T → d .valid ≡ true → Shows (d .values) (caseOf (T .width) (T .facts) (T .facts) x)
-  shows-state T p h =
-      let y = p .stands in
-      subst (λ (w : ℕ). Shows (d .values) (caseOf w (T .facts) (T .facts) x)) (sym (y .width))
-      (subst (λ (m : ℕ). Shows (d .values) (caseOf (version1 .width) m m x)) (e ∙ p .facts) (D .shows h))
-
-  pub outcome-run : (u : Outcome) → Runs s t (parts .action) (parts .goal) steps (d .values) u → d .valid ≡ true → OutcomeOf s t parts steps x u
+  pub outcome-run : (u : Outcome) → RunsState problem steps (parts .action) (parts .goal) (d .table) u → OutcomeOf problem steps parts x u
   unfolding runOf
-  outcome-run u R h =
+  outcome-run u R =
       record {
         is =
-            λ T p i.
-            R .is (T .facts) (T .plan) (T .goal) (caseOf (T .width) (T .facts) (T .facts) x)
-            (ready s t (parts .action) (parts .initial) (parts .goal) steps T (p .stands) (d .values) (T .facts) x (shows-state T p h)) ∙
+            λ T p st.
+            let t : Table (d .table) (λ j. caseOf (T .width) (T .facts) (T .facts) x) =
+            subst (λ (w : ℕ). Table (d .table) (λ j. caseOf w (T .facts) (T .facts) x)) (sym (p .stands .width))
+            (subst (λ (m : ℕ). Table (d .table) (λ j. caseOf (version1 .width) m m x)) (e ∙ p .facts) (D .table (valid-state T p st)))
+            in
+            R .is (parts .initial) T (p .stands) (λ j. caseOf (T .width) (T .facts) (T .facts) x) (λ j l. length-case (T .width) (T .facts) (T .facts) x) t ∙
             run-full (T .width) (T .facts) (T .goal) (T .plan) x;
       }
 
@@ -116,56 +108,37 @@ pub judge-refused :
 unfolding judge Answer._>>=_
 judge-refused s t r f h g = rw (f .refusal h)
 
-module _ (s t : List ℕ) (r : blocks.Task) (o : TaskAt s t r) where
-  pub parts-of : PartsOf s t (r .problem) (r .steps) (task s t r o)
-  unfolding taskOf
-  parts-of = record { facts = o .placed .facts; stands = task-stands s t r o }
-
+module _ (s t : List ℕ) (r : blocks.Task) (F : StandsFound s t r) where
   abbrev T : Task
-  T = task s t r o
+  T = F .task
 
   n≤w : T .facts ≤ T .width
-  unfolding taskOf
-  n≤w = omega (arith, o .placed .most)
+  n≤w = omega (arith, F .stands .most, F .stands .width)
 
-  module _ (g : ℕ) (w : Ending) (W : WalksTask s t (r .problem) (r .steps) g w) where
-    ended : Ended g w (walked T)
-    ended = W .is (task s t r o) parts-of
+  pub few-facts : r .problem .facts ≤ 48
+  few-facts = omega (arith, F .facts, F .stands .most)
 
-    given : readTask version1 s t ≡ answered T
-    given = read-task s t r o
+  pub parts-of : (steps : List ℕ) → steps ≡ take (length t - headBytes) (drop headBytes t) → PartsOf s steps (r .problem) T
+  parts-of steps e = record { facts = F .facts; stands = rw (e, part-from) (F .stands) }
 
-    pub judge-undecided : w .out ≡ true → answered (undecided g) ≡ judge version1 s t g
-    judge-undecided h =
-        sym (judge-is version1 s t T given g ∙ ap (λ v. answered (lineCount v)) (judged-out T n≤w g (needs-more g w (walked T) h ended)))
+  module _ (g : ℕ) (steps : List ℕ) (own : steps ≡ take (length t - headBytes) (drop headBytes t)) (w : Ending) (before : List ℕ) (to : ℕ) (after : List ℕ) (W : WalksTask s steps (r .problem) g w before to after) where
+    ended : endingOf w ≡ cut g (walked T)
+    ended = W .is T (parts-of steps own) .ending
 
     judge-found : (x : Walked) → walked T ≡ x → visits (walked T) ≤ g → judge version1 s t g ≡ answered (lineCount (found T x))
-    judge-found x e h = judge-is version1 s t T given g ∙ ap (λ v. answered (lineCount v)) (judged-in T n≤w g x e h)
+    judge-found x e h = judge-is version1 s t T (F .read) g ∙ ap (λ v. answered (lineCount v)) (judged-in T n≤w g x e h)
 
-    module _ (h : w .out ≡ false) where
-      right′ : (x : Walked) → walked T ≡ x → visits (walked T) ≤ g → Within w x → w .failed ≡ false → answered (right (w .lines) (w .visits)) ≡ judge version1 s t g
-      right′ (covered ls a) e l (w₀, w₁, w₂, w₃) z = (λ i. answered (right (w₂ i) (w₃ i))) ∙ sym (judge-found (covered ls a) e l)
-      right′ (failed x a) e l (w₀, w₁, w₂, w₃) z = absurd (true≢false (sym w₁ ∙ z))
+    pub judge-undecided : w ≡ Out → answered (undecided g) ≡ judge version1 s t g
+    judge-undecided e =
+        sym (judge-is version1 s t T (F .read) g ∙ ap (λ v. answered (lineCount v)) (judged-out T n≤w g (out-cut g (walked T) (sym ended ∙ ap endingOf e))))
 
-      pub judge-right : w .failed ≡ false → answered (right (w .lines) (w .visits)) ≡ judge version1 s t g
-      judge-right z = let (l, y) = ends-within g w (walked T) h ended in right′ (walked T) refl l y z
+    pub judge-right : (lines a next : ℕ) → w ≡ Closed lines a next → answered (right lines a) ≡ judge version1 s t g
+    judge-right lines a next e =
+        let (ls, i, j, k) = closed-cut g (walked T) lines a (sym ended ∙ ap endingOf e) in
+        ap (λ (n : ℕ). answered (right n a)) (sym j) ∙ sym (judge-found (covered ls a) i (omega (arith, ap visits i)))
 
-      is-state : (x a : ℕ) → walked T ≡ failed x a → isState T x ≡ true
-      unfolding isState
-      is-state x a e =
-          let st = walk-fails-first T n≤w x a e .start .state in
-          rw (lt-ltb x (2 ^ T .width) (st .in-width), eq-eqb (x % 2 ^ (T .width - T .facts)) 0 (st .no-bits))
-
-      wrong′ :
-          (u : Outcome) → OutcomeOf s t (r .problem) (r .steps) (w .state) u → (x : Walked) → walked T ≡ x → visits (walked T) ≤ g → Within w x →
-          w .failed ≡ true → answered (wrong (w .state) (outcome u) (w .visits)) ≡ judge version1 s t g
-      wrong′ u U (covered ls a) e l (w₀, w₁, w₂, w₃) z = absurd (true≢false (sym z ∙ w₁))
-      wrong′ u U (failed x a) e l (w₀, w₁, w₂, w₃) z =
-          let i : isState T (w .state) ≡ true = ap (isState T) w₂ ∙ is-state x a e in
-          let q : outcome u ≡ runOf T x = U .is T parts-of i ∙ ap (runOf T) w₂ in
-          (λ j. answered (wrong (w₂ j) (q j) (w₃ j))) ∙ sym (judge-found (failed x a) e l)
-
-      pub judge-wrong :
-          (u : Outcome) → OutcomeOf s t (r .problem) (r .steps) (w .state) u → w .failed ≡ true →
-          answered (wrong (w .state) (outcome u) (w .visits)) ≡ judge version1 s t g
-      judge-wrong u U z = let (l, y) = ends-within g w (walked T) h ended in wrong′ u U (walked T) refl l y z
+    pub judge-wrong : (x a : ℕ) → w ≡ Failed x a → (u : Outcome) → OutcomeOf s steps (r .problem) x u → answered (wrong x (outcome u) a) ≡ judge version1 s t g
+    judge-wrong x a e u U =
+        let (i, k) = stopped-cut g (walked T) x a (sym ended ∙ ap endingOf e) in
+        let q : outcome u ≡ runOf T x = U .is T (parts-of steps own) (walk-fails-first T n≤w x a i .start .state) in
+        ap (λ o. answered (wrong x o a)) q ∙ sym (judge-found (failed x a) i (omega (arith, ap visits i)))

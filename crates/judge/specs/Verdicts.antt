@@ -3,24 +3,22 @@ use mathlib.Core.Path.{_≡_}
 use mathlib.Core.Bool.{true}
 use mathlib.Core.List.{List}
 use Prim.Native.Nat.{ℕ}
-use Rattle.model.specs.Case.{Task, runOf}
+use Rattle.model.specs.Case.{Task, runOf, IsState}
 use Rattle.model.specs.Walk.{walked}
-use Rattle.model.specs.Operations.{isState}
 use Rattle.model.specs.Answers.{outcome}
 use Rattle.model.specs.declared.Problem.{Problem}
 use Rattle.model.specs.declared.Outcome.{Outcome}
-use Rattle.execute.specs.Tasks.{Stands}
+use Rattle.blocks.specs.Standing.{TaskStands}
 use Rattle.judge.specs.declared.walk.Ending.{Ending}
-use Rattle.judge.specs.Walks.{Ended, Counted}
+use Rattle.judge.specs.Walks.{Walks}
 
--- the task T stands in the blocks s and t, where `parts` says
-pub record PartsOf (s t : List ℕ) (parts : Problem) (steps : ℕ) (T : Task) : Type 0 where
+-- the task T stands in the blocks, where `parts` says
+pub record PartsOf (problem steps : List ℕ) (parts : Problem) (T : Task) : Type 0 where
   pub facts : parts .facts ≡ T .facts
-  pub stands : Stands s t (parts .action) (parts .initial) (parts .goal) steps T
+  pub stands : TaskStands problem steps (parts .action) (parts .initial) (parts .goal) T
 
-pub record WalksTask (s t : List ℕ) (parts : Problem) (steps g : ℕ) (r : Ending) : Type 0 where
-  pub counted : Counted g r
-  pub is : (T : Task) → PartsOf s t parts steps T → Ended g r (walked T)
+abbrev pub WalksTask : List ℕ → List ℕ → Problem → ℕ → Ending → List ℕ → ℕ → List ℕ → Type 0
+WalksTask problem steps parts g r before to after = Walks (PartsOf problem steps parts) walked g r before to after
 
-pub record OutcomeOf (s t : List ℕ) (parts : Problem) (steps x : ℕ) (r : Outcome) : Type 0 where
-  pub is : (T : Task) → PartsOf s t parts steps T → isState T x ≡ true → outcome r ≡ runOf T x
+pub record OutcomeOf (problem steps : List ℕ) (parts : Problem) (x : ℕ) (r : Outcome) : Type 0 where
+  pub is : (T : Task) → PartsOf problem steps parts T → IsState T x → outcome r ≡ runOf T x

@@ -1,70 +1,152 @@
--- What the walk answers.
+-- What the walk answers, whatever it walks over: blocks of cases in the lanes of a table.
 use mathlib.Core.Path.{_≡_}
-use mathlib.Core.Bool.{true, false}
+use mathlib.Core.Bool.{cond}
 use mathlib.Core.List.{List}
-use Prim.Native.Nat.{ℕ, suc, _+_, _-_, _%_, _^_, _≤_, _<_}
+use Prim.Native.Nat.{ℕ, suc, _+_, _*_, _-_, _%_, _^_, _≤_, _<_}
 use lib.ListN.{length}
+use lib.Dec.{leb}
 use Rattle.model.specs.Limits.{version1}
+use Rattle.model.specs.Kleene.{Kleene, three}
+use Rattle.model.specs.Formula.{eval}
+use Rattle.model.specs.Run.{run}
 use Rattle.model.specs.Case.{caseOf, Task}
-use Rattle.model.specs.Walk.{Walked, covered, failed, visits, join, walkFrom, lookAt}
-use Rattle.model.specs.Values.{Shows}
-use Rattle.execute.specs.Tasks.{Stands}
+use Rattle.model.specs.Walk.{Line, Walked, covered, failed, join, walkFrom, lookOf, lookAt}
+use Rattle.model.specs.Planes.{laneBit, Table}
+use Rattle.blocks.specs.Standing.{TaskStands}
+use Rattle.table.specs.Blocks.{blockCase}
+use Rattle.lines.specs.Putting.{Puts}
+use Rattle.execute.specs.Cases.{lookBits}
 use Rattle.judge.specs.declared.walk.Places.{Places}
 use Rattle.judge.specs.declared.walk.Case.{Case}
+use Rattle.judge.specs.declared.walk.Block.{Block}
 use Rattle.judge.specs.declared.walk.Ending.{Ending}
+use Rattle.judge.specs.declared.walk.Ending.the-variants.{Out, Failed, Closed}
 
--- a case of T, and its values
-pub record CaseAt (T : Task) (case : Case) (values : List ℕ) : Type 0 where
-  pub left-facts : case .k + case .left ≡ T .facts
-  pub span : case .span ≡ 2 ^ (T .width - case .k)
-  pub begins : case .number % 2 ^ (T .width - case .k) ≡ 0
-  pub size : length values ≡ 64
-  pub fits : T .facts ≤ 64
-  pub shows : Shows values (caseOf (T .width) (T .facts) (case .k) (case .number))
+-- ---- how a walk ends
 
--- no number of a case leaves the code's range
-pub record CaseFits (case : Case) : Type 0 where
-  pub slots : case .k + case .left ≤ 64
-  pub numbers : case .number + case .span ≤ 2 ^ version1 .width
+-- a walk cut at a grant: out of visits; at a failing state, with the visits; or closed, with the lines and the visits
+pub data Cut : Type 0 where
+  out : Cut
+  stopped closed : ℕ → ℕ → Cut
 
--- an ending within the grant
-abbrev pub Within : Ending → Walked → Type 0
-Within r (covered ls a) = (r .out ≡ false) × (r .failed ≡ false) × (r .lines ≡ length ls) × (r .visits ≡ a)
-Within r (failed x a) = (r .out ≡ false) × (r .failed ≡ true) × (r .state ≡ x) × (r .visits ≡ a)
+abbrev pub cut : ℕ → Walked → Cut
+cut g (covered ls a) = cond (leb a g) (closed (length ls) a) out
+cut g (failed s a) = cond (leb a g) (stopped s a) out
 
--- how a walk ends under a grant of g visits
-pub record Ended (g : ℕ) (r : Ending) (w : Walked) : Type 0 where
-  pub within : visits w ≤ g → Within r w
-  pub beyond : g < visits w → r .out ≡ true
+abbrev pub endingOf : Ending → Cut
+endingOf Out = out
+endingOf (Failed s a) = stopped s a
+endingOf (Closed n a next) = closed n a
+
+-- the lines of a walk that closed stand in the buffer from `to` on, if they fit
+abbrev pub Lays : Walked → Ending → List ℕ → ℕ → List ℕ → Type 0
+Lays w Out before to after = Unit {0}
+Lays w (Failed s a) before to after = Unit {0}
+Lays w (Closed n a next) before to after = (ls : List Line) (b : ℕ) → w ≡ covered ls b → Puts before to ls next after
+
+pub record Ended (g : ℕ) (w : Walked) (r : Ending) (before : List ℕ) (to : ℕ) (after : List ℕ) : Type 0 where
+  pub ending : endingOf r ≡ cut g w
+  pub lays : Lays w r before to after
 
 -- what may be added up, whatever stands in the blocks
-pub record Counted (g : ℕ) (r : Ending) : Type 0 where
-  pub visits-le : r .visits ≤ g
-  pub lines-le : r .lines ≤ r .visits
+abbrev pub Counted : ℕ → Ending → Type 0
+Counted g Out = Unit {0}
+Counted g (Failed s a) = a ≤ g
+Counted g (Closed n a next) = (a ≤ g) × (n ≤ a)
+
+-- the walk w of every task that is given so
+pub record Walks (Given : Task → Type 0) (w : Task → Walked) (g : ℕ) (r : Ending) (before : List ℕ) (to : ℕ) (after : List ℕ) : Type 0 where
+  pub counted : Counted g r
+  pub size : length after ≡ length before
+  pub is : (T : Task) → Given T → Ended g (w T) r before to after
+
+-- ---- a case and its block
 
 -- the walk from (k, v), with d facts still open
 abbrev pub walkOf : Task → ℕ → ℕ → ℕ → Walked
 walkOf T d k v = walkFrom (T .width) (lookAt T) d (lookAt T k v) k v
 
-pub record Walks (s t actions : List ℕ) (at : Places) (case : Case) (values : List ℕ) (g : ℕ) (r : Ending) : Type 0 where
-  pub counted : Counted g r
-  pub is :
-      (T : Task) → Stands s t actions (at .initial) (at .goal) (at .steps) T → CaseAt T case values →
-      Ended g r (walkOf T (case .left) (case .k) (case .number))
+-- no number of a case leaves the code's range
+pub record CaseFits (case : Case) : Type 0 where
+  pub slots : case .k + case .left ≤ version1 .facts
+  pub numbers : case .number + 2 ^ (version1 .width - case .k) ≤ 2 ^ version1 .width
 
--- the two parts of an open case
-pub record Splits (s t actions : List ℕ) (at : Places) (case : Case) (values : List ℕ) (g : ℕ) (r : Ending) : Type 0 where
-  pub counted : Counted (g + 1) r
-  pub is :
-      (T : Task) → Stands s t actions (at .initial) (at .goal) (at .steps) T → CaseAt T case values →
-      Ended (g + 1) r
-      (join (walkOf T (case .left - 1) (suc (case .k)) (case .number))
-      (walkOf T (case .left - 1) (suc (case .k)) (case .number + 2 ^ (T .width - suc (case .k)))))
+-- a case of T
+pub record CaseAt (T : Task) (case : Case) : Type 0 where
+  pub left-facts : case .k + case .left ≡ T .facts
+  pub begins : case .number % 2 ^ (T .width - case .k) ≡ 0
 
--- both parts' endings, put together
-pub record Joined (left right r : Ending) : Type 0 where
-  pub out : r .out ≡ right .out
-  pub failed : r .failed ≡ right .failed
-  pub state : r .state ≡ right .state
-  pub lines : r .lines ≡ left .lines + right .lines
-  pub visits : r .visits ≡ left .visits + right .visits + 1
+abbrev pub valuesOf : Task → Case → List Kleene
+valuesOf T case = caseOf (T .width) (T .facts) (case .k) (case .number)
+
+pub record LevelsOf (left r : ℕ) : Type 0 where
+  pub few : r ≤ 5
+  pub inside : r ≤ left
+  pub some : 0 < left → 0 < r
+
+pub record BlockFits (case : Case) (levels : ℕ) : Type 0 where
+  pub fits : CaseFits case
+  pub levels-of : LevelsOf (case .left) levels
+
+-- T stands in the blocks, and c is the table of the case's block
+pub record BlockAt (problem steps actions : List ℕ) (at : Places) (c : List ℕ) (case : Case) (levels : ℕ) (T : Task) : Type 0 where
+  pub stands : TaskStands problem steps actions (at .initial) (at .goal) T
+  pub case-at : CaseAt T case
+  pub table : Table c (λ j. blockCase (valuesOf T case) (case .k) levels j)
+
+abbrev pub WalksBlock : List ℕ → List ℕ → List ℕ → Places → List ℕ → Case → ℕ → ℕ → Ending → List ℕ → ℕ → List ℕ → Type 0
+WalksBlock problem steps actions at c case levels g r before to after =
+    Walks (BlockAt problem steps actions at c case levels) (λ T. walkOf T (case .left) (case .k) (case .number)) g r before to after
+
+-- ---- a lane of a block that was looked at
+
+pub record NodeFits (b : Block) (case : Case) (lane : ℕ) : Type 0 where
+  pub fits : CaseFits case
+  pub few : b .levels ≤ 5
+  pub inside : b .first + b .levels ≤ case .k + case .left
+  pub below-first : b .first ≤ case .k
+  pub within : case .k ≤ b .first + b .levels
+  pub lane-from : 2 ^ (case .k - b .first) ≤ lane
+  pub lane-to : lane < 2 ^ suc (case .k - b .first)
+
+-- what the block's words say of each lane's case is what a visit finds there, and this lane's case is `case`
+pub record NodeAt (problem steps actions : List ℕ) (at : Places) (c : List ℕ) (b : Block) (case : Case) (lane : ℕ) (T : Task) : Type 0 where
+  pub stands : TaskStands problem steps actions (at .initial) (at .goal) T
+  pub case-at : CaseAt T case
+  pub root : List Kleene
+  pub sized : length root ≡ T .facts
+  pub table : Table c (λ j. blockCase root (b .first) (b .levels) j)
+  pub looked :
+      (j : ℕ) → j < 64 →
+      lookBits (laneBit j (b .empty)) (laneBit j (b .carries)) ≡
+      lookOf (eval three (blockCase root (b .first) (b .levels) j) (T .initial))
+      (run three (T .facts) (T .goal) (T .plan) 0 (blockCase root (b .first) (b .levels) j))
+  pub lane-is : blockCase root (b .first) (b .levels) lane ≡ valuesOf T case
+
+abbrev pub WalksNode : List ℕ → List ℕ → List ℕ → Places → List ℕ → Block → Case → ℕ → ℕ → Ending → List ℕ → ℕ → List ℕ → Type 0
+WalksNode problem steps actions at c b case lane g r before to after =
+    Walks (NodeAt problem steps actions at c b case lane) (λ T. walkOf T (case .left) (case .k) (case .number)) g r before to after
+
+-- the two parts of an open case, and its own visit
+abbrev pub WalksParts : List ℕ → List ℕ → List ℕ → Places → List ℕ → Block → Case → ℕ → ℕ → Ending → List ℕ → ℕ → List ℕ → Type 0
+WalksParts problem steps actions at c b case lane g r before to after =
+    Walks (NodeAt problem steps actions at c b case lane)
+    (λ T.
+    join (walkOf T (case .left - 1) (suc (case .k)) (case .number))
+    (walkOf T (case .left - 1) (suc (case .k)) (case .number + 2 ^ (T .width - suc (case .k)))))
+    (g + 1) r before to after
+
+-- ---- a split case
+
+abbrev pub Addable : ℕ → ℕ → Ending → Type 0
+Addable lines visits Out = Unit {0}
+Addable lines visits (Failed s a) = visits + a + 1 < 2 ^ 64
+Addable lines visits (Closed n a next) = (visits + a + 1 < 2 ^ 64) × (lines + n < 2 ^ 64)
+
+abbrev pub joins : ℕ → ℕ → Ending → Ending
+joins lines visits Out = Out
+joins lines visits (Failed s a) = Failed s (visits + a + 1)
+joins lines visits (Closed n a next) = Closed (lines + n) (visits + a + 1) next
+
+abbrev pub Joins : ℕ → ℕ → Ending → Ending → Type 0
+Joins lines visits second r = r ≡ joins lines visits second

@@ -6,7 +6,4 @@ pub mod walk;
 use formula::wide;
 pub use operation::judge;
 pub use operation::walk_task;
-pub use walk::Case;
 pub use walk::Ending;
-pub use walk::Places;
-pub use walk::walk_case;

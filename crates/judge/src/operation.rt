@@ -4,60 +4,90 @@ ghost use Prim.Native.Nat.{_≤_};
 ghost use Rattle.model.specs.Limits.{version1};
 ghost use Rattle.model.specs.Operations as operations;
 ghost use Rattle.model.specs.Answers.{judgeAnswer};
-ghost use Rattle.execute.specs.Runs.{Runnable};
+ghost use Rattle.judge.specs.Walks.{LevelsOf};
 ghost use Rattle.judge.specs.Verdicts.{WalksTask, OutcomeOf};
+ghost use Rattle.judge.specs.Promise.{JudgePromised};
 use crate::walk::Case;
 use crate::walk::Ending;
 use crate::walk::Places;
-use crate::walk::walk_case;
+use crate::walk::walk_block;
 use blocks::find_task;
-use execute::run_steps;
-use execute::state_values;
-use model::CaseList;
+use execute::run_state;
+use execute::state_table;
 use model::JudgeAnswer;
+use model::Limits;
 use model::Outcome;
 use model::Problem;
 use model::Refusal;
+use table::fix_levels;
+use table::none_fixed;
 
-// The walk of a whole problem, from the case that fixes no fact.
-pub fn walk_task(s: &[u8], t: &[u8], parts: Problem, steps: usize, grant: u64) -> Ending
-    requires { ⌜ Runnable (now t) steps × (parts .facts ≤ version1 .facts) ⌝ }
-    ensures { λ r. ⌜ WalksTask (now (s .entry)) (now (t .entry)) parts steps grant r ⌝ }
+// The levels of the first block: the odd ones, so that all blocks below it are full.
+fn first_levels(facts: usize) -> usize
+    ensures { λ r. ⌜ LevelsOf facts r ⌝ }
+{
+    if facts == 0 { 0 } else { (facts - 1) % 5 + 1 }
+}
+
+// The walk of a whole problem, from the case that fixes no fact, with its lines from `to` on.
+pub fn walk_task(
+    problem: &[u8],
+    steps: &[u8],
+    parts: Problem,
+    grant: u64,
+    out: &mut [u8],
+    to: usize,
+) -> Ending
+    requires { ⌜ parts .facts ≤ version1 .facts ⌝ }
+    ensures { λ r. ⌜ WalksTask (now (problem .entry)) (now (steps .entry)) parts grant r (now (out .entry)) to (now (out .exit)) ⌝ }
 {
     let facts = crate::wide(parts.facts);
     let at = Places {
         initial: parts.initial,
         goal: parts.goal,
-        steps,
     };
     let first = Case {
         k: 0,
         left: facts,
         number: 0,
-        span: CaseList::NUMBERS,
     };
     let actions = parts.action;
-    walk_case(s, t, &actions, at, first, Problem::first_case(facts), grant)
+    let levels = first_levels(facts);
+    let mut c = none_fixed(facts);
+    fix_levels(&mut c, 0, levels);
+    walk_block(
+        problem,
+        steps,
+        &actions,
+        at,
+        &c,
+        first,
+        levels,
+        grant,
+        out,
+        to,
+    )
 }
 
 // How the run of the state numbered `state` ends. (A number that is no state misses; the walk names none.)
-fn outcome_of(s: &[u8], t: &[u8], parts: Problem, steps: usize, state: u64) -> Outcome
-    requires { ⌜ Runnable (now t) steps × (parts .facts ≤ version1 .facts) ⌝ }
-    ensures { λ r. ⌜ OutcomeOf (now (s .entry)) (now (t .entry)) parts steps state r ⌝ }
+fn outcome_of(problem: &[u8], steps: &[u8], parts: Problem, state: u64) -> Outcome
+    requires { ⌜ parts .facts ≤ version1 .facts ⌝ }
+    ensures { λ r. ⌜ OutcomeOf (now (problem .entry)) (now (steps .entry)) parts state r ⌝ }
 {
-    let decoded = state_values(state, crate::wide(parts.facts));
-    if !decoded.valid {
+    let start = state_table(state, crate::wide(parts.facts));
+    if !start.valid {
         return Outcome::Missed;
     }
-    let values = decoded.values;
+    let table = start.table;
     let actions = parts.action;
-    run_steps(s, t, &actions, parts.goal, steps, values)
+    run_state(problem, steps, &actions, parts.goal, table)
 }
 
 // Judge with a grant: the refusals of problem and plan; right with lines and visits; wrong with the lowest failing start state, its
-// outcome and visits; or undecided with visits equal to the grant.
+// outcome and visits; or undecided with visits equal to the grant. The walk has no room for a line, so it counts them.
 pub fn judge(problem: &[u8], plan: &[u8], grant: u64) -> JudgeAnswer
     ensures { λ r. ⌜ judgeAnswer r ≡ operations.judge version1 (now (problem .entry)) (now (plan .entry)) grant ⌝ }
+    ensures { λ r. ⌜ JudgePromised (now (problem .entry)) (now (plan .entry)) grant (judgeAnswer r) ⌝ }
 {
     let task = find_task(problem, plan);
     if task.refused {
@@ -67,20 +97,22 @@ pub fn judge(problem: &[u8], plan: &[u8], grant: u64) -> JudgeAnswer
         });
     }
     let parts = task.problem;
-    let end = walk_task(problem, plan, parts, task.steps, grant);
-    if end.out {
-        return JudgeAnswer::Undecided { visits: grant };
-    }
-    if end.failed {
-        let outcome = outcome_of(problem, plan, parts, task.steps, end.state);
-        return JudgeAnswer::Wrong {
-            state: end.state,
-            outcome,
-            visits: end.visits,
-        };
-    }
-    JudgeAnswer::Right {
-        lines: end.lines,
-        visits: end.visits,
+    let head = Limits::HEAD_BYTES;
+    let mut room = [0u8; 1];
+    match walk_task(problem, &plan[head..], parts, grant, &mut room, 0) {
+        Ending::Out => JudgeAnswer::Undecided { visits: grant },
+        Ending::Failed { state, visits } => {
+            let outcome = outcome_of(problem, &plan[head..], parts, state);
+            JudgeAnswer::Wrong {
+                state,
+                outcome,
+                visits,
+            }
+        }
+        Ending::Closed {
+            lines,
+            visits,
+            next: _,
+        } => JudgeAnswer::Right { lines, visits },
     }
 }

@@ -1,145 +1,277 @@
-// The walk over cases: it recurses on the facts still open, with the grant that is left going in and the visits coming out.
-ghost use Prim.Native.Nat.{_+_, _≤_, _<_};
-ghost use Rattle.model.specs.Values.{Valued};
-ghost use Rattle.execute.specs.Runs.{Runnable};
-ghost use Rattle.judge.specs.Walks.{CaseFits, Walks, Splits, Joined};
-use execute::Look;
-use execute::look_at;
-use model::Values;
+// The walk over cases, for judging and for writing alike. A block is a case and the cases of its next five facts, looked at in one pass; the
+// walk goes through it depth first, and an open case at its edge begins a block of its own. The grant that is left goes in, the visits come
+// out, and each closed case is a line in the buffer, where that has room.
+ghost use mathlib.Core.Path.{_≡_};
+ghost use Prim.Native.Nat.{suc, _+_, _-_, _^_, _<_};
+ghost use lib.ListN.{length};
+ghost use Rattle.model.specs.Limits.{version1};
+ghost use Rattle.judge.specs.Walks.{LevelsOf, BlockFits, NodeFits, WalksBlock, WalksNode, WalksParts, Addable, Joins};
+use execute::look_at_cases;
+use lines::add_line;
+use model::CaseList;
+use table::fix_levels;
+use table::fix_path;
+use table::lane_bit;
 
-// Where the formulas of a problem stand, and how many steps its plan has.
+// What a line claims of its case.
+const EMPTY: u8 = 0;
+
+const CARRIES: u8 = 1;
+
+// Where the formulas of a problem stand.
 pub struct Places {
     pub initial: usize,
     pub goal: usize,
-    pub steps: usize,
 }
 
-// A case: it fixes the first k facts to the top bits of `number`, leaves `left` more open, and covers `span` numbers.
+// A case: it fixes the first k facts to the top bits of `number`, and leaves `left` more open.
 pub struct Case {
     pub k: usize,
     pub left: usize,
     pub number: u64,
-    pub span: u64,
 }
 
-// How the walk of a case ended: out of visits, at a failing start state, or with every case closed, a line for each.
-pub struct Ending {
-    pub out: bool,
-    pub failed: bool,
-    pub state: u64,
-    pub lines: u64,
-    pub visits: u64,
+// How the walk of a case ended: out of visits, at a failing start state, or with every case closed, a line for each; `next` is the
+// position after the lines that were written.
+pub enum Ending {
+    Out,
+    Failed {
+        state: u64,
+        visits: u64,
+    },
+    Closed {
+        lines: u64,
+        visits: u64,
+        next: usize,
+    },
 }
 
-// A split case: one visit, and those of its parts. Where the second part fails or runs out, so does the whole.
-fn joined(left: Ending, right: Ending) -> Ending
-    requires { ⌜ (left .lines ≤ left .visits) × (right .lines ≤ right .visits) × (left .visits + right .visits < 18446744073709551615) ⌝ }
-    ensures { λ r. ⌜ Joined left right r ⌝ }
+// A block that was looked at: its case fixes `first` facts, it has so many levels below, and these lanes are empty or carry.
+pub struct Block {
+    pub first: usize,
+    pub levels: usize,
+    pub empty: u64,
+    pub carries: u64,
+}
+
+// The levels of a block below a case that leaves so many facts open.
+fn levels_of(left: usize) -> usize
+    ensures { λ r. ⌜ LevelsOf left r ⌝ }
 {
-    Ending {
-        out: right.out,
-        failed: right.failed,
-        state: right.state,
-        lines: left.lines + right.lines,
-        visits: left.visits + right.visits + 1,
+    if left < 5 { left } else { 5 }
+}
+
+// A split case whose first part closed with so many lines and visits: one visit, and those of its parts.
+fn joined(lines: u64, visits: u64, second: Ending) -> Ending
+    requires { ⌜ Addable lines visits second ⌝ }
+    ensures { λ r. ⌜ Joins lines visits second r ⌝ }
+{
+    match second {
+        Ending::Out => Ending::Out,
+        Ending::Failed {
+            state,
+            visits: more,
+        } => Ending::Failed {
+            state,
+            visits: visits + more + 1,
+        },
+        Ending::Closed {
+            lines: others,
+            visits: more,
+            next,
+        } => Ending::Closed {
+            lines: lines + others,
+            visits: visits + more + 1,
+            next,
+        },
     }
 }
 
-// The walk from a case whose values these are.
-pub fn walk_case(
-    s: &[u8],
-    t: &[u8],
+// Half of what a case covers that fixes k facts.
+fn half_of(k: usize) -> u64
+    requires { ⌜ k < version1 .width ⌝ }
+    ensures { λ r. ⌜ r ≡ 2 ^ (version1 .width - suc k) ⌝ }
+{
+    CaseList::NUMBERS >> (k + 1)
+}
+
+// The walk from a case whose block this table is.
+pub fn walk_block(
+    problem: &[u8],
+    steps: &[u8],
     actions: &[usize; 64],
     at: Places,
+    c: &[u64; 256],
     case: Case,
-    values: Values,
+    levels: usize,
     grant: u64,
+    out: &mut [u8],
+    to: usize,
 ) -> Ending
-    requires { ⌜ Runnable (now t) (at .steps) × Valued values × CaseFits case ⌝ }
-    ensures { λ r. ⌜ Walks (now (s .entry)) (now (t .entry)) (now (actions .entry)) at case values grant r ⌝ }
+    requires { ⌜ (length (now c) ≡ 256) × BlockFits case levels ⌝ }
+    ensures { λ r. ⌜ WalksBlock (now (problem .entry)) (now (steps .entry)) (now (actions .entry)) at (now (c .entry)) case levels grant r (now (out .entry)) to (now (out .exit)) ⌝ }
+{
+    let found = look_at_cases(problem, steps, actions, at.initial, at.goal, c);
+    let block = Block {
+        first: case.k,
+        levels,
+        empty: found.empty,
+        carries: found.carries,
+    };
+    walk_node(
+        problem,
+        steps,
+        actions,
+        at,
+        c,
+        block,
+        case,
+        1,
+        grant,
+        out,
+        to,
+    )
+}
+
+// The walk from a lane's case.
+fn walk_node(
+    problem: &[u8],
+    steps: &[u8],
+    actions: &[usize; 64],
+    at: Places,
+    c: &[u64; 256],
+    block: Block,
+    case: Case,
+    lane: usize,
+    grant: u64,
+    out: &mut [u8],
+    to: usize,
+) -> Ending
+    requires { ⌜ (length (now c) ≡ 256) × NodeFits block case lane ⌝ }
+    ensures { λ r. ⌜ WalksNode (now (problem .entry)) (now (steps .entry)) (now (actions .entry)) at (now (c .entry)) block case lane grant r (now (out .entry)) to (now (out .exit)) ⌝ }
 {
     if grant == 0 {
-        return Ending {
-            out: true,
-            failed: false,
-            state: 0,
-            lines: 0,
-            visits: 0,
+        return Ending::Out;
+    }
+    if lane_bit(block.empty, lane) == 1 {
+        let next = add_line(out, to, EMPTY, case.k, case.number);
+        return Ending::Closed {
+            lines: 1,
+            visits: 1,
+            next,
         };
     }
-    match look_at(s, t, actions, at.initial, at.goal, at.steps, values) {
-        Look::Empty => Ending {
-            out: false,
-            failed: false,
-            state: 0,
+    if lane_bit(block.carries, lane) == 1 {
+        let next = add_line(out, to, CARRIES, case.k, case.number);
+        return Ending::Closed {
             lines: 1,
             visits: 1,
-        },
-        Look::Carries => Ending {
-            out: false,
-            failed: false,
-            state: 0,
-            lines: 1,
-            visits: 1,
-        },
-        Look::Open => {
-            if case.left == 0 {
-                return Ending {
-                    out: false,
-                    failed: true,
-                    state: case.number,
-                    lines: 0,
-                    visits: 1,
-                };
-            }
-            split_case(s, t, actions, at, case, values, grant - 1)
-        }
+            next,
+        };
     }
+    if case.k < block.first + block.levels {
+        return walk_parts(
+            problem,
+            steps,
+            actions,
+            at,
+            c,
+            block,
+            case,
+            lane,
+            grant - 1,
+            out,
+            to,
+        );
+    }
+    if case.left == 0 {
+        return Ending::Failed {
+            state: case.number,
+            visits: 1,
+        };
+    }
+    let mut below = *c;
+    fix_path(&mut below, block.first, block.levels, lane);
+    let levels = levels_of(case.left);
+    fix_levels(&mut below, case.k, levels);
+    walk_block(
+        problem,
+        steps,
+        actions,
+        at,
+        &below,
+        case,
+        levels,
+        grant,
+        out,
+        to,
+    )
 }
 
 // The walk of an open case's two parts, its next fact no and then yes.
-fn split_case(
-    s: &[u8],
-    t: &[u8],
+fn walk_parts(
+    problem: &[u8],
+    steps: &[u8],
     actions: &[usize; 64],
     at: Places,
+    c: &[u64; 256],
+    block: Block,
     case: Case,
-    values: Values,
+    lane: usize,
     grant: u64,
+    out: &mut [u8],
+    to: usize,
 ) -> Ending
-    requires { ⌜ Runnable (now t) (at .steps) × Valued values × CaseFits case × (0 < case .left) × (grant < 18446744073709551615) ⌝ }
-    ensures { λ r. ⌜ Splits (now (s .entry)) (now (t .entry)) (now (actions .entry)) at case values grant r ⌝ }
+    requires { ⌜ (length (now c) ≡ 256) × NodeFits block case lane × (case .k < block .first + block .levels) × (grant < 18446744073709551615) ⌝ }
+    ensures { λ r. ⌜ WalksParts (now (problem .entry)) (now (steps .entry)) (now (actions .entry)) at (now (c .entry)) block case lane grant r (now (out .entry)) to (now (out .exit)) ⌝ }
 {
-    let k = case.k;
-    let half = case.span / 2;
-    let mut part = values;
-    part[k] = 0;
     let first = Case {
-        k: k + 1,
+        k: case.k + 1,
         left: case.left - 1,
         number: case.number,
-        span: half,
     };
-    let left = walk_case(s, t, actions, at, first, part, grant);
-    if left.out {
-        return left;
+    match walk_node(
+        problem,
+        steps,
+        actions,
+        at,
+        c,
+        block,
+        first,
+        2 * lane,
+        grant,
+        out,
+        to,
+    ) {
+        Ending::Out => Ending::Out,
+        Ending::Failed { state, visits } => Ending::Failed {
+            state,
+            visits: visits + 1,
+        },
+        Ending::Closed {
+            lines,
+            visits,
+            next,
+        } => {
+            let second = Case {
+                k: case.k + 1,
+                left: case.left - 1,
+                number: case.number + half_of(case.k),
+            };
+            let rest = walk_node(
+                problem,
+                steps,
+                actions,
+                at,
+                c,
+                block,
+                second,
+                2 * lane + 1,
+                grant - visits,
+                out,
+                next,
+            );
+            joined(lines, visits, rest)
+        }
     }
-    if left.failed {
-        return Ending {
-            out: false,
-            failed: true,
-            state: left.state,
-            lines: 0,
-            visits: left.visits + 1,
-        };
-    }
-    part[k] = 2;
-    let second = Case {
-        k: k + 1,
-        left: case.left - 1,
-        number: case.number + half,
-        span: half,
-    };
-    let right = walk_case(s, t, actions, at, second, part, grant - left.visits);
-    joined(left, right)
 }

@@ -9,15 +9,13 @@ use Rattle.model.specs.Limits.{version1}
 use Rattle.model.specs.Answer as Answer
 use Rattle.model.specs.Answer.{answered}
 use Rattle.model.specs.Read.{answerOf}
-use Rattle.model.specs.Walk.{Line}
 use Rattle.model.specs.ProblemBytes.{Problem, problem, problemOf, plan, planOf, encodeProblem, encodePlan}
-use Rattle.model.specs.ListBytes.{caseList, listOf, encodeList}
 use Rattle.model.specs.Operations.{taskOf, readTask, listFor, writeList}
-use Rattle.model.specs.WellFormed.{ProblemOk, PlanOk, ListOk, Sensible}
+use Rattle.model.specs.WellFormed.{ProblemOk, PlanOk, Sensible}
 use Rattle.model.specs.Demands.{Demand1, Demands}
 use Rattle.model.proofs.Laws.Reading.{answer-got}
 use Rattle.model.proofs.Laws.ProblemCodec.{problem-got, problem-ok, plan-got, plan-ok}
-use Rattle.model.proofs.Laws.ListCodec.{list-got, list-ok}
+use Rattle.model.proofs.Laws.ListCodec.{list-sound, list-accepted}
 use Rattle.model.proofs.Laws.Tasks.{task-fits}
 use Rattle.model.proofs.Laws.Judging.{verdicts}
 use Rattle.model.proofs.Laws.Lists.{refused-unchanged, rest-unchanged, lists, n≤w}
@@ -31,10 +29,6 @@ module _ (F : Limits) (S : Sensible F) where
   unfolding planOf answerOf
   plan-accepted m steps k = ap answerOf (plan-ok F S (encodePlan steps) m steps k refl)
 
-  list-accepted : (ls : List Line) → ListOk F ls → listOf F (encodeList F ls) ≡ answered ls
-  unfolding listOf answerOf
-  list-accepted ls k = ap answerOf (list-ok F S (encodeList F ls) ls k refl)
-
   task-accepted :
       (p : Problem) (steps : List ℕ) → ProblemOk F p → PlanOk F (length (p .actions)) steps →
       readTask F (encodeProblem F p) (encodePlan steps) ≡ answered (taskOf F p steps)
@@ -42,15 +36,15 @@ module _ (F : Limits) (S : Sensible F) where
   task-accepted p steps k l = rw (problem-accepted p k, Answer._>>=_, plan-accepted (length (p .actions)) steps l)
 
   reading : Demand1 F
-  unfolding problemOf planOf listOf writeList
+  unfolding problemOf planOf writeList
   reading =
       record {
         problem-sound = λ s b p e. let (q, h) = answer-got (problem F s 0) e in problem-got F S s p q b h;
         plan-sound = λ s b m steps e. let (q, h) = answer-got (plan F s m 0) e in plan-got F S s m steps q b h;
-        list-sound = λ s b ls e. let (q, h) = answer-got (caseList F s 0) e in list-got F S s ls q b h;
+        list-sound = list-sound F S;
         problem-accepted = problem-accepted;
         plan-accepted = plan-accepted;
-        list-accepted = list-accepted;
+        list-accepted = list-accepted F S;
         task-accepted = task-accepted;
         refused-unchanged =
             λ problem plan grant out n q e. refused-unchanged F out n q (listFor F problem plan grant (length out)) e;
@@ -61,10 +55,8 @@ module _ (F : Limits) (S : Sensible F) where
   demands-hold =
       record {
         demand1 = reading;
-        demand2 =
-            λ problem plan T given.
-            verdicts T (n≤w F S T (task-fits F problem plan T given) list-accepted problem plan given) F problem plan given;
-        demand3 = λ problem plan T given. lists F S T (task-fits F problem plan T given) list-accepted problem plan given;
+        demand2 = λ problem plan T given. verdicts T (n≤w F S T (task-fits F problem plan T given)) F problem plan given;
+        demand3 = λ problem plan T given. lists F S T (task-fits F problem plan T given) problem plan given;
       }
 
 pub version1-sensible : Sensible version1

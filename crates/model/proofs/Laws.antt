@@ -1,6 +1,7 @@
 pub mod Tabulate
 pub mod Agreement
 pub mod Held
+pub mod Planes
 pub mod Cover
 pub mod Splitting
 pub mod Verdicts
@@ -14,3 +15,4 @@ pub mod ListCodec
 pub mod Tasks
 pub mod Judging
 pub mod Lists
+pub mod NoStart

@@ -1,7 +1,15 @@
--- The definitions give every row of the two tables, by computation. Assumes nothing.
-use mathlib.Core.Path.{_≡_, refl}
+-- The definitions give every row of the two tables, by computation; and the two statements beside them, by the laws. Assumes nothing.
+use mathlib.Core.Path.{_≡_, refl, ap}
 use mathlib.Core.List.{List, map}
-use Rattle.model.specs.Trials.{Row, reply, starred, edges}
+use Prim.Native.Nat.{_≤_}
+use native.Mathlib.Omega.{arith}
+use Rattle.model.specs.Limits.{version1}
+use Rattle.model.specs.Walk.{walked}
+use Rattle.model.specs.DeskText.{verdictText}
+use Rattle.model.specs.Trials.{Row, reply, P-no-start, starred, NoStart, edges, DeskGrant}
+use Rattle.model.proofs.Laws.Tasks.{task-fits}
+use Rattle.model.proofs.Laws.Judging.{judged-in, judged-out}
+use Rattle.model.proofs.Laws.NoStart.{no-start}
 
 abbrev Hold : List Row → Type 0
 Hold rows = map (λ r. reply (r .call)) rows ≡ map (λ r. r .gives) rows
@@ -13,3 +21,17 @@ starred-hold = refl
 pub edges-hold : Hold edges
 unfolding reply
 edges-hold = refl
+
+pub no-start-holds : NoStart
+unfolding reply
+no-start-holds = no-start version1 (omega arith) P-no-start refl refl (omega arith)
+
+pub desk-grant-holds : DeskGrant
+unfolding reply
+desk-grant-holds problem plan T given =
+    let f = task-fits version1 problem plan T given in
+    let l : T .facts ≤ T .width = omega arith in
+    rw given (
+      (λ h. ap (verdictText version1 T) (judged-out T l 1000000 h)),
+      (λ h. ap (verdictText version1 T) (judged-in T l 1000000 (walked T) refl h)),
+    )

@@ -11,14 +11,14 @@ use lib.ListN.{length, take, drop}
 use Rattle.model.specs.declared.Limits.{Limits}
 use Rattle.model.specs.Answer.{refused, answered}
 use Rattle.model.specs.Run.{Outcome, reached}
-use Rattle.model.specs.Case.{Task, runOf, IsStart, Right}
-use Rattle.model.specs.Belief.{Solution, initialBelief}
-use Rattle.model.specs.Walk.{Line, covered, right, wrong, undecided, visits, walked}
+use Rattle.model.specs.Case.{stateOf, Task, runOf, IsState, IsStart, Right}
+use Rattle.model.specs.Belief.{Solution, initialBelief, OutcomeMeans}
+use Rattle.model.specs.Walk.{Line, covered, Verdict, right, wrong, undecided, visits, lookAt, walked}
 use Rattle.model.specs.Read.{headBytes}
 use Rattle.model.specs.ProblemBytes.{Problem, problemOf, planOf, encodeProblem, encodePlan}
 use Rattle.model.specs.ListBytes.{listOf, encodeList}
-use Rattle.model.specs.WellFormed.{Bytes, ProblemOk, PlanOk, ListOk}
-use Rattle.model.specs.Operations.{taskOf, readTask, judge, listBytes, writeList, followList}
+use Rattle.model.specs.WellFormed.{Bytes, Each, ProblemOk, PlanOk, ListOk, LineHolds, Joined}
+use Rattle.model.specs.Operations.{taskOf, readTask, runState, judge, listBytes, writeList, followList}
 
 -- Demand 1, "All input": ".. refuses malformed blocks by number and place in the stated order, calls nothing else malformed, and a
 -- refused call changes no byte." The order is the text of the readers (FormulaBytes, ProblemBytes, ListBytes).
@@ -53,31 +53,63 @@ pub record LowestFailing (T : Task) (s : ℕ) : Type 0 where
   pub not-reached : runOf T s ≢ reached
   pub before : (t : ℕ) → IsStart T t → t < s → runOf T t ≡ reached
 
+-- section 3 of document 004: the plan is a solution from the initial formula's belief
+abbrev pub IsSolution : Task → Type 0
+IsSolution T = Solution (T .facts) (initialBelief (T .facts) (T .initial)) (T .goal) (T .plan)
+
+-- "Right only if every start state carries the plan to the goal (section 3 of document 004)": what "right" says, with its lines and visits
+pub record SaysRight (T : Task) (grant lines used : ℕ) : Type 0 where
+  pub is-right : Right T
+  pub is-solution : IsSolution T
+  -- "The visits used are part of the result and equal the visits of this walk"; they were granted
+  pub walk-visits : used ≡ visits (walked T)
+  pub within : used ≤ grant
+  -- "For a right plan, visits are twice the lines less one."
+  pub twice-lines : suc used ≡ 2 * lines
+
+-- "wrong only with the lowest failing start state and where it fails"
+pub record SaysWrong (T : Task) (grant s : ℕ) (o : Outcome) (used : ℕ) : Type 0 where
+  pub lowest : LowestFailing T s
+  pub where-it-fails : o ≡ runOf T s
+  pub walk-visits : used ≡ visits (walked T)
+  pub within : used ≤ grant
+
+-- "undecided only when the defined walk needs more visits than granted"
+pub record SaysUndecided (T : Task) (grant used : ℕ) : Type 0 where
+  pub all-used : used ≡ grant
+  pub needs-more : grant < visits (walked T)
+
+abbrev pub Says : Task → ℕ → Verdict ℕ → Type 0
+Says T grant (right lines used) = SaysRight T grant lines used
+Says T grant (wrong s o used) = SaysWrong T grant s o used
+Says T grant (undecided used) = SaysUndecided T grant used
+
+-- what an outcome of the run of the state numbered s says: section 3 of document 004, of the belief that holds this state alone
+abbrev pub OutcomeSays : Task → ℕ → Outcome → Type 0
+OutcomeSays T s o = OutcomeMeans (T .facts) (stateOf (T .width) (T .facts) s) (T .goal) (T .plan) o
+
 -- Demand 2, "Verdicts", for a problem and a plan that are read as T
 pub record Demand2 (F : Limits) (problem plan : List ℕ) (T : Task) : Type 0 where
-  -- "Right only if every start state carries the plan to the goal (section 3 of document 004)"
-  pub right-only : (g lines a : ℕ) → judge F problem plan g ≡ answered (right lines a) → Right T
-  pub right-is-solution :
-      Right T ↔ Solution (T .facts) (initialBelief (T .facts) (T .initial)) (T .goal) (T .plan)
-  -- "wrong only with the lowest failing start state and where it fails"
-  pub wrong-only :
-      (g s : ℕ) (o : Outcome) (a : ℕ) → judge F problem plan g ≡ answered (wrong s o a) → LowestFailing T s × (o ≡ runOf T s)
-  -- "undecided only when the defined walk needs more visits than granted", and then always
-  pub undecided-only : (g a : ℕ) → (judge F problem plan g ≡ answered (undecided a)) ↔ ((a ≡ g) × (g < visits (walked T)))
-  -- where the visits suffice, a right plan is called right and any other wrong, with the visits of the walk
+  -- every verdict of the judge is so
+  pub judge-says : (g : ℕ) (v : Verdict ℕ) → judge F problem plan g ≡ answered v → Says T g v
+  -- "right" is what section 3 of document 004 calls a solution
+  pub right-is-solution : Right T ↔ IsSolution T
+  -- where the visits suffice, a right plan is called right and any other wrong; where they do not, it is undecided
   pub called-right :
       (g : ℕ) → visits (walked T) ≤ g → Right T →
       (lines : ℕ) × (judge F problem plan g ≡ answered (right lines (visits (walked T))))
   pub called-wrong :
       (g : ℕ) → visits (walked T) ≤ g → (Right T → ⊥) →
       (s : ℕ) × (o : Outcome) × (judge F problem plan g ≡ answered (wrong s o (visits (walked T))))
-  -- "For a right plan, visits are twice the lines less one."
-  pub right-visits : (g lines a : ℕ) → judge F problem plan g ≡ answered (right lines a) → suc a ≡ 2 * lines
+  pub called-undecided : (g : ℕ) → g < visits (walked T) → judge F problem plan g ≡ answered (undecided g)
   -- "so with no start state at all, every plan is right"
   pub no-start : ((s : ℕ) → IsStart T s → ⊥) → Right T
   -- a right or wrong verdict stays the same under every larger grant
   pub larger-grant :
       (g g′ : ℕ) → g ≤ g′ → (judge F problem plan g ≢ answered (undecided g)) → judge F problem plan g′ ≡ judge F problem plan g
+  -- "The run of one given state answers by that same section": each outcome exactly if it is so; 40 is for what is no state
+  pub run-says : (s : ℕ) → IsState T s → (o : Outcome) → (runState F problem plan s ≡ answered o) ↔ OutcomeSays T s o
+  pub run-no-state : (s : ℕ) → (IsState T s → ⊥) → runState F problem plan s ≡ refused 40 0
 
 -- the lines that stand in a list's own bytes
 abbrev pub linesIn : Limits → List ℕ → ℕ
@@ -87,18 +119,31 @@ linesIn F list = (length list - headBytes) / F .line
 abbrev pub listWritten : Limits → List ℕ → List ℕ → ℕ → List ℕ → ℕ → List ℕ
 listWritten F problem plan grant out n = take n (writeList F problem plan grant out .buffer)
 
+-- a list that passes: its block is sound, its lines follow one another from 0 to the width's end, and each claim holds
+pub record Passing (F : Limits) (T : Task) (list : List ℕ) (lines : List Line) : Type 0 where
+  pub sound : ListOk F lines
+  pub block : list ≡ encodeList F lines
+  pub joined : Joined (T .width) lines 0
+  pub hold : Each (LineHolds (T .width) (lookAt T) (T .facts)) lines
+
 -- Demand 3, "Case lists", one claim about whole lists: "Whatever bytes a list holds, it passes only if the plan is right; the list that
 -- we write passes, and no passing list has fewer lines."
 pub record Demand3 (F : Limits) (problem plan : List ℕ) (T : Task) : Type 0 where
   -- any bytes of any length that pass: the plan is right, and the count is that of the lines in those bytes
   pub passes-only-right :
       (list : List ℕ) (m : ℕ) → followList F problem plan list ≡ answered m → Right T × (m ≡ linesIn F list)
-  -- where the plan is right, the visits suffice and the list fits (neither 52 nor 53 is met), the walk's list is written
+  -- a list passes exactly if it is so, with the count of its lines
+  pub passes-exactly :
+      (list : List ℕ) → Bytes list → (m : ℕ) →
+      (followList F problem plan list ≡ answered m) ↔ ((lines : List Line) × Passing F T list lines × (m ≡ length lines))
+  -- for a right plan the walk closes with some lines; where the visits suffice and the list fits (neither 52 nor 53 is met), that list
+  -- is the one written
   pub writes-walk :
-      (grant : ℕ) (out : List ℕ) (ls : List Line) (a : ℕ) → Right T → walked T ≡ covered ls a → a ≤ grant → length ls ≤ F .lines →
-      listBytes F (length ls) ≤ length out →
-      (writeList F problem plan grant out .answer ≡ answered (listBytes F (length ls))) ×
-      (listWritten F problem plan grant out (listBytes F (length ls)) ≡ encodeList F ls)
+      Right T →
+      (lines : List Line) × (walked T ≡ covered lines (visits (walked T))) ×
+      ((grant : ℕ) (out : List ℕ) → visits (walked T) ≤ grant → length lines ≤ F .lines → listBytes F (length lines) ≤ length out →
+      (writeList F problem plan grant out .answer ≡ answered (listBytes F (length lines))) ×
+      (listWritten F problem plan grant out (listBytes F (length lines)) ≡ encodeList F lines))
   -- what is written passes, and no list that passes has fewer lines
   pub written-passes :
       (grant : ℕ) (out : List ℕ) (n : ℕ) → writeList F problem plan grant out .answer ≡ answered n →

@@ -15,9 +15,11 @@ pub mod ProblemBytes
 pub mod ListBytes
 pub mod Operations
 pub mod Values
+pub mod Planes
 pub mod Answers
 pub mod Text
 pub mod DeskText
 pub mod WellFormed
+pub mod Stands
 pub mod Demands
 pub mod Trials

@@ -1,15 +1,17 @@
 -- The trial cases of document 01 that are to be proved, on their bytes, and each refusal at and inside its edge: a call and what it
--- gives.
+-- gives. What no row can say, for every plan or for walks of a million visits, is a statement beside the tables.
+use mathlib.Core.Path.{_≡_}
 use mathlib.Core.List.{List, [], _∷_, _++_}
-use Prim.Native.Nat.{ℕ, zero, suc, _+_}
-use lib.ListN.{replicate}
+use Prim.Native.Nat.{ℕ, zero, suc, _+_, _≤_, _<_}
+use Prim.Native.String.{String}
+use lib.ListN.{length, drop, replicate}
 use Rattle.model.specs.declared.Limits.{Limits}
 use Rattle.model.specs.Limits.{version1}
 use Rattle.model.specs.Formula.{eval}
 use Rattle.model.specs.Action.{conditionIn, applicable, next, step}
 use Rattle.model.specs.Run.{Outcome, reached, missed, blocked, goesOn, run}
-use Rattle.model.specs.Case.{bit, stateOf, caseOf, runOf}
-use Rattle.model.specs.Walk.{Verdict, right, wrong, undecided, walkFrom, walk, lookAt, walked, judged}
+use Rattle.model.specs.Case.{bit, stateOf, caseOf, Task, runOf}
+use Rattle.model.specs.Walk.{visits, Verdict, right, wrong, undecided, walkFrom, walk, lookAt, walked, found, judged}
 use Rattle.model.specs.Answer as Answer
 use Rattle.model.specs.Answer.{Answer, refused, answered}
 use Rattle.model.specs.CaseList.{first, refuseAt, ends, fault, follow}
@@ -28,7 +30,7 @@ pub data Call : Type 0 where
   judge-with : List ℕ → List ℕ → ℕ → Call
   write-list : Limits → List ℕ → List ℕ → ℕ → List ℕ → Call
   follow-list : List ℕ → List ℕ → List ℕ → Call
-  desk : List ℕ → List ℕ → Call
+  desk : Limits → List ℕ → List ℕ → Call
 
 pub data Reply : Type 0 where
   counts : Answer Counts → Reply
@@ -47,7 +49,7 @@ reply (run-state p q s) = outcome (runState version1 p q s)
 reply (judge-with p q g) = verdict (judge version1 p q g)
 reply (write-list F p q g out) = writes (writeList F p q g out)
 reply (follow-list p q l) = number (followList version1 p q l)
-reply (desk p q) = text (deskText version1 p q)
+reply (desk F p q) = text (deskText F p q)
 
 pub record Row : Type 0 where
   pub call : Call
@@ -74,7 +76,7 @@ P-goal =
     hex
     "01 00000021 03 02 0007 80 02 81 02 00 01 42 0002 80 00 0002 80 00 01 02 0001 00 0002 80 00 01 02 0001 01"
 
-abbrev P-no-start : List ℕ
+abbrev pub P-no-start : List ℕ
 P-no-start =
     hex
     "01 0000001b 03 02 0002 81 00 0001 02 0002 80 00 01 02 0001 00 0002 80 00 01 02 0001 01"
@@ -128,14 +130,21 @@ starred =
     ∷ (judge-with P-guarded both-steps grant ⇒ verdict (answered (wrong 0x400000000000 (blocked (record { step = 0 })) 5)))
     ∷ (judge-with P-goal no-step grant ⇒ verdict (answered (right 1 1)))
     ∷ (judge-with P-no-start both-steps grant ⇒ verdict (answered (right 1 1)))
-    ∷ (judge-with P-no-start step-0 grant ⇒ verdict (answered (right 1 1)))
-    ∷ (judge-with P-no-start no-step grant ⇒ verdict (answered (right 1 1)))
     ∷ (write-list version1 P-no-start both-steps grant (replicate 13 0) ⇒ wrote 13 (hex "01 00000008 00 00 000000000000"))
     ∷ (follow-list P both-steps split-list ⇒ number (answered 4))
     ∷ (follow-list P both-steps short-list ⇒ number (refused 70 2))
     ∷ (follow-list P both-steps swapped-list ⇒ number (refused 68 1))
     ∷ (follow-list P both-steps other-kind ⇒ number (refused 69 0))
     ∷ []
+
+-- "Initial the empty "any", any plan: right, one line of kind 0, 1 visit": every plan block that is read, every grant of 1 or more,
+-- and every buffer that the list fits
+abbrev pub NoStart : Type 0
+NoStart =
+    (plan : List ℕ) (m : ℕ) → readPlan version1 P-no-start plan ≡ answered m → (g : ℕ) → 1 ≤ g →
+    (judge version1 P-no-start plan g ≡ answered (right 1 1)) ×
+    ((out : List ℕ) → 13 ≤ length out →
+    writeList version1 P-no-start plan g out ≡ record { answer = answered 13; buffer = hex "01 00000008 00 00 000000000000" ++ drop 13 out })
 
 -- a block with this body
 abbrev block1 : List ℕ → List ℕ
@@ -183,7 +192,7 @@ deep =
 abbrev P-both : List ℕ
 P-both = hex "01 0000001d 03 01 0007 80 02 81 02 00 01 42 0001 02 0002 80 00 02 02 0002 80 00 42 0002 80 00"
 
--- a version whose lists have two lines at most: 52 with few lines
+-- a version whose lists have two lines at most: 52 and "list too long" with few lines
 abbrev two-lines : Limits
 two-lines =
     record {
@@ -207,6 +216,27 @@ lines bytes = block 1 bytes
 -- an "any" of 255 members
 abbrev 81ff : List ℕ
 81ff = hex "81 ff" ++ replicate 255 0
+
+-- nine facts that are all true at the start, and no action
+abbrev nine : List ℕ
+nine = block1 (hex "09 00 000b 80 09 00 01 02 03 04 05 06 07 08 0001 08")
+
+-- six facts; initial: any of 2, 3; goal: any of 5, not 5, which reads unknown until fact 5 is fixed; two actions without effects, of
+-- which action 1 is not applicable where all six are true
+abbrev bushy : List ℕ
+bushy = block1 (hex "06 02 0004 81 02 02 03 0004 81 02 05 45 0002 80 00 00 0008 81 06 40 41 42 43 44 45 00")
+
+-- a "carries" line with the values v and each of the endings
+abbrev carrying : String → List String → List ℕ
+carrying v [] = []
+carrying v (e ∷ es) = ascii "carries " ++ (ascii v ++ (ascii e ++ (ascii "\n" ++ carrying v es)))
+
+-- the thirteen lines of `bushy`, with no step, whose first two values are v
+abbrev quarter : String → List ℕ
+quarter v =
+    ascii "no-start " ++
+    (ascii v ++ (ascii "00??\n" ++
+    carrying v ("0100" ∷ "0101" ∷ "0110" ∷ "0111" ∷ "1000" ∷ "1001" ∷ "1010" ∷ "1011" ∷ "1100" ∷ "1101" ∷ "1110" ∷ "1111" ∷ [])))
 
 -- each refusal in the order of its number, and the call just inside its edge
 abbrev pub edges : List Row
@@ -317,9 +347,26 @@ edges =
     ∷ (judge-with wide (long-plan 256) grant ⇒ verdict (answered (right 1 1)))
     ∷ (judge-with deep no-step grant ⇒ verdict (answered (right 49 97)))
     -- the desk program
-    ∷ (desk P both-steps ⇒ text (ascii "right lines 3 visited 5\nno-start 00?\ncarries 01?\ncarries 1??\n"))
-    ∷ (desk P step-0 ⇒ text (ascii "wrong 010 at end visited 5\n"))
-    ∷ (desk P-guarded both-steps ⇒ text (ascii "wrong 010 at step 0 visited 5\n"))
-    ∷ (desk [] both-steps ⇒ text (ascii "refused problem 11 at 0\n"))
-    ∷ (desk P (hex "01 00000002 01 02") ⇒ text (ascii "refused plan 34 at 6\n"))
+    ∷ (desk version1 P both-steps ⇒ text (ascii "right lines 3 visited 5\nno-start 00?\ncarries 01?\ncarries 1??\n"))
+    ∷ (desk version1 P step-0 ⇒ text (ascii "wrong 010 at end visited 5\n"))
+    ∷ (desk version1 P-guarded both-steps ⇒ text (ascii "wrong 010 at step 0 visited 5\n"))
+    ∷ (desk version1 [] both-steps ⇒ text (ascii "refused problem 11 at 0\n"))
+    ∷ (desk version1 P (hex "01 00000002 01 02") ⇒ text (ascii "refused plan 34 at 6\n"))
+    -- its numbers of one, two and three digits
+    ∷ (desk version1 P (hex "01 00000005 01 01 01 01 02") ⇒ text (ascii "refused plan 34 at 9\n"))
+    ∷ (desk version1 nine no-step ⇒ text (ascii "right lines 10 visited 19\nno-start 0????????\nno-start 10???????\nno-start 110??????\nno-start 1110?????\nno-start 11110????\nno-start 111110???\nno-start 1111110??\nno-start 11111110?\nno-start 111111110\ncarries 111111111\n"))
+    ∷ (desk version1 bushy no-step ⇒ text (ascii "right lines 52 visited 103\n" ++ (quarter "00" ++ (quarter "01" ++ (quarter "10" ++ quarter "11")))))
+    ∷ (desk version1 bushy (hex "01 0000000b 00 00 00 00 00 00 00 00 00 00 01") ⇒ text (ascii "wrong 111111 at step 10 visited 103\n"))
+    -- the last refusal of a problem, the first of a plan, and a list that just fits or is too long
+    ∷ (desk version1 (block1 (hex "01 00 0001 00 0001 00 00")) [] ⇒ text (ascii "refused problem 25 at 13\n"))
+    ∷ (desk version1 P (replicate 262 0) ⇒ text (ascii "refused plan 30 at 261\n"))
+    ∷ (desk two-lines (initially (hex "0001 00")) no-step ⇒ text (ascii "right lines 2 visited 3\nno-start 0\ncarries 1\n"))
+    ∷ (desk two-lines P both-steps ⇒ text (ascii "right lines 3 visited 5\nlist too long\n"))
     ∷ []
+
+-- "a grant fixed at 1,000,000"; "undecided is "undecided visited 1000000"": every problem and plan that are read
+abbrev pub DeskGrant : Type 0
+DeskGrant =
+    (problem plan : List ℕ) (T : Task) → readTask version1 problem plan ≡ answered T →
+    (1000000 < visits (walked T) → deskText version1 problem plan ≡ ascii "undecided visited 1000000\n") ×
+    (visits (walked T) ≤ 1000000 → deskText version1 problem plan ≡ verdictText version1 T (found T (walked T)))

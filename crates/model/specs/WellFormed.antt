@@ -1,12 +1,15 @@
--- What a sound block holds, said of the abstract problem, plan and list and without any order of reading (document 01, "Blocks").
+-- What a sound block holds, said of the abstract problem, plan and list and without any order of reading (document 01, "Blocks"); and
+-- what a list that passes holds, without any order of looking for faults ("Follow a list").
 use mathlib.Core.Path.{_≡_}
+use mathlib.Core.Bool.{true}
 use mathlib.Core.List.{List, [], _∷_}
-use Prim.Native.Nat.{ℕ, _+_, _-_, _*_, _^_, _≤_, _<_}
+use Prim.Native.Nat.{ℕ, _+_, _-_, _*_, _%_, _^_, _≤_, _<_}
 use lib.ListN.{length, getD}
 use Rattle.model.specs.declared.Limits.{Limits}
 use Rattle.model.specs.Formula.{Literal, fact, denial, Formula, Formulas, lit, all, any, none, more}
 use Rattle.model.specs.Action.{Effect, Action}
-use Rattle.model.specs.Walk.{Line}
+use Rattle.model.specs.Walk.{Look, Line}
+use Rattle.model.specs.CaseList.{claims}
 use Rattle.model.specs.FormulaBytes.{literalByte, memberCount, formulaBytes}
 use Rattle.model.specs.ProblemBytes.{Problem, encodeProblem}
 
@@ -93,3 +96,14 @@ module _ (F : Limits) where
     -- a state has a bit for each fact, and fills a line's values
     pub width : F .facts ≤ F .width
     pub value : 2 ^ F .width ≡ 256 ^ (F .line - 2)
+
+-- a line that fixes declared facts and has no bit set past them, and whose claim is so; a state is w bits wide and has n facts
+pub record LineHolds (w : ℕ) (look : ℕ → ℕ → Look) (n : ℕ) (l : Line) : Type 0 where
+  pub k-fits : l .k ≤ n
+  pub no-bits : l .value % 2 ^ (w - l .k) ≡ 0
+  pub claim : claims (l .kind) (look (l .k) (l .value)) ≡ true
+
+-- the lines follow one another: the first begins at x, each other one where the one before ended, and the last ends at 2 ^ w
+abbrev pub Joined : ℕ → List Line → ℕ → Type 0
+Joined w [] x = x ≡ 2 ^ w
+Joined w (l ∷ ls) x = (l .value ≡ x) × Joined w ls (x + 2 ^ (w - l .k))

@@ -18,16 +18,16 @@ use Rattle.model.specs.WellFormed.{LineOk, Each}
 use Rattle.model.specs.DeskText.{sentence, kindText, marks, linesText, listText, deskGrant}
 use Rattle.model.proofs.Demands.{version1-sensible}
 use Rattle.model.proofs.Laws.Tasks.{Fits, task-fits, list-for-is}
-use Rattle.model.proofs.Laws.Reading.{Span, first, split, span-length, is-whole, length-bytesOf}
+use Rattle.model.specs.Stands.{Span}
+use Rattle.model.proofs.Laws.Reading.{first, split, span-length, is-whole, length-bytesOf}
 use Rattle.model.proofs.Laws.ListCodec as codec
 use Rattle.model.proofs.Laws.Verdicts.{walk-passes}
 use Rattle.model.proofs.Laws.Lists.{follows-ok, chosen, written-answered, rest-unchanged}
 use Rattle.blocks.specs.declared.plan.Task as blocks
-use Rattle.blocks.specs.Parts.{TaskAt, FindsTask}
-use Rattle.execute.proofs.Tasks.{task, read-task}
+use Rattle.blocks.specs.Parts.{FindsTask}
+use Rattle.blocks.specs.Standing.{StandsFound}
 use Rattle.report.specs.FirstLine.{lineText, verdictRest, answerRest, laterLines}
 use Rattle.report.specs.Later.{listed, tooLong, RestOf}
-use Rattle.report.specs.declared.rest.Rest.{Rest}
 use Rattle.report.specs.declared.rest.Rest.the-variants.{Nothing, TooLong, Lines}
 
 -- ---- the lines of a block, read back
@@ -98,19 +98,19 @@ module _ (s t : List ℕ) where
   unfolding laterLines answerRest
   none-later r f e list h = record { within = omega arith; text = λ n x. rw (f .refusal e) }
 
-  module _ (r : blocks.Task) (o : TaskAt s t r) (out : List ℕ) (h : 65533 ≤ length out) where
+  module _ (r : blocks.Task) (o : StandsFound s t r) (out : List ℕ) (h : 65533 ≤ length out) where
     abbrev T : Task
-    T = task s t r o
+    T = o .task
 
     later-is : laterLines version1 s t ≡ verdictRest version1 T (judged T deskGrant)
     unfolding laterLines answerRest
-    later-is = rw (read-task s t r o)
+    later-is = rw (o .read)
 
     refused-told : (k q : ℕ) → refused k q ≡ writeList version1 s t deskGrant out .answer → Told T k (verdictRest version1 T (judged T deskGrant))
     unfolding writeList
     refused-told k q e =
         told T out (judged T deskGrant) k q h
-        (ap (λ (x : Answer (List Line)). written version1 out x .answer) (sym (list-for-is version1 s t T (read-task s t r o) deskGrant (length out))) ∙ sym e)
+        (ap (λ (x : Answer (List Line)). written version1 out x .answer) (sym (list-for-is version1 s t T (o .read) deskGrant (length out))) ∙ sym e)
 
     pub too-long : (k q : ℕ) → refused k q ≡ writeList version1 s t deskGrant out .answer → k ≡ 52 → (list : List ℕ) → length list ≡ length out → RestOf s t list TooLong
     too-long k q e z list l = record { within = omega arith; text = λ n x. later-is ∙ refused-told k q e .0 z }
@@ -127,8 +127,8 @@ module _ (s t : List ℕ) where
     the-lines m c e d list b l =
         let x = written-answered version1 out m (listFor version1 s t deskGrant (length out)) (sym e) in
         let ls = x .0 in
-        let y = chosen version1 (length out) (judged T deskGrant) ls (sym (list-for-is version1 s t T (read-task s t r o) deskGrant (length out)) ∙ x .1) in
-        let f = task-fits version1 s t T (read-task s t r o) in
+        let y = chosen version1 (length out) (judged T deskGrant) ls (sym (list-for-is version1 s t T (o .read) deskGrant (length out)) ∙ x .1) in
+        let f = task-fits version1 s t T (o .read) in
         let k : c ≡ length ls = omega (arith, x .2) in
         let z : list ≡ encodeList version1 ls ++ drop (5 + 8 * length ls) out = b ∙ ap (λ (v : Answer (List Line)). written version1 out v .buffer) (x .1) in
         record {
@@ -137,6 +137,6 @@ module _ (s t : List ℕ) where
               later-is ∙ ap (verdictRest version1 T) (y .is) ∙ list-in T ls (y .visited) (y .few) ∙
               ap (linesText T) (sym (lines-read ls _ (lines-fit T f deskGrant ls (y .visited) (y .is)))) ∙
               ap (λ (v : List ℕ). linesText T (linesFrom version1 v (length ls) 5)) (sym z) ∙
-              listed-is T n (g .is T (read-task s t r o) .0) (g .is T (read-task s t r o) .1) list (length ls) 0 5 refl ∙
+              listed-is T n (g .is T (o .read) .0) (g .is T (o .read) .1) list (length ls) 0 5 refl ∙
               ap (listed n list 0) (sym k);
         }

@@ -5,7 +5,6 @@ use Prim.Native.Nat.{ℕ, zero, suc, _+_, _-_, _/_, _%_, _^_, _<_, _≤_}
 use native.Mathlib.Omega.{arith}
 use native.Mathlib.Nat.{pow-suc}
 use native.Mathlib.Numerals.{add-one}
-use lib.Dec.{ltb, eqb}
 use lib.ListN.{length, getD, set, take, length-append, length-take}
 use lib.Seq.{sets, take-suc, take-length}
 use borrow.Author.Tests.{lt-ltb, le-ltb, eq-eqb, ne-eqb}
@@ -13,7 +12,7 @@ use Rattle.model.specs.Action.{tabulate}
 use Rattle.model.specs.Case.{bit}
 use Rattle.model.specs.DeskText.{decimal, marks}
 use Rattle.model.proofs.Laws.Tabulate.{length-tabulate}
-use Rattle.certificate.proofs.Stores.{sets-append}
+use Rattle.lines.proofs.Stores.{sets-append}
 use Rattle.report.specs.Written.{Put, mark}
 use Rattle.report.proofs.Decimal.{sets-snoc}
 

@@ -18,8 +18,8 @@ use Rattle.model.specs.Operations.{taskOf, readTask, lineCount, judge}
 use Rattle.model.specs.Text.{ascii}
 use Rattle.model.specs.DeskText.{digits, decimal, sentence, marks, kindText, blockText, deskGrant, verdictText, answerText, deskText}
 use Rattle.blocks.specs.declared.plan.Task as blocks
-use Rattle.blocks.specs.Parts.{TaskAt, FindsTask}
-use Rattle.execute.proofs.Tasks.{task, read-task, wide-most, wide-facts}
+use Rattle.blocks.specs.Parts.{FindsTask}
+use Rattle.blocks.specs.Standing.{StandsFound}
 use Rattle.report.specs.FirstLine.{refusalLine, rightLine, wrongLine, undecidedLine, lineText, visitsText, blockWords, placeWords, kindWord, verdictLine, answerLine, firstLine, verdictRest, answerRest, laterLines, Facts}
 use Rattle.model.proofs.Laws.Tabulate.{length-tabulate}
 use Rattle.certificate.specs.declared.line.Line as certificate
@@ -95,12 +95,12 @@ no-facts s t r f e =
       is = λ T h. let g = f .refusal e in let z : _≡_ {A = ℕ} 0 1 = cc in absurd (omega arith);
     }
 
-pub facts-are : (s t : List ℕ) (r : blocks.Task) → TaskAt s t r → Facts s t (r .problem .facts)
+pub facts-are : (s t : List ℕ) (r : blocks.Task) → StandsFound s t r → Facts s t (r .problem .facts)
 unfolding taskOf
 facts-are s t r o =
     record {
-      most = wide-most s t r o _ refl;
-      is = λ T h. let g : task s t r o ≡ T = same (sym (read-task s t r o) ∙ h) in (sym (ap (λ (X : Task). X .facts) g) ∙ sym (wide-facts s t r o _ refl), sym (ap (λ (X : Task). X .width) g));
+      most = omega (arith, o .facts, o .stands .most);
+      is = λ T h. let g : o .task ≡ T = same (sym (o .read) ∙ h) in (sym (ap (λ (X : Task). X .facts) g) ∙ sym (o .facts), sym (ap (λ (X : Task). X .width) g) ∙ o .stands .width);
     }
   where
     same : {X Y : Task} → answered X ≡ answered Y → X ≡ Y

@@ -1,28 +1,27 @@
-//! (a) The judge beside the same walk in plain Rust.
+//! (a) The judge beside the walk in plain Rust, a case at a time and on planes.
 
 use std::hint::black_box;
 
-use crate::page::{nanoseconds, whole, Table};
+use crate::page::{nanoseconds, ratio, whole, Table};
 use crate::plain;
 use crate::problems::{self, Measured};
 use crate::timing::times;
 
-/// The visits of the walk, which both must count alike.
+/// The visits of the walk, which all must count alike.
 pub fn visits(measured: &Measured) -> u64 {
     let Measured { problem, plan, .. } = measured;
-    let (ours, plain) = (
-        larkhammock::judge(problem, plan, u64::MAX),
-        plain::judge(problem, plan, u64::MAX),
-    );
-    match (ours, plain) {
+    let ours = larkhammock::judge(problem, plan, u64::MAX);
+    let scalar = plain::scalar::judge(problem, plan, u64::MAX);
+    let planes = plain::planes::judge(problem, plan, u64::MAX);
+    match (ours, scalar) {
         (
             Ok(larkhammock::Verdict::Right { lines, visits }),
             plain::Verdict::Right {
                 lines: l,
                 visits: v,
             },
-        ) if (lines, visits) == (l, v) => visits,
-        verdicts => panic!("{}: {verdicts:?}", measured.name),
+        ) if (lines, visits) == (l, v) && scalar == planes => visits,
+        _ => panic!("{}: {ours:?}, {scalar:?}, {planes:?}", measured.name),
     }
 }
 
@@ -31,43 +30,97 @@ pub fn judge(inputs: &[&[u8]]) {
     let _ = black_box(larkhammock::judge(inputs[0], inputs[1], u64::MAX));
 }
 
-fn plain_judge(inputs: &[&[u8]]) {
-    black_box(plain::judge(inputs[0], inputs[1], u64::MAX));
+fn scalar_judge(inputs: &[&[u8]]) {
+    black_box(plain::scalar::judge(inputs[0], inputs[1], u64::MAX));
+}
+
+fn planes_judge(inputs: &[&[u8]]) {
+    black_box(plain::planes::judge(inputs[0], inputs[1], u64::MAX));
+}
+
+/// The ratios of one column, each with its problem.
+struct Ratios {
+    name: &'static str,
+    rows: Vec<(String, f64)>,
+}
+
+impl Ratios {
+    fn new(name: &'static str) -> Ratios {
+        Ratios {
+            name,
+            rows: Vec::new(),
+        }
+    }
+
+    /// Keeps a ratio, and is its cell.
+    fn cell(&mut self, problem: &str, value: f64) -> String {
+        self.rows.push((problem.to_string(), value));
+        ratio(value)
+    }
+
+    fn mean(&self) -> f64 {
+        let logs: f64 = self.rows.iter().map(|(_, value)| value.ln()).sum();
+        (logs / self.rows.len() as f64).exp()
+    }
+
+    fn summary(&self) -> String {
+        let worst = self.rows.iter().max_by(|(_, a), (_, b)| a.total_cmp(b));
+        let (problem, most) = worst.expect("something was measured");
+        format!(
+            "- **{}: {} in the geometric mean**; {} at worst, with {problem}\n",
+            self.name,
+            ratio(self.mean()),
+            ratio(*most)
+        )
+    }
 }
 
 pub fn section() -> String {
+    let mut by_scalar = Ratios::new("ours / scalar");
+    let mut by_planes = Ratios::new("ours / planes");
     let mut table = Table::new(&[
-        "problem", "facts", "steps", "visits", "ours", "plain", "ratio",
+        "problem",
+        "facts",
+        "steps",
+        "visits",
+        "ours",
+        "scalar",
+        "planes",
+        by_scalar.name,
+        by_planes.name,
     ]);
-    let mut logs = Vec::new();
     for measured in problems::all() {
         let Measured { problem, plan, .. } = &measured;
         let visits = visits(&measured);
-        let [ours, plain] = times(&[problem, plan], [&judge, &plain_judge]);
-        let (ours, plain) = (ours.best, plain.best);
-        let ratio = ours / plain;
-        logs.push(ratio.ln());
+        let calls = times(&[problem, plan], [&judge, &scalar_judge, &planes_judge]);
+        let [ours, scalar, planes] = calls.map(|call| call.best / visits as f64);
         table.row(&[
             measured.name.clone(),
             measured.tree.facts.to_string(),
             measured.steps.len().to_string(),
             whole(visits),
-            nanoseconds(ours / visits as f64),
-            nanoseconds(plain / visits as f64),
-            format!("{ratio:.2}"),
+            nanoseconds(ours),
+            nanoseconds(scalar),
+            nanoseconds(planes),
+            by_scalar.cell(&measured.name, ours / scalar),
+            by_planes.cell(&measured.name, ours / planes),
         ]);
     }
-    let mean = (logs.iter().sum::<f64>() / logs.len() as f64).exp();
     format!(
-        "{ABOUT}{}**Geometric mean of the ratios: {mean:.2}.**\n",
-        table.finish()
+        "{ABOUT}{}{}{}",
+        table.finish(),
+        by_scalar.summary(),
+        by_planes.summary()
     )
 }
 
 const ABOUT: &str = "
 ## Judge, beside plain Rust
 
-Nanoseconds a visit of whole calls, reading included: `larkhammock_judge` of the proved archive, and the same walk written by hand in
-Rust (`rust/bench/src/plain`), which reads and refuses alike, has the same layout of the case and the same short ways, and has Rust's
-bounds checks. Both run in one process, their samples in turn; the best of them counts. A ratio under 1 means that the proved code is the faster one.
+Nanoseconds a visit of whole calls, reading included: `larkhammock_judge` of the proved archive (ours), and two judges written by hand in
+Rust (`rust/bench/src/plain`), which read and refuse alike, give the same answers, and have Rust's bounds checks. Scalar looks at one
+case at a time, with a byte a fact; planes looks at 63 cases of the walk in one pass, with two words a fact and a bit a case. The first
+ratio sets ours beside the walk as one would write it down first; the second sets it beside the same walk by blocks of 63 cases, as fast
+as we can write that in Rust by hand. All three run in one process, their samples in turn; the best of them counts. A ratio under 1
+means that the proved code is the faster one.
 ";

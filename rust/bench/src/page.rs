@@ -43,6 +43,15 @@ pub fn whole(number: u64) -> String {
     text
 }
 
+/// A ratio, with three digits where the first decimal is nought.
+pub fn ratio(ratio: f64) -> String {
+    if ratio < 0.1 {
+        format!("{ratio:.3}")
+    } else {
+        format!("{ratio:.2}")
+    }
+}
+
 /// Nanoseconds of a time in seconds.
 pub fn nanoseconds(seconds: f64) -> String {
     let ns = seconds * 1e9;

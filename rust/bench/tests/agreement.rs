@@ -8,7 +8,15 @@ use conformance::model::values;
 use conformance::oracle;
 use larkhammock::{Outcome, Verdict};
 
-/// The library's verdict in the words of the other.
+type Judge = fn(&[u8], &[u8], u64) -> plain::Verdict;
+
+/// The judges in plain Rust.
+const JUDGES: [(&str, Judge); 2] = [
+    ("scalar", plain::scalar::judge),
+    ("planes", plain::planes::judge),
+];
+
+/// The library's verdict in the words of the others.
 fn library(problem: &[u8], plan: &[u8], grant: u64) -> plain::Verdict {
     match larkhammock::judge(problem, plan, grant) {
         Err(refusal) => plain::Verdict::Refused {
@@ -33,8 +41,16 @@ fn library(problem: &[u8], plan: &[u8], grant: u64) -> plain::Verdict {
     }
 }
 
+/// Holds each judge in plain Rust to the library.
+fn agree(problem: &[u8], plan: &[u8], grant: u64, what: &str) {
+    let verdict = library(problem, plan, grant);
+    for (name, judge) in JUDGES {
+        assert_eq!(judge(problem, plan, grant), verdict, "{name}, {what}");
+    }
+}
+
 #[test]
-fn plain_judges_and_refuses_alike() {
+fn plain_judges_judge_and_refuse_alike() {
     let mut rng = Rng::new(0xbe7c);
     for round in 0..20_000 {
         let case = match round % 2 {
@@ -42,13 +58,11 @@ fn plain_judges_and_refuses_alike() {
             _ => damaged_case(&mut rng),
         };
         for grant in [case.grant.min(2_000), 2_000] {
-            let plain = plain::judge(&case.problem, &case.plan, grant);
-            assert_eq!(plain, library(&case.problem, &case.plan, grant), "{round}");
+            agree(&case.problem, &case.plan, grant, &format!("round {round}"));
         }
     }
     for measured in problems::for_solvers() {
-        let plain = plain::judge(&measured.problem, &measured.plan, 1 << 16);
-        assert_eq!(plain, library(&measured.problem, &measured.plan, 1 << 16));
+        agree(&measured.problem, &measured.plan, 1 << 16, &measured.name);
     }
 }
 

@@ -1,5 +1,7 @@
 //! The header and the archive as a C program meets them.
 
+mod gcc;
+
 use std::fs;
 use std::path::{Path, PathBuf};
 use std::process::Command;
@@ -8,21 +10,17 @@ fn root() -> PathBuf {
     Path::new(env!("CARGO_MANIFEST_DIR")).join("../..")
 }
 
-/// What the program prints, compiled with every warning an error.
+/// What the program prints, linked with the archive.
+#[track_caller]
 fn printed(source: &Path, name: &str) -> String {
     let program = Path::new(env!("CARGO_TARGET_TMPDIR")).join(name);
-    let compiled = Command::new("gcc")
-        .args(["-std=c99", "-Wall", "-Wextra", "-Wpedantic", "-Werror"])
-        .arg("-I")
-        .arg(root().join("include"))
-        .arg("-o")
-        .arg(&program)
-        .arg(source)
-        .arg(larkhammock::raw::ARCHIVE)
-        .output()
-        .expect("gcc can be started");
-    let said = String::from_utf8_lossy(&compiled.stderr);
-    assert!(compiled.status.success(), "{said}");
+    let include = root().join("include");
+    let archive = larkhammock::raw::ARCHIVE;
+    gcc::compile(
+        source,
+        &program,
+        &["-I".as_ref(), include.as_os_str(), archive.as_ref()],
+    );
 
     let run = Command::new(&program)
         .output()
@@ -34,7 +32,7 @@ fn printed(source: &Path, name: &str) -> String {
 
 #[test]
 fn a_c_program_gets_the_same_words() {
-    let source = Path::new(env!("CARGO_MANIFEST_DIR")).join("tests/c/check.c");
+    let source = gcc::source("check.c");
     assert_eq!(printed(&source, "check"), "16 answers as they should be\n");
 }
 

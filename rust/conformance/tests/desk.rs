@@ -1,6 +1,7 @@
 //! The desk program itself, on real files.
 
 mod cases;
+mod gcc;
 
 use std::ffi::OsStr;
 use std::fs::{self, File};
@@ -31,18 +32,18 @@ fn desk<A: AsRef<OsStr>>(arguments: &[A]) -> Command {
     command
 }
 
-/// What the program prints. How it exits is left to it, but it must not be
-/// killed.
-#[track_caller]
-fn print<A: AsRef<OsStr>>(arguments: &[A]) -> Vec<u8> {
-    let run = desk(arguments).output().expect("desk can be started");
-    assert!(run.status.code().is_some(), "{}", run.status);
-    run.stdout
-}
-
 #[track_caller]
 fn prints<A: AsRef<OsStr>>(name: &str, arguments: &[A], expected: &[u8]) {
-    let got = print(arguments);
+    writes(name, &mut desk(arguments), expected);
+}
+
+/// Holds what the program prints to this. How it exits is left to it, but it
+/// must not be killed.
+#[track_caller]
+fn writes(name: &str, command: &mut Command, expected: &[u8]) {
+    let run = command.output().expect("desk can be started");
+    assert!(run.status.code().is_some(), "{name}: {}", run.status);
+    let got = run.stdout;
     if got == expected {
         return;
     }
@@ -68,6 +69,39 @@ fn file(folder: &Path, name: &str, bytes: &[u8]) -> PathBuf {
     let path = folder.join(name);
     fs::write(&path, bytes).expect("a file can be written");
     path
+}
+
+fn case(name: &str) -> cases::Case {
+    let mut all = cases::all().into_iter();
+    all.find(|case| case.name == name).expect("it is a case")
+}
+
+/// The program on two files whose reading goes as a test says.
+struct Reads {
+    library: PathBuf,
+    arguments: [PathBuf; 2],
+}
+
+impl Reads {
+    fn new(folder: &Path, problem: &[u8], plan: &[u8]) -> Reads {
+        let library = folder.join("reads.so");
+        gcc::compile(&gcc::source("reads.c"), &library, &["-shared", "-fPIC"]);
+        let arguments = [file(folder, "problem", problem), file(folder, "plan", plan)];
+        Reads { library, arguments }
+    }
+
+    /// A read gives at most so many bytes, and the one of this number fails:
+    /// they are counted from 1, over both files.
+    #[track_caller]
+    fn prints(&self, most: usize, fails: usize, expected: &[u8]) {
+        let mut command = desk(&self.arguments);
+        command
+            .env("LD_PRELOAD", &self.library)
+            .env("READ_MOST", most.to_string())
+            .env("READ_FAILS", fails.to_string());
+        let name = format!("{most} bytes a read, read {fails} fails");
+        writes(&name, &mut command, expected);
+    }
 }
 
 #[test]
@@ -137,6 +171,59 @@ fn files_that_cannot_be_read() {
     }
 }
 
+/// Each read in turn, the one that meets a file's end too: what came before it
+/// counts for nothing. The last number is past them all, and nothing fails.
+#[test]
+fn a_read_that_fails() {
+    let (problem, plan) = (trial::problem(), encode::plan(&[0, 1]));
+    let whole = printed(&problem, &plan);
+    let desk = Reads::new(&folder("a-read-that-fails"), &problem, &plan);
+    for most in [1, 3, 7, 36, 37, 100] {
+        let reads = |bytes: &[u8]| bytes.len().div_ceil(most) + 1;
+        let expected = [
+            vec![NO_PROBLEM.as_bytes(); reads(&problem)],
+            vec![NO_PLAN.as_bytes(); reads(&plan)],
+            vec![&whole],
+        ];
+        for (at, expected) in expected.concat().into_iter().enumerate() {
+            desk.prints(most, at + 1, expected);
+        }
+    }
+}
+
+#[test]
+fn short_reads_are_put_together() {
+    let folder = folder("short-reads");
+    for name in ["32768-bytes", "32769-bytes", "256-steps"] {
+        let case = case(name);
+        let desk = Reads::new(&folder, &case.problem, &case.plan);
+        let expected = printed(&case.problem, &case.plan);
+        for most in [1, 255, 4_096, 32_768] {
+            desk.prints(most, 0, &expected);
+        }
+    }
+}
+
+/// The byte past the most that a block may have is the last that is read: a
+/// read after it would fail here.
+#[test]
+fn a_long_file_is_read_no_further() {
+    let folder = folder("no-further");
+    let plan = encode::plan(&[]);
+    let problem = |len: usize| Reads::new(&folder, &vec![1; len], &plan);
+    let over = b"refused problem 10 at 32768\n";
+    problem(200_000).prints(32_769, 2, over);
+    problem(200_000).prints(32_768, 3, over);
+    problem(32_769).prints(32_769, 2, over);
+    problem(32_768).prints(32_769, 2, NO_PROBLEM.as_bytes());
+
+    let plan = |len: usize| Reads::new(&folder, &trial::problem(), &vec![1; len]);
+    let over = b"refused plan 30 at 261\n";
+    plan(300).prints(262, 4, over);
+    plan(262).prints(262, 4, over);
+    plan(261).prints(262, 4, NO_PLAN.as_bytes());
+}
+
 /// A name from the working folder, and one file in both places.
 #[test]
 fn names_of_other_kinds() {
@@ -154,10 +241,7 @@ fn names_of_other_kinds() {
 #[test]
 fn a_long_print_goes_to_a_file_too() {
     let folder = folder("to-a-file");
-    let case = cases::all()
-        .into_iter()
-        .find(|case| case.name == "8191-lines")
-        .expect("it is a case");
+    let case = case("8191-lines");
     let problem = file(&folder, "problem", &case.problem);
     let plan = file(&folder, "plan", &case.plan);
     let output = folder.join("output");

@@ -22,10 +22,10 @@ row-requires : tie.Need-row-requires
 row-requires c κs = search needs
 
 returns : tie.Need-returns
-returns c = laid-out followAnswer countWords _ _ _ _ (c .refused .ensures) (c .before .before .r .given .1) (c .before .before .before .before .follow-list .ensures)
+returns c = laid-out followAnswer countWords _ _ _ _ (c .refused .ensures) (c .before .before .r .given .1) (c .before .before .before .before .follow-list .ensures .0)
 
 returns-2 : tie.Need-returns-2
-returns-2 c = laid-out followAnswer countWords _ _ _ _ (c .row .ensures) (c .before .before .lines .given .1) (c .before .before .before .before .follow-list .ensures)
+returns-2 c = laid-out followAnswer countWords _ _ _ _ (c .row .ensures) (c .before .before .lines .given .1) (c .before .before .before .before .follow-list .ensures .0)
 
 pub larkhammock-follow-list-spec : {M : Type 1} → statement M
 larkhammock-follow-list-spec =

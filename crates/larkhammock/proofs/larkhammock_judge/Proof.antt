@@ -34,16 +34,16 @@ row-requires-2 : tie.Need-row-requires-2
 row-requires-2 c κs = search needs
 
 returns : tie.Need-returns
-returns c = laid-out judgeAnswer judgeWords _ _ _ _ (c .refused .ensures) (c .before .before .r .given .1) (c .before .before .before .before .judge .ensures)
+returns c = laid-out judgeAnswer judgeWords _ _ _ _ (c .refused .ensures) (c .before .before .r .given .1) (c .before .before .before .before .judge .ensures .0)
 
 returns-2 : tie.Need-returns-2
-returns-2 c = laid-out judgeAnswer judgeWords _ _ _ _ (c .row .ensures) (c .before .before .lines .given .1) (c .before .before .before .before .judge .ensures)
+returns-2 c = laid-out judgeAnswer judgeWords _ _ _ _ (c .row .ensures) (c .before .before .lines .given .1) (c .before .before .before .before .judge .ensures .0)
 
 returns-3 : tie.Need-returns-3
-returns-3 c = laid-out judgeAnswer judgeWords _ _ _ _ (c .wrong .ensures) (c .before .before .state .given .1) (c .before .before .before .before .judge .ensures)
+returns-3 c = laid-out judgeAnswer judgeWords _ _ _ _ (c .wrong .ensures) (c .before .before .state .given .1) (c .before .before .before .before .judge .ensures .0)
 
 returns-4 : tie.Need-returns-4
-returns-4 c = laid-out judgeAnswer judgeWords _ _ _ _ (c .row2 .ensures) (c .before .before .visits .given .1) (c .before .before .before .before .judge .ensures)
+returns-4 c = laid-out judgeAnswer judgeWords _ _ _ _ (c .row2 .ensures) (c .before .before .visits .given .1) (c .before .before .before .before .judge .ensures .0)
 
 pub larkhammock-judge-spec : {M : Type 1} → statement M
 larkhammock-judge-spec =

@@ -22,10 +22,10 @@ row-requires : tie.Need-row-requires
 row-requires c κs = search needs
 
 returns : tie.Need-returns
-returns c = laid-out planAnswer countWords _ _ _ _ (c .refused .ensures) (c .before .before .r .given .1) (c .before .before .before .before .read-plan .ensures)
+returns c = laid-out planAnswer countWords _ _ _ _ (c .refused .ensures) (c .before .before .r .given .1) (c .before .before .before .before .read-plan .ensures .0)
 
 returns-2 : tie.Need-returns-2
-returns-2 c = laid-out planAnswer countWords _ _ _ _ (c .row .ensures) (c .before .before .steps .given .1) (c .before .before .before .before .read-plan .ensures)
+returns-2 c = laid-out planAnswer countWords _ _ _ _ (c .row .ensures) (c .before .before .steps .given .1) (c .before .before .before .before .read-plan .ensures .0)
 
 pub larkhammock-read-plan-spec : {M : Type 1} → statement M
 larkhammock-read-plan-spec =

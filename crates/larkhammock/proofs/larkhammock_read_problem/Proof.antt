@@ -28,10 +28,10 @@ row-requires : tie.Need-row-requires
 row-requires c κs = search needs
 
 returns : tie.Need-returns
-returns c = laid-out problemAnswer problemWords _ _ _ _ (c .refused .ensures) (c .before .before .r .given .1) (c .before .before .before .before .read-problem .ensures)
+returns c = laid-out problemAnswer problemWords _ _ _ _ (c .refused .ensures) (c .before .before .r .given .1) (c .before .before .before .before .read-problem .ensures .0)
 
 returns-2 : tie.Need-returns-2
-returns-2 c = laid-out problemAnswer problemWords _ _ _ _ (c .row .ensures) (c .before .before .facts .given .1) (c .before .before .before .before .read-problem .ensures)
+returns-2 c = laid-out problemAnswer problemWords _ _ _ _ (c .row .ensures) (c .before .before .facts .given .1) (c .before .before .before .before .read-problem .ensures .0)
 
 pub larkhammock-read-problem-spec : {M : Type 1} → statement M
 larkhammock-read-problem-spec =

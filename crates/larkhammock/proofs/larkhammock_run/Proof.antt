@@ -39,16 +39,16 @@ row-requires-3 : tie.Need-row-requires-3
 row-requires-3 c κs = search needs
 
 returns : tie.Need-returns
-returns c = laid-out runAnswer runWords _ _ _ _ (c .refused .ensures) (c .before .before .r .given .1) (c .before .before .before .before .run .ensures)
+returns c = laid-out runAnswer runWords _ _ _ _ (c .refused .ensures) (c .before .before .r .given .1) (c .before .before .before .before .run .ensures .0)
 
 returns-2 : tie.Need-returns-2
-returns-2 c = laid-out runAnswer runWords _ _ _ _ (c .row .ensures) (c .before .before .before .before .outcome .given .1 ∙ ap Ended (c .before .enum-told .given .1)) (c .before .before .before .before .before .before .run .ensures)
+returns-2 c = laid-out runAnswer runWords _ _ _ _ (c .row .ensures) (c .before .before .before .before .outcome .given .1 ∙ ap Ended (c .before .enum-told .given .1)) (c .before .before .before .before .before .before .run .ensures .0)
 
 returns-3 : tie.Need-returns-3
-returns-3 c = laid-out runAnswer runWords _ _ _ _ (c .row2 .ensures) (c .before .before .before .before .outcome .given .1 ∙ ap Ended (c .before .enum-told2 .given .1)) (c .before .before .before .before .before .before .run .ensures)
+returns-3 c = laid-out runAnswer runWords _ _ _ _ (c .row2 .ensures) (c .before .before .before .before .outcome .given .1 ∙ ap Ended (c .before .enum-told2 .given .1)) (c .before .before .before .before .before .before .run .ensures .0)
 
 returns-4 : tie.Need-returns-4
-returns-4 c = laid-out runAnswer runWords _ _ _ _ (c .row3 .ensures) (c .before .before .before .before .before .outcome .given .1 ∙ ap Ended (c .before .before .outcome2 .given .1)) (c .before .before .before .before .before .before .before .run .ensures)
+returns-4 c = laid-out runAnswer runWords _ _ _ _ (c .row3 .ensures) (c .before .before .before .before .before .outcome .given .1 ∙ ap Ended (c .before .before .outcome2 .given .1)) (c .before .before .before .before .before .before .before .run .ensures .0)
 
 pub larkhammock-run-spec : {M : Type 1} → statement M
 larkhammock-run-spec =

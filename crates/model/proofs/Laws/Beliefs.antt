@@ -1,9 +1,9 @@
 -- Document 004's solutions are the right plans: belief states and runs of single states agree, and every list of n values is a
--- state. Assumes nothing.
-use mathlib.Core.Path.{_≡_, sym, ap, _∙_, subst}
-use mathlib.Core.Bool.{Bool, true, false, cond}
+-- state. A run of one state ends as that section says of the belief that holds it alone. Assumes nothing.
+use mathlib.Core.Path.{_≡_, refl, sym, ap, _∙_, subst}
+use mathlib.Core.Bool.{Bool, true, false, cond, false≢true}
 use mathlib.Core.Logic.{_↔_}
-use mathlib.Core.List.{List, [], _∷_}
+use mathlib.Core.List.{List, [], _∷_, _++_, append-nil}
 use Prim.Native.Nat.{ℕ, zero, suc, _+_, _-_, _*_, _^_, _≤_, _<_}
 use native.Mathlib.Nat.{pow-suc, mod-eq-of-lt, mul-add-mod-self-right, mul-add-div-right, not-suc-le-zero}
 use native.Mathlib.Omega.{arith}
@@ -13,11 +13,11 @@ use lib.Dec.{eqb}
 use lib.Arith.{digits-div}
 use lib.Pow.{pow-pos, pow-add}
 use Rattle.model.specs.Kleene.{two}
-use Rattle.model.specs.Formula.{Formula}
+use Rattle.model.specs.Formula.{Formula, eval}
 use Rattle.model.specs.Action.{Action, tabulate, applicable, next, step}
-use Rattle.model.specs.Run.{reached, atEnd, goesOn, run}
+use Rattle.model.specs.Run.{Outcome, reached, missed, blocked, atEnd, goesOn, run}
 use Rattle.model.specs.Case.{bit, stateOf, Task, runOf, initially, IsStart, Right}
-use Rattle.model.specs.Belief.{Belief, Image, Solution, initialBelief}
+use Rattle.model.specs.Belief.{Belief, Entails, ApplicableIn, only, Image, after, Applicable, Solution, initialBelief, Blocks, OutcomeMeans}
 use Rattle.model.proofs.Laws.Tabulate.{length-tabulate, getD-tabulate}
 use Rattle.model.proofs.Laws.Agreement.{goes-on-reached, at-end-reached}
 use Rattle.model.proofs.Laws.Cover.{Block, mod-of-block}
@@ -45,6 +45,130 @@ module _ (n : ℕ) where
     runs-solution (a ∷ plan) i B h =
         let r = runs-solution plan (suc i) (Image n a B) (λ t m. rw (image-step a B t m) (goes-on-reached _ _ _ (h (m .before) (m .held)) .1)) in
         ((λ s b. goes-on-reached _ _ _ (h s b) .0, r .0), r .1)
+
+-- ---- the run of one state
+
+-- B holds s alone
+record Alone (B : Belief) (s : List Bool) : Type 0 where
+  pub holds : B s
+  pub one : (t : List Bool) → B t → t ≡ s
+
+only-alone : (s : List Bool) → Alone (only s) s
+only-alone s = record { holds = refl; one = λ t e. e }
+
+module _ (B : Belief) (s : List Bool) (h : Alone B s) where
+  entails-alone : (φ : Formula) → Entails B φ ↔ (eval two s φ ≡ true)
+  entails-alone φ = ((λ e. e s (h .holds)), λ e t b. rw (h .one t b) e)
+
+  applicable-alone : (a : Action) → ApplicableIn B a ↔ (applicable two a s ≡ true)
+  unfolding applicable
+  applicable-alone a = entails-alone (a .precondition)
+
+module _ (n : ℕ) (goal : Formula) where
+  image-alone : (a : Action) (B : Belief) (s : List Bool) → Alone B s → Alone (Image n a B) (step two n a s)
+  image-alone a B s h =
+      record { holds = step-image n a B s (h .holds); one = λ t m. image-step n a B t m ∙ ap (step two n a) (h .one (m .before) (m .held)) }
+
+  -- what an outcome says of a plan whose first step is numbered i
+  abbrev MeansFrom : Belief → List Action → ℕ → Outcome → Type 0
+  MeansFrom B plan i reached = Solution n B goal plan
+  MeansFrom B plan i missed = Applicable n B plan × (Entails (after n B plan) goal → ⊥)
+  MeansFrom B plan i (blocked p) = (j : ℕ) × (p .step ≡ i + j) × Blocks n B plan j
+
+  after-step :
+      (a : Action) (B : Belief) (plan : List Action) (i : ℕ) → ApplicableIn B a → (o : Outcome) →
+      MeansFrom (Image n a B) plan (suc i) o → MeansFrom B (a ∷ plan) i o
+  after-step a B plan i h reached m = ((h, m .0), m .1)
+  after-step a B plan i h missed m = ((h, m .0), m .1)
+  after-step a B plan i h (blocked p) m =
+      let (j, e, b) = m in (
+        suc j,
+        omega (arith, e),
+        record {
+          before = a ∷ b .before;
+          action = b .action;
+          rest = b .rest;
+          parts = ap (λ l. a ∷ l) (b .parts);
+          at = ap suc (b .at);
+          applicable = (h, b .applicable);
+          not-applicable = b .not-applicable;
+        },
+      )
+
+  run-means : (plan : List Action) (i : ℕ) (B : Belief) (s : List Bool) → Alone B s → MeansFrom B plan i (run two n goal plan i s)
+  unfolding run goesOn
+  run-means [] i B s h = by-goal (eval two s goal) refl
+    where
+      by-goal : (b : Bool) → eval two s goal ≡ b → MeansFrom B [] i (atEnd b)
+      by-goal true e = (tt, entails-alone B s h goal .1 e)
+      by-goal false e = (tt, λ g. false≢true (sym e ∙ entails-alone B s h goal .0 g))
+  run-means (a ∷ plan) i B s h =
+      by-test (run two n goal plan (suc i) (step two n a s)) (run-means plan (suc i) (Image n a B) (step two n a s) (image-alone a B s h))
+      (applicable two a s) refl
+    where
+      by-test :
+          (o : Outcome) → MeansFrom (Image n a B) plan (suc i) o → (b : Bool) → applicable two a s ≡ b →
+          MeansFrom B (a ∷ plan) i (goesOn b o (record { step = i }))
+      by-test o m true e = after-step a B plan i (applicable-alone B s h a .1 e) o m
+      by-test o m false e = (
+        0,
+        omega arith,
+        record {
+          before = [];
+          action = a;
+          rest = plan;
+          parts = refl;
+          at = refl;
+          applicable = tt;
+          not-applicable = λ g. false≢true (sym e ∙ applicable-alone B s h a .0 g);
+        },
+      )
+
+  not-true : (b : Bool) → (b ≡ true → ⊥) → b ≡ false
+  not-true true h = absurd (h refl)
+  not-true false h = refl
+
+  -- a plan whose actions are applicable runs to its end
+  runs-on :
+      (before rest : List Action) (i : ℕ) (B : Belief) (s : List Bool) → Alone B s → Applicable n B before → (o : Outcome) →
+      ((t : List Bool) → Alone (after n B before) t → run two n goal rest (i + length before) t ≡ o) →
+      run two n goal (before ++ rest) i s ≡ o
+  unfolding run goesOn
+  runs-on [] rest i B s h ap′ o k = subst (λ (x : ℕ). run two n goal rest x s ≡ o) (omega arith) (k s h)
+  runs-on (a ∷ before) rest i B s h ap′ o k =
+      rw (applicable-alone B s h a .0 (ap′ .0))
+      (runs-on before rest (suc i) (Image n a B) (step two n a s) (image-alone a B s h) (ap′ .1) o
+      (λ t l. subst (λ (x : ℕ). run two n goal rest x t ≡ o) (omega arith) (k t l)))
+
+  misses : (plan : List Action) (B : Belief) (s : List Bool) → Alone B s → Applicable n B plan → (Entails (after n B plan) goal → ⊥) → run two n goal plan 0 s ≡ missed
+  unfolding run
+  misses plan B s h ap′ g =
+      rw append-nil at (runs-on plan [] 0 B s h ap′ missed (λ t l. ap atEnd (not-true (eval two t goal) (λ e. g (entails-alone (after n B plan) t l goal .1 e)))))
+
+  stops : (plan : List Action) (i : ℕ) (B : Belief) (s : List Bool) → Alone B s → Blocks n B plan i → run two n goal plan 0 s ≡ blocked (record { step = i })
+  unfolding run goesOn
+  stops plan i B s h b =
+      rw (b .parts)
+      (runs-on (b .before) (b .action ∷ b .rest) 0 B s h (b .applicable) (blocked (record { step = i }))
+      (λ t l.
+      rw (not-true (applicable two (b .action) t) (λ e. b .not-applicable (applicable-alone (after n B (b .before)) t l (b .action) .1 e)))
+      (ap (λ x. blocked (record { step = x })) (omega (arith, b .at)))))
+
+  means-run : (plan : List Action) (s : List Bool) (o : Outcome) → OutcomeMeans n s goal plan o → run two n goal plan 0 s ≡ o
+  means-run plan s reached m = solution-runs n goal plan 0 (only s) m s refl
+  means-run plan s missed m = misses plan (only s) s (only-alone s) (m .0) (m .1)
+  means-run plan s (blocked p) m = stops plan (p .step) (only s) s (only-alone s) m
+
+  from-0 : (plan : List Action) (s : List Bool) (o : Outcome) → MeansFrom (only s) plan 0 o → OutcomeMeans n s goal plan o
+  from-0 plan s reached m = m
+  from-0 plan s missed m = m
+  from-0 plan s (blocked p) m = subst (Blocks n (only s) plan) (omega (arith, m .1)) (m .2)
+
+  pub outcome-means : (plan : List Action) (s : List Bool) (o : Outcome) → (run two n goal plan 0 s ≡ o) ↔ OutcomeMeans n s goal plan o
+  outcome-means plan s o = (
+    (λ e. subst (OutcomeMeans n s goal plan) e (from-0 plan s (run two n goal plan 0 s) (run-means plan 0 (only s) s (only-alone s)))),
+    means-run plan s o,
+  )
 
 -- ---- the number of a state
 

@@ -14,6 +14,7 @@ use lib.Pow.{pow-add, pow-pos, shr-shr}
 use Rattle.model.specs.Case.{bit}
 use Rattle.model.specs.Walk.{Kind, kindNumber, Look, closed, opened, Line, Walked, covered, failed, line, join, walkFrom, walk}
 use Rattle.model.specs.CaseList.{claims}
+use Rattle.model.specs.WellFormed.{Each, LineHolds, Joined}
 
 -- ---- v is a multiple of what a case of k facts covers
 
@@ -187,16 +188,9 @@ module _ (w : ℕ) (look : ℕ → ℕ → Look) where
 
   -- ---- lists of lines
 
-  pub record LineHolds (n : ℕ) (l : Line) (x : ℕ) : Type 0 where
-    pub k-fits : l .k ≤ n
-    pub no-bits : l .value % 2 ^ (w - l .k) ≡ 0
-    pub begins : l .value ≡ x
-    pub claim : claims (l .kind) (look (l .k) (l .value)) ≡ true
-
-  -- the lines hold, each begins where the one before ended, and the last ends at 2 ^ w
+  -- the lines follow one another from x to the end, and each holds
   abbrev pub Follows : ℕ → List Line → ℕ → Type 0
-  Follows n [] x = x ≡ 2 ^ w
-  Follows n (l ∷ ls) x = LineHolds n l x × Follows n ls (x + 2 ^ (w - l .k))
+  Follows n ls x = Joined w ls x × Each (LineHolds w look n) ls
 
   module _ (n : ℕ) where
     pub data Hit (s : ℕ) : List Line → Type 0 where
@@ -208,14 +202,14 @@ module _ (w : ℕ) (look : ℕ → ℕ → Look) where
     each-hit [] x f s l h = absurd (omega arith)
     each-hit (m ∷ ls) x f s l h =
         elim (decLt s (x + 2 ^ (w - m .k))) [
-          | yes g ↦ hit (f .0 .k-fits) (block-of-mod w _ _ (f .0 .no-bits)) (f .0 .claim) (omega arith) (omega arith)
-          | no g ↦ later (each-hit ls (x + 2 ^ (w - m .k)) (f .1) s (omega arith) h)
+          | yes g ↦ hit (f .1 .0 .k-fits) (block-of-mod w _ _ (f .1 .0 .no-bits)) (f .1 .0 .claim) (omega arith) (omega arith)
+          | no g ↦ later (each-hit ls (x + 2 ^ (w - m .k)) (f .0 .1, f .1 .1) s (omega arith) h)
         ]
 
     -- the walk's lines pass
     pub closes-follows : n ≤ w → {d k v a : ℕ} {ls : List Line} → Closes d k v ls a → k + d ≡ n → Block w k v → (rest : List Line) → Follows n rest (v + 2 ^ (w - k))
         → Follows n (ls ++ rest) v
-    closes-follows nw {d} {k} {v} (leaf {κ} e) f b rest g = (record { k-fits = omega arith; no-bits = mod-of-block w k v b; begins = refl; claim = ap (claims (kindNumber κ)) e ∙ claims-own κ }, g)
+    closes-follows nw {d} {k} {v} (leaf {κ} e) f b rest g = ((refl, g .0), (record { k-fits = omega arith; no-bits = mod-of-block w k v b; claim = ap (claims (kindNumber κ)) e ∙ claims-own κ }, g .1))
     closes-follows nw (node {d} {k} {v} {ls} {ms} e x y) f b rest g =
         let c = rescale w k (suc k) v (omega arith) (omega arith) b in
         rw (append-assoc ls ms rest)
@@ -245,7 +239,7 @@ module _ (w : ℕ) (look : ℕ → ℕ → Look) where
 
     begins-at-0 : (ls : List Line) → Follows n ls 0 → Starts 0 ls
     begins-at-0 [] f = absurd (omega (arith, pow-pos w))
-    begins-at-0 (l ∷ ls) f = first (f .0 .begins)
+    begins-at-0 (l ∷ ls) f = first (f .0 .0)
 
     module _ (n≤w : n ≤ w) (mono : (k v k′ v′ : ℕ) → k ≤ k′ → k′ ≤ n → Block w k v → v ≤ v′ → v′ < v + 2 ^ (w - k) → look k′ v′ ≡ opened → look k v ≡ opened) where
       -- a line that covers the middle of an open case initially there

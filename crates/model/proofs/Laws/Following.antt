@@ -10,7 +10,8 @@ use borrow.Author.Tests.{ltb-false, le-ltb, eqb-true, eq-eqb, not-false}
 use Rattle.model.specs.Answer.{Answer, answered}
 use Rattle.model.specs.Walk.{Kind, empty, carries, kindNumber, Look, closed, opened, Line}
 use Rattle.model.specs.CaseList.{claims, first, refuseAt, ends, fault, follow}
-use Rattle.model.proofs.Laws.Cover.{LineHolds, Follows}
+use Rattle.model.specs.WellFormed.{LineHolds}
+use Rattle.model.proofs.Laws.Cover.{Follows}
 
 first-zero : (b : Bool) (c r : ℕ) → first b (suc c) r ≡ 0 → (b ≡ false) × (r ≡ 0)
 unfolding first
@@ -37,29 +38,26 @@ claimed-le d (closed κ) e = rw (eqb-true d (kindNumber κ) e) (kind-le κ)
 claimed-le d opened e = absurd (false≢true e)
 
 module _ (w : ℕ) (look : ℕ → ℕ → Look) (n : ℕ) where
-  fault-none : (l : Line) (x : ℕ) → fault w look n l x ≡ 0 → LineHolds w look n l x
+  fault-none : (l : Line) (x : ℕ) → fault w look n l x ≡ 0 → (l .value ≡ x) × LineHolds w look n l
   unfolding fault
   fault-none l x e =
       let a = first-zero _ 64 _ e in
       let b = first-zero _ 65 _ (a .1) in
       let c = first-zero _ 66 _ (b .1) in
       let d = first-zero _ 67 _ (c .1) in
-      let f = first-zero _ 68 _ (d .1) in
-      record {
-        k-fits = ltb-false _ _ (b .0);
-        no-bits = eqb-true _ _ (not-false _ (c .0));
-        begins = eqb-true _ _ (not-false _ (d .0));
-        claim = not-false _ (f .0);
-      }
+      let f = first-zero _ 68 _ (d .1) in (
+        eqb-true _ _ (not-false _ (d .0)),
+        record { k-fits = ltb-false _ _ (b .0); no-bits = eqb-true _ _ (not-false _ (c .0)); claim = not-false _ (f .0) },
+      )
 
-  fault-ok : (l : Line) (x : ℕ) → LineHolds w look n l x → fault w look n l x ≡ 0
+  fault-ok : (l : Line) (x : ℕ) → l .value ≡ x → LineHolds w look n l → fault w look n l x ≡ 0
   unfolding fault first
-  fault-ok l x f =
+  fault-ok l x e f =
       rw (
         le-ltb 1 (l .kind) (claimed-le (l .kind) (look (l .k) (l .value)) (f .claim)),
         le-ltb n (l .k) (f .k-fits),
         eq-eqb (l .value % 2 ^ (w - l .k)) 0 (f .no-bits),
-        eq-eqb (l .value) x (f .begins),
+        eq-eqb (l .value) x e,
       )
       (ap (λ b. first (not b) 69 0) (f .claim))
 
@@ -67,15 +65,16 @@ module _ (w : ℕ) (look : ℕ → ℕ → Look) (n : ℕ) where
   pub follow-passes :
       (ls : List Line) (i x m : ℕ) → follow w look n ls i x ≡ answered m → Follows w look n ls x × (m ≡ i + length ls)
   unfolding follow
-  follow-passes [] i x m e = let a = ends-answered _ i m e in (eqb-true x (2 ^ w) (a .0), omega (arith, a .1))
+  follow-passes [] i x m e = let a = ends-answered _ i m e in ((eqb-true x (2 ^ w) (a .0), tt), omega (arith, a .1))
   follow-passes (l ∷ ls) i x m e =
       let a = refuse-at-answered (fault w look n l x) i m _ e in
       let b = follow-passes ls (suc i) (x + 2 ^ (w - l .k)) m (a .1) in
-      ((fault-none l x (a .0), b .0), omega (arith, b .1))
+      let h = fault-none l x (a .0) in
+      (((h .0, b .0 .0), (h .1, b .0 .1)), omega (arith, b .1))
 
   pub passes-follow : (ls : List Line) (i x : ℕ) → Follows w look n ls x → follow w look n ls i x ≡ answered (i + length ls)
   unfolding follow refuseAt ends
-  passes-follow [] i x f = rw (eq-eqb x (2 ^ w) f) (ap answered (omega arith))
+  passes-follow [] i x f = rw (eq-eqb x (2 ^ w) (f .0)) (ap answered (omega arith))
   passes-follow (l ∷ ls) i x f =
-      let g = passes-follow ls (suc i) (x + 2 ^ (w - l .k)) (f .1) in
-      rw (fault-ok l x (f .0), refuseAt) (g ∙ ap answered (omega arith))
+      let g = passes-follow ls (suc i) (x + 2 ^ (w - l .k)) (f .0 .1, f .1 .1) in
+      rw (fault-ok l x (f .0 .0) (f .1 .0), refuseAt) (g ∙ ap answered (omega arith))

@@ -13,7 +13,8 @@ use Rattle.model.specs.Formula.{Literal, fact, denial, Formula, Formulas
 use Rattle.model.specs.Read.{got, Reader, andThen, _>>=_, _>>_, done, position, require, bytesOf}
 use Rattle.model.specs.FormulaBytes.{isLiteral, literalOf, literalByte, Group, conjunction, disjunction, mark, grouped, Head, leaf, group, groupHead, headFrom, head, members, whole, item, stated, formula, memberCount, formulaBytes, memberBytes, encodeFormula}
 use Rattle.model.specs.WellFormed.{Bytes, Declared, Formed, FormedAll, FormulaOk}
-use Rattle.model.proofs.Laws.Reading.{then-got, got-inj, both-true, needed, Span, nothing, empty, first, join, split, carried, span-length, span-end, span-within, byte-got, byte-ok}
+use Rattle.model.specs.Stands.{Span, nothing}
+use Rattle.model.proofs.Laws.Reading.{then-got, got-inj, both-true, needed, empty, first, join, split, carried, span-length, span-end, span-within, byte-got, byte-ok}
 
 either-true : (a b : Bool) → (a || b) ≡ true → (a ≡ true) ⊎ (b ≡ true)
 either-true true b h = inl refl

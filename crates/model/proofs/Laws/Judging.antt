@@ -1,51 +1,28 @@
--- Demand 2 for the judge's definition. Assumes nothing.
+-- Demand 2 for the definitions of the judge and the run. Assumes nothing.
 use mathlib.Core.Path.{_≡_, refl, sym, ap, _∙_, subst}
-use mathlib.Core.Logic.{_≢_}
+use mathlib.Core.Logic.{_↔_, _≢_}
 use mathlib.Core.List.{List}
-use Prim.Native.Nat.{ℕ, suc, _*_, _≤_, _<_}
-use native.Mathlib.Omega.{arith}
+use Prim.Native.Nat.{ℕ, _≤_, _<_}
 use lib.ListN.{length}
-use lib.Dec.{leb}
 use borrow.Author.Tests.{le-leb, lt-leb}
 use Rattle.model.specs.declared.Limits.{Limits}
 use Rattle.model.specs.Answer.{answered}
 use Rattle.model.specs.Run.{Outcome}
-use Rattle.model.specs.Case.{Task, runOf, Right}
+use Rattle.model.specs.Case.{stateOf, Task, runOf, IsState, Right}
 use Rattle.model.specs.Walk.{Line, Walked, covered, failed, Verdict, right, wrong, undecided, visits, found, walked, judged}
-use Rattle.model.specs.Operations.{readTask, lineCount, judge}
-use Rattle.model.specs.Demands.{LowestFailing, Demand2}
+use Rattle.model.specs.Operations.{readTask, runState, lineCount, judge}
+use Rattle.model.specs.Demands.{Says, OutcomeSays, Demand2}
 use Rattle.model.proofs.Laws.Verdicts.{Means, judged-means, right-closes, larger-grant, walk-closes-right}
-use Rattle.model.proofs.Laws.Beliefs.{solution-right}
-use Rattle.model.proofs.Laws.Tasks.{judge-is}
+use Rattle.model.proofs.Laws.Beliefs.{outcome-means, solution-right}
+use Rattle.model.proofs.Laws.Tasks.{judge-is, run-answers, run-no-state}
 
 module _ (T : Task) (n≤w : T .facts ≤ T .width) where
-  -- what each verdict of the counted kind says
-  counted-right :
-      (g lines a : ℕ) (v : Verdict (List Line)) → Means T n≤w g (walked T) v → lineCount v ≡ right lines a →
-      Right T × (suc a ≡ 2 * lines)
-  counted-right g lines a (right ls b) m e =
-      let h : length ls ≡ lines = cc in
-      let k : b ≡ a = cc in
-      (m .1, omega (arith, m .2))
-  counted-right g lines a (wrong s o b) m e = let z : _≡_ {A = ℕ} 0 1 = cc in absurd (omega arith)
-  counted-right g lines a (undecided b) m e = let z : _≡_ {A = ℕ} 0 1 = cc in absurd (omega arith)
-
-  counted-wrong :
-      (g s : ℕ) (o : Outcome) (a : ℕ) (v : Verdict (List Line)) → Means T n≤w g (walked T) v → lineCount v ≡ wrong s o a →
-      LowestFailing T s × (o ≡ runOf T s)
-  counted-wrong g s o a (right ls b) m e = let z : _≡_ {A = ℕ} 0 1 = cc in absurd (omega arith)
-  counted-wrong g s o a (wrong t p b) m e =
-      let h : t ≡ s = cc in
-      let k : p ≡ o = cc in
-      subst (λ (x : ℕ). LowestFailing T x × (o ≡ runOf T x)) h (m .1, sym k ∙ m .2)
-  counted-wrong g s o a (undecided b) m e = let z : _≡_ {A = ℕ} 0 1 = cc in absurd (omega arith)
-
-  counted-undecided :
-      (g a : ℕ) (v : Verdict (List Line)) → Means T n≤w g (walked T) v → lineCount v ≡ undecided a →
-      (a ≡ g) × (g < visits (walked T))
-  counted-undecided g a (right ls b) m e = let z : _≡_ {A = ℕ} 0 1 = cc in absurd (omega arith)
-  counted-undecided g a (wrong t p b) m e = let z : _≡_ {A = ℕ} 0 1 = cc in absurd (omega arith)
-  counted-undecided g a (undecided b) m e = let h : b ≡ a = cc in (sym h ∙ m .0, m .1)
+  -- what a verdict with its lines means, it says with their count
+  counted : (g : ℕ) (v : Verdict (List Line)) → Means T n≤w g (walked T) v → Says T g (lineCount v)
+  counted g (right ls a) m =
+      record { is-right = m .1; is-solution = solution-right T n≤w .1 (m .1); walk-visits = sym (ap visits (m .0)); within = m .3; twice-lines = m .2 }
+  counted g (wrong s o a) m = record { lowest = m .1; where-it-fails = m .2; walk-visits = sym (ap visits (m .0)); within = m .3 }
+  counted g (undecided a) m = record { all-used = m .0; needs-more = m .1 }
 
   pub judged-out : (g : ℕ) → g < visits (walked T) → judged T g ≡ undecided g
   unfolding judged
@@ -56,8 +33,20 @@ module _ (T : Task) (n≤w : T .facts ≤ T .width) where
   judged-in g r e h = rw (le-leb (visits (walked T)) g h, e)
 
   module _ (F : Limits) (problem plan : List ℕ) (given : readTask F problem plan ≡ answered T) where
-    says : (g : ℕ) (v : Verdict ℕ) → judge F problem plan g ≡ answered v → lineCount (judged T g) ≡ v
-    says g v e = let h = judge-is F problem plan T given g in cc
+    judge-says : (g : ℕ) (v : Verdict ℕ) → judge F problem plan g ≡ answered v → Says T g v
+    judge-says g v e =
+        let k = judge-is F problem plan T given g in
+        let h : lineCount (judged T g) ≡ v = cc in
+        subst (Says T g) h (counted g (judged T g) (judged-means T n≤w g))
+
+    run-says : (s : ℕ) → IsState T s → (o : Outcome) → (runState F problem plan s ≡ answered o) ↔ OutcomeSays T s o
+    unfolding runOf
+    run-says s h o =
+        let m = outcome-means (T .facts) (T .goal) (T .plan) (stateOf (T .width) (T .facts) s) o in
+        let k = run-answers F problem plan T given s h in (
+          (λ e. let r : runOf T s ≡ o = cc in m .0 r),
+          λ x. k ∙ ap answered (m .1 x),
+        )
 
     called-wrong :
         (g : ℕ) → visits (walked T) ≤ g → (Right T → ⊥) →
@@ -89,19 +78,15 @@ module _ (T : Task) (n≤w : T .facts ≤ T .width) where
     pub verdicts : Demand2 F problem plan T
     verdicts =
         record {
-          right-only = λ g lines a e. counted-right g lines a (judged T g) (judged-means T n≤w g) (says g _ e) .0;
+          judge-says = judge-says;
           right-is-solution = (solution-right T n≤w .1, solution-right T n≤w .0);
-          wrong-only = λ g s o a e. counted-wrong g s o a (judged T g) (judged-means T n≤w g) (says g _ e);
-          undecided-only =
-              λ g a. (
-                (λ e. counted-undecided g a (judged T g) (judged-means T n≤w g) (says g _ e)),
-                λ h. judge-is F problem plan T given g ∙ ap (λ v. answered (lineCount v)) (judged-out g (h .1)) ∙ ap (λ x. answered (undecided x)) (sym (h .0)),
-              );
           called-right = called-right;
           called-wrong = called-wrong;
-          right-visits = λ g lines a e. counted-right g lines a (judged T g) (judged-means T n≤w g) (says g _ e) .1;
+          called-undecided = λ g h. judge-is F problem plan T given g ∙ ap (λ v. answered (lineCount v)) (judged-out g h);
           no-start = λ h s st. absurd (h s st);
           larger-grant =
               λ g g′ h d.
               judge-is F problem plan T given g′ ∙ ap (λ v. answered (lineCount v)) (larger-grant T n≤w g g′ h (not-undecided g d)) ∙ sym (judge-is F problem plan T given g);
+          run-says = run-says;
+          run-no-state = run-no-state F problem plan T given;
         }

@@ -7,11 +7,13 @@ use native.Mathlib.Omega.{arith}
 use lib.ListN.{length, length-append}
 use borrow.Author.Tests.{eqb-true}
 use Rattle.model.specs.declared.Limits.{Limits}
+use Rattle.model.specs.Answer.{answered}
 use Rattle.model.specs.Walk.{Line}
-use Rattle.model.specs.Read.{got, andThen, _>>_, done, require, bytesOf}
-use Rattle.model.specs.ListBytes.{lineAt, linesFrom, caseList, lineBytes, linesBytes, encodeList}
+use Rattle.model.specs.Read.{got, andThen, _>>_, done, require, answerOf, bytesOf}
+use Rattle.model.specs.ListBytes.{lineAt, linesFrom, caseList, listOf, lineBytes, linesBytes, encodeList}
 use Rattle.model.specs.WellFormed.{Bytes, Each, LineOk, ListOk, Sensible}
-use Rattle.model.proofs.Laws.Reading.{then-got, needed, carried, Span, nothing, next, first, join, split, span-length, length-bytesOf, number-got, number-ok, length-block, header-got, header-ok}
+use Rattle.model.specs.Stands.{Span, nothing, next}
+use Rattle.model.proofs.Laws.Reading.{then-got, answer-got, needed, carried, first, join, split, span-length, length-bytesOf, number-got, number-ok, length-block, header-got, header-ok}
 
 module _ (F : Limits) (sense : Sensible F) (s : List ℕ) where
   -- one line
@@ -70,7 +72,7 @@ module _ (F : Limits) (sense : Sensible F) (s : List ℕ) where
   length-lines (l ∷ ls) =
       rw (length-append (lineBytes F l) (linesBytes F ls), length-line l, length-lines ls) (omega (arith, suc-mul (length ls) (F .line)))
 
-  pub list-got : (ls : List Line) (q : ℕ) → Bytes s → caseList F s 0 ≡ got ls q → ListOk F ls × (s ≡ encodeList F ls)
+  list-got : (ls : List Line) (q : ℕ) → Bytes s → caseList F s 0 ≡ got ls q → ListOk F ls × (s ≡ encodeList F ls)
   unfolding caseList _>>_ done encodeList
   list-got ls q sound h =
       then-got h λ _ o h₁ h₂.
@@ -82,7 +84,7 @@ module _ (F : Limits) (sense : Sensible F) (s : List ℕ) where
       carried (λ ls q. ListOk F ls × (s ≡ encodeList F ls)) h₃
       (record { count = rw c (div-le-of-le-mul (F .line) (omega arith)); lines = a }, law _ b)
 
-  pub list-ok : (ls : List Line) → ListOk F ls → s ≡ encodeList F ls → caseList F s 0 ≡ got ls 5
+  list-ok : (ls : List Line) → ListOk F ls → s ≡ encodeList F ls → caseList F s 0 ≡ got ls 5
   unfolding caseList _>>_ done encodeList andThen require
   list-ok ls k e =
       let i : length s ≡ 5 + length ls * F .line =
@@ -100,3 +102,13 @@ module _ (F : Limits) (sense : Sensible F) (s : List ℕ) where
         mul-div-cancel (length ls) {n = F .line} (omega (arith, sense .line)),
         lines-ok ls 5 (length s) (k .lines) w,
       )
+
+-- a list block as its answer
+module _ (F : Limits) (sense : Sensible F) where
+  pub list-sound : (s : List ℕ) → Bytes s → (ls : List Line) → listOf F s ≡ answered ls → ListOk F ls × (s ≡ encodeList F ls)
+  unfolding listOf
+  list-sound s sound ls e = let (q, h) = answer-got (caseList F s 0) e in list-got F sense s ls q sound h
+
+  pub list-accepted : (ls : List Line) → ListOk F ls → listOf F (encodeList F ls) ≡ answered ls
+  unfolding listOf answerOf
+  list-accepted ls k = ap answerOf (list-ok F sense (encodeList F ls) ls k refl)

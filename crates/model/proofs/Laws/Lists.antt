@@ -18,13 +18,13 @@ use Rattle.model.specs.CaseList.{follow}
 use Rattle.model.specs.Read.{headBytes, _>>=_, _>>_, done}
 use Rattle.model.specs.ListBytes.{linesFrom, caseList, listOf, linesBytes, encodeList}
 use Rattle.model.specs.Operations.{Written, readTask, listBytes, linesFor, written, listFor, writeList, followList}
-use Rattle.model.specs.WellFormed.{Each, LineOk, ListOk, Sensible}
-use Rattle.model.specs.Demands.{linesIn, listWritten, Demand3}
+use Rattle.model.specs.WellFormed.{Bytes, Each, LineOk, Sensible}
+use Rattle.model.specs.Demands.{linesIn, listWritten, Passing, Demand3}
 use Rattle.model.proofs.Laws.Cover.{Follows}
-use Rattle.model.proofs.Laws.Verdicts.{Passes, Means, judged-means, passes-right, walk-passes, walk-fewest}
+use Rattle.model.proofs.Laws.Verdicts.{Passes, Means, judged-means, passes-right, right-closes, walk-passes, walk-fewest}
 use Rattle.model.proofs.Laws.Following.{claimed-le, follow-passes, passes-follow}
 use Rattle.model.proofs.Laws.Reading.{then-got, got-inj, answer-got, length-block}
-use Rattle.model.proofs.Laws.ListCodec.{length-lines}
+use Rattle.model.proofs.Laws.ListCodec.{length-lines, list-sound, list-accepted}
 use Rattle.model.proofs.Laws.Tasks.{answer-then, list-for-is, follow-is, Fits}
 use Rattle.model.proofs.Laws.Judging.{judged-in}
 
@@ -51,17 +51,17 @@ length-encodeList F S ls = length-block (F .version) (linesBytes F ls) ∙ rw (l
 
 module _ (F : Limits) (S : Sensible F) (w : ℕ) (look : ℕ → ℕ → Look) (n : ℕ) (n-fits : n ≤ 64) (w-fits : w ≡ F .width) where
   pub follows-ok : (ls : List Line) (x : ℕ) → Follows w look n ls x → (x ≤ 2 ^ w) × Each (LineOk F) ls
-  follows-ok [] x f = (omega (arith, f), tt)
+  follows-ok [] x f = (omega (arith, f .0), tt)
   follows-ok (l ∷ ls) x f =
-      let r = follows-ok ls (x + 2 ^ (w - l .k)) (f .1) in
+      let r = follows-ok ls (x + 2 ^ (w - l .k)) (f .0 .1, f .1 .1) in
       let p = pow-pos (w - l .k) in
-      let v : l .value < 2 ^ w = omega (arith, r .0, f .0 .begins) in
+      let v : l .value < 2 ^ w = omega (arith, r .0, f .0 .0) in
       let e : 2 ^ w ≡ 256 ^ (F .line - 2) = ap (λ (x : ℕ). 2 ^ x) w-fits ∙ S .value in (
         omega (arith, r .0),
         (
           record {
-            kind = omega (arith, claimed-le (l .kind) (look (l .k) (l .value)) (f .0 .claim));
-            k = omega (arith, f .0 .k-fits);
+            kind = omega (arith, claimed-le (l .kind) (look (l .k) (l .value)) (f .1 .0 .claim));
+            k = omega (arith, f .1 .0 .k-fits);
             value = omega (arith, v, e);
           },
           r .1,
@@ -137,36 +137,35 @@ rest-unchanged F h problem plan grant out n e =
     let c = chosen F (length out) (judged T grant) (x .0) l in
     (omega (arith, c .room-for, x .2), rest-of F h out n (x .0) (listFor F problem plan grant (length out)) (x .1) (x .2))
 
-module _ (F : Limits) (S : Sensible F) (T : Task) (fits : Fits F T)
-    (accepted : (ls : List Line) → ListOk F ls → listOf F (encodeList F ls) ≡ answered ls)
-    (problem plan : List ℕ) (given : readTask F problem plan ≡ answered T) where
+module _ (F : Limits) (S : Sensible F) (T : Task) (fits : Fits F T) where
   pub n≤w : T .facts ≤ T .width
   n≤w = omega (arith, fits .facts, fits .width, S .width)
 
+module _ (F : Limits) (S : Sensible F) (T : Task) (fits : Fits F T) (problem plan : List ℕ) (given : readTask F problem plan ≡ answered T) where
   -- a list that passes, as its lines
-  pub record Passing (list : List ℕ) (m : ℕ) : Type 0 where
+  record Followed (list : List ℕ) (m : ℕ) : Type 0 where
     pub lines : List Line
     pub read : listOf F list ≡ answered lines
-    pub passes : Passes T n≤w lines
+    pub passes : Passes T (n≤w F S T fits) lines
     pub count : m ≡ length lines
 
-  passing : (list : List ℕ) (m : ℕ) → followList F problem plan list ≡ answered m → Passing list m
-  passing list m e =
+  followed : (list : List ℕ) (m : ℕ) → followList F problem plan list ≡ answered m → Followed list m
+  followed list m e =
       answer-then (sym (follow-is F problem plan T given list) ∙ e) λ ls r h.
       let f = follow-passes (T .width) (lookAt T) (T .facts) ls 0 0 m h in
       record { lines = ls; read = r; passes = f .0; count = omega (arith, f .1) }
 
-  follow-lines : (ls : List Line) → length ls ≤ F .lines → Passes T n≤w ls → followList F problem plan (encodeList F ls) ≡ answered (length ls)
+  follow-lines : (ls : List Line) → length ls ≤ F .lines → Passes T (n≤w F S T fits) ls → followList F problem plan (encodeList F ls) ≡ answered (length ls)
   unfolding Answer._>>=_
   follow-lines ls few p =
       let ok = follows-ok F S (T .width) (lookAt T) (T .facts) (omega (arith, fits .facts, S .facts)) (fits .width) ls 0 p in
       follow-is F problem plan T given (encodeList F ls) ∙
-      rw (accepted ls (record { count = few; lines = ok .1 })) (passes-follow (T .width) (lookAt T) (T .facts) ls 0 0 p ∙ ap answered (omega arith))
+      rw (list-accepted F S ls (record { count = few; lines = ok .1 })) (passes-follow (T .width) (lookAt T) (T .facts) ls 0 0 p ∙ ap answered (omega arith))
 
-  lines-in : (ls : List Line) → length ls ≤ F .lines → Passes T n≤w ls → linesIn F (encodeList F ls) ≡ length ls
+  lines-in : (ls : List Line) → length ls ≤ F .lines → Passes T (n≤w F S T fits) ls → linesIn F (encodeList F ls) ≡ length ls
   lines-in ls few p =
       let ok = follows-ok F S (T .width) (lookAt T) (T .facts) (omega (arith, fits .facts, S .facts)) (fits .width) ls 0 p in
-      sym (list-count F (encodeList F ls) ls (accepted ls (record { count = few; lines = ok .1 })))
+      sym (list-count F (encodeList F ls) ls (list-accepted F S ls (record { count = few; lines = ok .1 })))
 
   -- what was written, as the walk's lines
   pub record Wrote (grant : ℕ) (out : List ℕ) (n : ℕ) : Type 0 where
@@ -176,7 +175,7 @@ module _ (F : Limits) (S : Sensible F) (T : Task) (fits : Fits F T)
     pub few : length lines ≤ F .lines
     pub list : listWritten F problem plan grant out n ≡ encodeList F lines
 
-  right-walks : (grant : ℕ) (ls : List Line) (a : ℕ) (v : Verdict (List Line)) → Means T n≤w grant (walked T) v → v ≡ right ls a → walked T ≡ covered ls a
+  right-walks : (grant : ℕ) (ls : List Line) (a : ℕ) (v : Verdict (List Line)) → Means T (n≤w F S T fits) grant (walked T) v → v ≡ right ls a → walked T ≡ covered ls a
   right-walks grant ls a (right ms b) m e = let p : ms ≡ ls = cc in let q : b ≡ a = cc in m .0 ∙ (λ i. covered (p i) (q i))
   right-walks grant ls a (wrong s o b) m e = let z : _≡_ {A = ℕ} 0 1 = cc in absurd (omega arith)
   right-walks grant ls a (undecided b) m e = let z : _≡_ {A = ℕ} 0 1 = cc in absurd (omega arith)
@@ -190,7 +189,7 @@ module _ (F : Limits) (S : Sensible F) (T : Task) (fits : Fits F T)
       record {
         lines = ls;
         visited = c .visited;
-        walks = right-walks grant ls (c .visited) (judged T grant) (judged-means T n≤w grant) (c .is);
+        walks = right-walks grant ls (c .visited) (judged T grant) (judged-means T (n≤w F S T fits) grant) (c .is);
         few = c .few;
         list = rw l (written-list F S out ls (listFor F problem plan grant (length out)) e);
       }
@@ -207,8 +206,21 @@ module _ (F : Limits) (S : Sensible F) (T : Task) (fits : Fits F T)
   unfolding linesFor
   writes grant out ls a e h few room =
       list-for-is F problem plan T given grant (length out) ∙
-      ap (linesFor F (length out)) (judged-in T n≤w grant (covered ls a) e (omega (arith, ap visits e))) ∙
+      ap (linesFor F (length out)) (judged-in T (n≤w F S T fits) grant (covered ls a) e (omega (arith, ap visits e))) ∙
       rw (le-ltb (F .lines) (length ls) few, le-ltb (length out) (listBytes F (length ls)) room)
+
+  passes-so :
+      (list : List ℕ) → Bytes list → (m : ℕ) → followList F problem plan list ≡ answered m →
+      (lines : List Line) × Passing F T list lines × (m ≡ length lines)
+  passes-so list b m e =
+      let p = followed list m e in
+      let (ok, is) = list-sound F S list b (p .lines) (p .read) in
+      (p .lines, record { sound = ok; block = is; joined = p .passes .0; hold = p .passes .1 }, p .count)
+
+  so-passes : (list : List ℕ) (m : ℕ) → ((lines : List Line) × Passing F T list lines × (m ≡ length lines)) → followList F problem plan list ≡ answered m
+  so-passes list m h =
+      let (ls, p, e) = h in
+      rw (p .block, e) (follow-lines ls (p .sound .count) (p .joined, p .hold))
 
   pub lists : Demand3 F problem plan T
   unfolding writeList written
@@ -216,23 +228,30 @@ module _ (F : Limits) (S : Sensible F) (T : Task) (fits : Fits F T)
       record {
         passes-only-right =
             λ list m e.
-            let p = passing list m e in
-            (passes-right T n≤w (p .lines) (p .passes), p .count ∙ list-count F list (p .lines) (p .read));
+            let p = followed list m e in
+            (passes-right T (n≤w F S T fits) (p .lines) (p .passes), p .count ∙ list-count F list (p .lines) (p .read));
+        passes-exactly = λ list b m. (passes-so list b m, so-passes list m);
         writes-walk =
-            λ grant out ls a r e h few room.
-            let l = writes grant out ls a e h few room in
-            (rw l, written-list F S out ls (listFor F problem plan grant (length out)) l);
+            λ r.
+            let (ls, a, e) = right-closes T (n≤w F S T fits) r in
+            let v : visits (walked T) ≡ a = ap visits e in (
+              ls,
+              e ∙ ap (covered ls) (sym v),
+              λ grant out h few room.
+                  let l = writes grant out ls a e (omega arith) few room in
+                  (rw l, written-list F S out ls (listFor F problem plan grant (length out)) l),
+            );
         written-passes =
             λ grant out n e.
             let x = wrote grant out n e in
-            let p = walk-passes T n≤w (x .lines) (x .visited) (x .walks) in
+            let p = walk-passes T (n≤w F S T fits) (x .lines) (x .visited) (x .walks) in
             subst (λ (l : List ℕ). followList F problem plan l ≡ answered (linesIn F l)) (sym (x .list))
             (follow-lines (x .lines) (x .few) p ∙ ap answered (sym (lines-in (x .lines) (x .few) p)));
         written-least =
             λ grant out n e list m f.
             let x = wrote grant out n e in
-            let p = walk-passes T n≤w (x .lines) (x .visited) (x .walks) in
-            let q = passing list m f in
+            let p = walk-passes T (n≤w F S T fits) (x .lines) (x .visited) (x .walks) in
+            let q = followed list m f in
             let l : linesIn F (listWritten F problem plan grant out n) ≡ length (x .lines) = ap (linesIn F) (x .list) ∙ lines-in (x .lines) (x .few) p in
-            omega (arith, l, walk-fewest T n≤w (x .lines) (x .visited) (x .walks) (q .lines) (q .passes), list-count F list (q .lines) (q .read));
+            omega (arith, l, walk-fewest T (n≤w F S T fits) (x .lines) (x .visited) (x .walks) (q .lines) (q .passes), list-count F list (q .lines) (q .read));
       }

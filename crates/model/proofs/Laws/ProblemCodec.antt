@@ -11,7 +11,8 @@ use Rattle.model.specs.Read.{got, andThen, _>>=_, _>>_, done, position, 
 use Rattle.model.specs.FormulaBytes.{literalByte, encodeFormula}
 use Rattle.model.specs.ProblemBytes.{Problem, effect, effects, effectList, action, actions, ending, parts, body, problem, steps, plan, effectsBytes, actionBytes, actionsBytes, encodeProblem, encodePlan}
 use Rattle.model.specs.WellFormed.{Bytes, Each, Declared, FormulaOk, EffectsOk, ActionOk, ProblemOk, PlanOk, Sensible}
-use Rattle.model.proofs.Laws.Reading.{then-got, needed, Span, nothing, next, empty, first, join, split, carried, span-length, span-end, byte-got, byte-ok, length-block, header-got, header-ok, count-got, count-ok}
+use Rattle.model.specs.Stands.{Span, nothing, next}
+use Rattle.model.proofs.Laws.Reading.{then-got, needed, empty, first, join, split, carried, span-length, span-end, byte-got, byte-ok, length-block, header-got, header-ok, count-got, count-ok}
 use Rattle.model.proofs.Laws.FormulaCodec.{literal-got, literal-ok, formula-got, formula-ok}
 
 module _ (F : Limits) (s : List ℕ) (facts : ℕ) (most : facts ≤ 64) where

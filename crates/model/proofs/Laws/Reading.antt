@@ -14,6 +14,7 @@ use borrow.Author.Tests.{ltb-true, leb-true, eqb-true, lt-ltb, le-leb, eq-eqb}
 use Rattle.model.specs.Answer.{answered}
 use Rattle.model.specs.Read.{Read, reject, got, Reader, andThen, _>>=_, _>>_, done, position, require, answerOf, bigEndianFrom, bigEndian, bytesOf, block, byte, header, count}
 use Rattle.model.specs.WellFormed.{Bytes}
+use Rattle.model.specs.Stands.{Span, nothing, next}
 
 -- one reader after the other
 pub then-got :
@@ -47,10 +48,7 @@ unfolding answerOf
 answer-got (reject n q) h = let z : _≡_ {A = ℕ} 0 1 = cc in absurd (omega arith)
 answer-got (got b q) h = (q, cc)
 
--- the bytes xs stand in s from p up to q, before `end`
-pub data Span (s : List ℕ) (end : ℕ) : ℕ → List ℕ → ℕ → Type 0 where
-  nothing : {p q : ℕ} → p ≡ q → Span s end p [] q
-  next : {p q x : ℕ} {xs : List ℕ} → p < end → getD s p 0 ≡ x → Span s end (p + 1) xs q → Span s end p (x ∷ xs) q
+-- ---- bytes that stand in a block
 
 module _ {s : List ℕ} {end : ℕ} where
   pub empty : {p q : ℕ} → Span s end p [] q → p ≡ q

@@ -1,18 +1,22 @@
 -- A task that was read is within the limits of its version, and the operations on it. Assumes nothing.
-use mathlib.Core.Path.{_≡_, refl, subst}
+use mathlib.Core.Path.{_≡_, refl, sym, _∙_, subst}
+use mathlib.Core.Bool.{Bool, true, false, _&&_, false≢true}
+use mathlib.Core.Logic.{_⊎_, inl, inr}
 use mathlib.Core.List.{List}
-use Prim.Native.Nat.{ℕ, _≤_}
+use Prim.Native.Nat.{ℕ, _-_, _%_, _^_, _≤_}
 use native.Mathlib.Omega.{arith}
+use lib.Dec.{eqb, ltb}
+use borrow.Author.Tests.{lt-ltb, ltb-true, eq-eqb, eqb-true}
 use Rattle.model.specs.declared.Limits.{Limits}
 use Rattle.model.specs.Answer as Answer
 use Rattle.model.specs.Answer.{Answer, refused, answered}
-use Rattle.model.specs.Case.{Task}
+use Rattle.model.specs.Case.{Task, runOf, IsState}
 use Rattle.model.specs.Walk.{judged, lookAt}
 use Rattle.model.specs.CaseList.{follow}
 use Rattle.model.specs.Read.{_>>=_, _>>_, done}
 use Rattle.model.specs.ProblemBytes.{Problem, ending, parts, body, problem, problemOf}
 use Rattle.model.specs.ListBytes.{listOf}
-use Rattle.model.specs.Operations.{taskOf, readTask, lineCount, judge, linesFor, listFor, followList}
+use Rattle.model.specs.Operations.{isState, taskOf, readTask, runState, lineCount, judge, linesFor, listFor, followList}
 use Rattle.model.proofs.Laws.Reading.{then-got, got-inj, answer-got, count-got}
 
 -- what comes after an answer
@@ -22,6 +26,18 @@ pub answer-then :
 unfolding Answer._>>=_
 answer-then {x = refused n q} h f = let z : _≡_ {A = ℕ} 0 1 = cc in absurd (omega arith)
 answer-then {x = answered a} h f = f a refl h
+
+-- the test of a state's number tells
+pub state-tested : (T : Task) (s : ℕ) → (IsState T s × (isState T s ≡ true)) ⊎ ((IsState T s → ⊥) × (isState T s ≡ false))
+unfolding isState
+state-tested T s = by-tests (ltb s (2 ^ T .width)) (eqb (s % 2 ^ (T .width - T .facts)) 0) refl refl
+  where
+    by-tests :
+        (b c : Bool) → ltb s (2 ^ T .width) ≡ b → eqb (s % 2 ^ (T .width - T .facts)) 0 ≡ c →
+        (IsState T s × ((b && c) ≡ true)) ⊎ ((IsState T s → ⊥) × ((b && c) ≡ false))
+    by-tests true true p q = inl (record { in-width = ltb-true _ _ p; no-bits = eqb-true _ _ q }, refl)
+    by-tests true false p q = inr ((λ h. false≢true (sym q ∙ eq-eqb _ _ (h .no-bits))), refl)
+    by-tests false c p q = inr ((λ h. false≢true (sym p ∙ lt-ltb _ _ (h .in-width))), refl)
 
 module _ (F : Limits) where
   problem-facts : (s : List ℕ) (p : Problem) → problemOf F s ≡ answered p → p .facts ≤ F .facts
@@ -55,6 +71,14 @@ module _ (F : Limits) where
     pub judge-is : (g : ℕ) → judge F problem plan g ≡ answered (lineCount (judged T g))
     unfolding judge Answer._>>=_
     judge-is g = rw given
+
+    pub run-answers : (s : ℕ) → IsState T s → runState F problem plan s ≡ answered (runOf T s)
+    unfolding runState Answer._>>=_
+    run-answers s h = elim (state-tested T s) [ inl y ↦ rw (given, Answer._>>=_, y .1) | inr x ↦ absurd (x .0 h) ]
+
+    pub run-no-state : (s : ℕ) → (IsState T s → ⊥) → runState F problem plan s ≡ refused 40 0
+    unfolding runState Answer._>>=_
+    run-no-state s h = elim (state-tested T s) [ inl y ↦ absurd (h (y .0)) | inr x ↦ rw (given, Answer._>>=_, x .1) ]
 
     pub list-for-is : (g room : ℕ) → listFor F problem plan g room ≡ linesFor F room (judged T g)
     unfolding listFor Answer._>>=_

@@ -1,10 +1,12 @@
-//! The judge as one would write it by hand in Rust: the same reading, the same
-//! walk over the same bytes, and nothing shared with the library.
+//! The judge as one would write it by hand in Rust, twice: a case at a time, and
+//! 63 cases at a time on bit planes. Both have the same reading and the same
+//! answers, and share nothing with the library.
 
+pub mod planes;
 mod read;
-mod walk;
+pub mod scalar;
 
-use read::Task;
+use read::Refusal;
 
 #[derive(Clone, Copy, Debug, PartialEq, Eq)]
 pub enum Outcome {
@@ -33,12 +35,8 @@ pub enum Verdict {
     },
 }
 
-pub fn judge(problem: &[u8], plan: &[u8], grant: u64) -> Verdict {
-    match Task::read(problem, plan) {
-        Err(refusal) => Verdict::Refused {
-            number: refusal.number,
-            place: refusal.place,
-        },
-        Ok(task) => walk::verdict(&task, grant),
+impl From<Refusal> for Verdict {
+    fn from(Refusal { number, place }: Refusal) -> Verdict {
+        Verdict::Refused { number, place }
     }
 }

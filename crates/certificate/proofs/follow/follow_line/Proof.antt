@@ -2,7 +2,7 @@
 use mathlib.Core.Path.{ap}
 use Prim.Native.Nat.{ℕ, _+_}
 use native.Mathlib.Omega.{arith}
-use Rattle.certificate.proofs.Following.{checked-fault, checked-sound, span-small, k-fits, line-claims, line-denied, line-faulty, claims-over}
+use Rattle.certificate.proofs.Following.{checked-fault, checked-sound, span-small, k-fits, line-faulty, line-claims, line-denied}
 use borrow.Author.Needs.{needs}
 use Rattle.certificate.proofs.follow.follow_line.Statement.{statement}
 use Rattle.certificate.proofs.follow.follow_line.Tie as tie
@@ -19,24 +19,57 @@ enum-known-l c = search needs
 wide-requires : tie.Need-wide-requires
 wide-requires c κs = search needs
 
+set-case-requires : tie.Need-set-case-requires
+set-case-requires c κs =
+    let l = c .before .before .before in
+    let a = l .before .before in
+    let g = a .before .before .before .before .pre in
+    let w = g .1 in
+    let o = checked-sound _ _ _ _ _ (a .check-at .ensures) _ (l .l .given .1) in
+    let f = k-fits _ _ _ _ _ (o .0) (o .1) in
+    (g .3, omega (arith, g .0), omega (arith, g .0, c .before .wide .ensures .0), omega (arith, o .1 .small), omega (arith, o .1 .small))
+
 check-claim-requires : tie.Need-check-claim-requires
-check-claim-requires c κs = let o = checked-sound _ _ _ _ _ (c .before .before .before .before .check-at .ensures) _ (c .before .before .l .given .1) in
-    (c .before .before .before .before .before .before .before .before .pre .0, omega (arith, c .wide .ensures .0), omega (arith, c .wide .ensures .0, k-fits _ _ _ _ _ (o .0) (o .1)))
+check-claim-requires c κs = search needs
 
 span-of-requires : tie.Need-span-of-requires
-span-of-requires c κs = let o = checked-sound _ _ _ _ _ (c .before .before .before .before .before .before .check-at .ensures) _ (c .before .before .before .before .l .given .1) in omega (arith, k-fits _ _ _ _ _ (o .0) (o .1))
+span-of-requires c κs =
+    let l = c .before .before .before .before .before .before .before in
+    let a = l .before .before in
+    let o = checked-sound _ _ _ _ _ (a .check-at .ensures) _ (l .l .given .1) in
+    omega (arith, a .before .before .before .before .pre .0, k-fits _ _ _ _ _ (o .0) (o .1))
 
-add-t17 : tie.Need-add-t17
-add-t17 c = let o = checked-sound _ _ _ _ _ (c .before .before .before .before .before .before .before .before .check-at .ensures) _ (c .before .before .before .before .before .before .l .given .1) in omega (arith, o .1 .small, c .before .span-of .ensures, span-small (c .before .before .before .before .before .before .l .given .0 .0 .k))
+add-end : tie.Need-add-end
+add-end c =
+    let l = c .before .before .before .before .before .before .before .before .before in
+    let a = l .before .before in
+    let o = checked-sound _ _ _ _ _ (a .check-at .ensures) _ (l .l .given .1) in
+    omega (arith, o .1 .small, c .before .span-of .ensures, span-small (l .l .given .0 .0 .k))
 
 returns : tie.Need-returns
-returns c = let o = checked-fault _ _ _ _ _ (c .before .before .before .check-at .ensures) _ (c .before .number .given .1) in line-faulty _ _ _ _ _ _ _ _ _ (o .0) (o .1)
+returns c =
+    let a = c .before .before .before in
+    let o = checked-fault _ _ _ _ _ (a .check-at .ensures) _ (c .before .number .given .1) in
+    line-faulty _ _ _ _ _ _ _ _ _ (o .0) (o .1) (a .before .before .before .before .pre .3)
 
 returns-2 : tie.Need-returns-2
-returns-2 c = let o = checked-sound _ _ _ _ _ (c .before .before .before .before .before .before .before .before .check-at .ensures) _ (c .before .before .before .before .before .before .l .given .1) in line-claims _ _ _ _ _ (o .0) (o .1) _ _ _ _ _ (claims-over _ _ _ _ _ _ _ _ (c .before .before .before .before .wide .ensures .0) (c .before .before .before .check-claim .ensures)) _ (c .before .before .if1 .taken) (ap (λ (x : ℕ). c .before .before .before .before .before .before .l .given .0 .0 .value + x) (c .before .span-of .ensures))
+returns-2 c =
+    let t = c .before .before in
+    let d = t .before .before .before in
+    let w = d .before .before in
+    let l = w .before .before in
+    let a = l .before .before in
+    let o = checked-sound _ _ _ _ _ (a .check-at .ensures) _ (l .l .given .1) in
+    line-claims _ _ _ _ _ _ _ _ _ (o .0) (o .1) (a .before .before .before .before .pre .1) _ (w .wide .ensures .0) _ (d .set-case .ensures) _ (t .before .check-claim .ensures) _ (t .if1 .taken) (ap (λ (x : ℕ). l .l .given .0 .0 .value + x) (c .before .span-of .ensures))
 
 returns-3 : tie.Need-returns-3
-returns-3 c = let o = checked-sound _ _ _ _ _ (c .before .before .before .before .before .before .check-at .ensures) _ (c .before .before .before .before .l .given .1) in line-denied _ _ _ _ _ (o .0) (o .1) _ _ _ _ _ (claims-over _ _ _ _ _ _ _ _ (c .before .before .wide .ensures .0) (c .before .check-claim .ensures)) (c .if1 .left)
+returns-3 c =
+    let d = c .before .before .before in
+    let w = d .before .before in
+    let l = w .before .before in
+    let a = l .before .before in
+    let o = checked-sound _ _ _ _ _ (a .check-at .ensures) _ (l .l .given .1) in
+    line-denied _ _ _ _ _ _ _ _ _ (o .0) (o .1) (a .before .before .before .before .pre .1) _ (w .wide .ensures .0) _ (d .set-case .ensures) _ (c .before .check-claim .ensures) (c .if1 .left)
 
 pub follow-line-spec : {M : Type 1} → statement M
 follow-line-spec =
@@ -46,9 +79,10 @@ follow-line-spec =
     enum-known-number
     enum-known-l
     wide-requires
+    set-case-requires
     check-claim-requires
     span-of-requires
-    add-t17
+    add-end
     returns
     returns-2
     returns-3)

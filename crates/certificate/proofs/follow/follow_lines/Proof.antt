@@ -1,46 +1,61 @@
--- `follow_lines` meets its contract: what is left to follow answers for all. Assumes nothing.
-use Prim.Native.Nat.{_-_, _≤_}
-use borrow.Author.Needs.{needs}
-use native.Mathlib.Omega.{arith}
+-- `follow_lines` meets its contract: the table has the case of the line before, and what is left to follow answers for all. Assumes nothing.
+use Prim.Native.Nat.{_-_}
 use Rattle.certificate.proofs.Following.{Followed-so-far, none-followed, lines-fault, lines-next, lines-short, lines-pass}
+use borrow.Author.Needs.{needs}
 use Rattle.certificate.proofs.follow.follow_lines.Statement.{statement}
 use Rattle.certificate.proofs.follow.follow_lines.Tie as tie
 
 abbrev Inv-loop : tie.InvT-loop
-Inv-loop s t actions at facts list lines end₀ i₀ end i = (i ≤ lines) × Followed-so-far s t actions at facts list lines end i
+Inv-loop problem steps actions at list lines c₀ before₀ i₀ c before i = Followed-so-far problem steps actions at list lines c before i
 
 abbrev μ-loop : tie.MeasureT-loop
-μ-loop s t actions at facts list lines end₀ i₀ end i = lines - i
+μ-loop problem steps actions at list lines c₀ before₀ i₀ c before i = lines - i
+
+wide-requires : tie.Need-wide-requires Inv-loop μ-loop
+wide-requires c κs = search needs
+
+none-fixed-requires : tie.Need-none-fixed-requires Inv-loop μ-loop
+none-fixed-requires c κs = search needs
 
 loop-holds : tie.Need-loop-holds Inv-loop μ-loop
-loop-holds c = (omega arith, none-followed _ _ _ _ _ _ _)
+loop-holds c = none-followed _ _ _ _ _ _ _ (c .before .wide .ensures .0) _ (c .none-fixed .ensures)
 
 follow-line-requires : tie.Need-follow-line-requires Inv-loop μ-loop
-follow-line-requires c κs = (c .before .before .before .before .before .pre .0, c .before .before .before .before .before .pre .1, omega arith)
+follow-line-requires c κs =
+    let o = c .before .before .loop .inv in
+    (c .before .before .before .before .before .before .before .before .pre .0, o .within, search needs, o .size)
 
 enum-known-number : tie.Need-enum-known-number Inv-loop μ-loop
 enum-known-number c = search needs
 
 returns : tie.Need-returns Inv-loop μ-loop
-returns c = lines-fault _ _ _ _ _ _ _ _ _ (c .before .before .before .before .before .loop .inv .1) _ _ (omega arith) (c .before .before .before .follow-line .ensures) (c .before .number .given .1)
+returns c =
+    let l = c .before .before .before in
+    lines-fault _ _ _ _ _ _ _ _ _ (l .before .before .before .loop .inv) _ _ (l .before .before .loop-test .taken) (l .follow-line .ensures) _ (c .before .number .given .1)
 
 enum-known-next : tie.Need-enum-known-next Inv-loop μ-loop
 enum-known-next c = search needs
 
 add-i : tie.Need-add-i Inv-loop μ-loop
-add-i c = omega arith
+add-i c = search needs
 
 loop-less : tie.Need-loop-less Inv-loop μ-loop
-loop-less c = omega arith
+loop-less c = search needs
 
 loop-again : tie.Need-loop-again Inv-loop μ-loop
-loop-again c = (omega arith, lines-next _ _ _ _ _ _ _ _ _ (c .before .before .before .before .before .loop .inv .1) _ _ (omega arith) (c .before .before .before .follow-line .ensures) (c .before .next .given .1))
+loop-again c =
+    let l = c .before .before .before in
+    lines-next _ _ _ _ _ _ _ _ _ (l .before .before .before .loop .inv) _ _ (l .before .before .loop-test .taken) (l .follow-line .ensures) _ (c .before .next .given .1)
 
 returns-2 : tie.Need-returns-2 Inv-loop μ-loop
-returns-2 c = lines-short _ _ _ _ _ _ _ _ _ (c .before .before .loop .inv .1) (omega arith) (omega arith) (c .if1 .taken)
+returns-2 c =
+    let l = c .before .before in
+    lines-short _ _ _ _ _ _ _ _ _ (l .before .loop .inv) (l .loop-test .left) (c .if1 .taken)
 
 returns-3 : tie.Need-returns-3 Inv-loop μ-loop
-returns-3 c = lines-pass _ _ _ _ _ _ _ _ _ (c .before .before .loop .inv .1) (omega arith) (omega arith) (c .if1 .left)
+returns-3 c =
+    let l = c .before .before in
+    lines-pass _ _ _ _ _ _ _ _ _ (l .before .loop .inv) (l .loop-test .left) (c .if1 .left)
 
 pub follow-lines-spec : {M : Type 1} → statement M
 follow-lines-spec =
@@ -48,6 +63,8 @@ follow-lines-spec =
     (tie.spec
     Inv-loop
     μ-loop
+    wide-requires
+    none-fixed-requires
     loop-holds
     follow-line-requires
     enum-known-number

@@ -1,7 +1,9 @@
 -- `follow_list` meets its contract. Assumes nothing.
-use mathlib.Core.Path.{_∙_, sym, refl}
-use Rattle.execute.proofs.Tasks.{runnable, wide-most}
-use Rattle.certificate.proofs.Following.{follow-refused, follow-header, follow-body, header-five}
+use mathlib.Core.Path.{refl, sym, _∙_}
+use native.Mathlib.Omega.{arith}
+use Rattle.blocks.proofs.Promise.{of-slice}
+use Rattle.certificate.proofs.Following.{facts-most, follow-refused, follow-header, follow-body, header-five}
+use Rattle.certificate.proofs.Promise.{follow-promised}
 use borrow.Author.Needs.{needs}
 use Rattle.certificate.proofs.follow.follow_list.Statement.{statement}
 use Rattle.certificate.proofs.follow.follow_list.Tie as tie
@@ -10,7 +12,10 @@ find-task-requires : tie.Need-find-task-requires
 find-task-requires c κs = search needs
 
 returns : tie.Need-returns
-returns c = follow-refused _ _ _ _ (c .before .find-task .ensures) (c .if1 .taken)
+returns c =
+    let e = follow-refused _ _ _ _ (c .before .find-task .ensures) (c .if1 .taken) in
+    let k = c .before .before in
+    (e, follow-promised _ _ _ (of-slice (k .before .before .before .args .list .now) (k .shared-slice-known3 .given)) _ e)
 
 check-header-requires : tie.Need-check-header-requires
 check-header-requires c κs = search needs
@@ -21,14 +26,41 @@ enum-known-number c = search needs
 enum-told : tie.Need-enum-told
 enum-told c = search needs
 
+sub-follow-body : tie.Need-sub-follow-body
+sub-follow-body c =
+    let e = c .before .before .before .before in
+    omega (arith, e .before .find-task .ensures .stands (e .if1 .left) .fits)
+
+part-follow-body-start : tie.Need-part-follow-body-start
+part-follow-body-start c =
+    let e = c .before .before .before .before in
+    omega (arith, e .before .find-task .ensures .stands (e .if1 .left) .fits)
+
+part-follow-body-end : tie.Need-part-follow-body-end
+part-follow-body-end c = search needs
+
 follow-body-requires : tie.Need-follow-body-requires
-follow-body-requires c κs = (runnable _ _ _ (c .before .before .before .before .find-task .ensures .found (c .before .before .before .if1 .left)), wide-most _ _ _ (c .before .before .before .before .find-task .ensures .found (c .before .before .before .if1 .left)) _ refl, header-five _ _ (sym (c .enum-told .given .1) ∙ c .before .before .check-header .ensures))
+follow-body-requires c κs =
+    let t = c .before .before in
+    let e = t .before .before .before in
+    (facts-most _ _ _ (e .before .find-task .ensures .stands (e .if1 .left)), header-five _ _ (sym (t .enum-told .given .1) ∙ t .before .before .check-header .ensures))
 
 returns-2 : tie.Need-returns-2
-returns-2 c = follow-header _ _ _ _ (c .before .before .before .before .before .find-task .ensures .found (c .before .before .before .before .if1 .left)) _ _ (sym (c .before .number .given .1) ∙ c .before .before .before .check-header .ensures)
+returns-2 c =
+    let h = c .before .before .before in
+    let t = h .before .before in
+    let k = t .before in
+    let e = follow-header _ _ _ _ (t .find-task .ensures .stands (h .before .if1 .left)) _ _ (sym (c .before .number .given .1) ∙ h .check-header .ensures) in
+    (e, follow-promised _ _ _ (of-slice (k .before .before .before .args .list .now) (k .shared-slice-known3 .given)) _ e)
 
 returns-3 : tie.Need-returns-3
-returns-3 c = follow-body _ _ _ _ (c .before .before .before .before .before .find-task .ensures .found (c .before .before .before .before .if1 .left)) _ _ (sym (c .before .enum-told .given .1) ∙ c .before .before .before .check-header .ensures) (c .follow-body .ensures)
+returns-3 c =
+    let n = c .before .before .before in
+    let h = n .before .before in
+    let t = h .before .before in
+    let k = t .before in
+    let e = follow-body _ _ _ _ (t .find-task .ensures .stands (h .before .if1 .left)) _ _ (sym (n .enum-told .given .1) ∙ h .check-header .ensures) _ refl (c .follow-body .ensures) in
+    (e, follow-promised _ _ _ (of-slice (k .before .before .before .args .list .now) (k .shared-slice-known3 .given)) _ e)
 
 pub follow-list-spec : {M : Type 1} → statement M
 follow-list-spec =
@@ -39,6 +71,9 @@ follow-list-spec =
     check-header-requires
     enum-known-number
     enum-told
+    sub-follow-body
+    part-follow-body-start
+    part-follow-body-end
     follow-body-requires
     returns-2
     returns-3)

@@ -1,7 +1,7 @@
 -- `put_header` meets its contract. Assumes nothing.
 use native.Mathlib.Omega.{arith}
 use lib.ListN.{length-set}
-use Rattle.certificate.proofs.Stores.{header-stored}
+use Rattle.certificate.proofs.Lists.{header-stored}
 use borrow.Author.Needs.{needs}
 use Rattle.certificate.proofs.write.put_header.Statement.{statement}
 use Rattle.certificate.proofs.write.put_header.Tie as tie

@@ -1,7 +1,10 @@
 -- `run` meets its contract. Assumes nothing.
+use mathlib.Core.Path.{refl}
+use native.Mathlib.Omega.{arith}
 use borrow.Author.Tests.{not-true, not-false}
-use Rattle.execute.proofs.Tasks.{runnable, wide-most, run-refused, run-no-state, run-ended, decoded-valued}
 use borrow.Author.Needs.{needs}
+use Rattle.execute.proofs.Starting.{run-refused, few-facts, run-no-state, run-ended}
+use Rattle.execute.proofs.Promise.{run-promised}
 use Rattle.execute.proofs.operation.run.Statement.{statement}
 use Rattle.execute.proofs.operation.run.Tie as tie
 
@@ -9,22 +12,44 @@ find-task-requires : tie.Need-find-task-requires
 find-task-requires c κs = search needs
 
 returns : tie.Need-returns
-returns c = run-refused _ _ _ (c .before .find-task .ensures) (c .if1 .taken) _
+returns c = let e = run-refused _ _ _ (c .before .find-task .ensures) (c .if1 .taken) _ in (e, run-promised _ _ _ _ e)
 
 wide-requires : tie.Need-wide-requires
 wide-requires c κs = search needs
 
-state-values-requires : tie.Need-state-values-requires
-state-values-requires c κs = wide-most _ _ _ (c .before .before .before .find-task .ensures .found (c .before .before .if1 .left)) _ (c .wide .ensures .0)
+state-table-requires : tie.Need-state-table-requires
+state-table-requires c κs =
+    let k = c .before .before in
+    few-facts _ _ _ (k .before .find-task .ensures .stands (k .if1 .left)) _ (c .wide .ensures .0)
 
 returns-2 : tie.Need-returns-2
-returns-2 c = run-no-state _ _ _ (c .before .before .before .before .before .before .find-task .ensures .found (c .before .before .before .before .before .if1 .left)) _ _ (c .before .before .before .wide .ensures .0) _ (c .before .before .state-values .ensures) (not-true _ (c .if2 .taken))
+returns-2 c =
+    let d = c .before .before in
+    let k = d .before .before .before in
+    let e = run-no-state _ _ _ (k .before .find-task .ensures .stands (k .if1 .left)) _ _ (d .before .wide .ensures .0) _ (d .state-table .ensures) (not-true _ (c .if2 .taken)) in
+    (e, run-promised _ _ _ _ e)
 
-run-steps-requires : tie.Need-run-steps-requires
-run-steps-requires c κs = (runnable _ _ _ (c .before .before .before .before .before .before .before .before .before .find-task .ensures .found (c .before .before .before .before .before .before .before .before .if1 .left)), decoded-valued _ _ _ (c .before .before .before .before .before .state-values .ensures) (not-false _ (c .before .before .before .if2 .left)))
+sub-run-state : tie.Need-sub-run-state
+sub-run-state c =
+    let k = c .before .before .before .before .before .before .before in
+    omega (arith, k .before .find-task .ensures .stands (k .if1 .left) .fits)
+
+part-run-state-start : tie.Need-part-run-state-start
+part-run-state-start c = sub-run-state c
+
+part-run-state-end : tie.Need-part-run-state-end
+part-run-state-end c = search needs
+
+run-state-requires : tie.Need-run-state-requires
+run-state-requires c κs = search needs
 
 returns-3 : tie.Need-returns-3
-returns-3 c = run-ended _ _ _ (c .before .before .before .before .before .before .before .before .before .before .find-task .ensures .found (c .before .before .before .before .before .before .before .before .before .if1 .left)) _ _ (c .before .before .before .before .before .before .before .wide .ensures .0) _ (c .before .before .before .before .before .before .state-values .ensures) _ (c .run-steps .ensures) (not-false _ (c .before .before .before .before .if2 .left))
+returns-3 c =
+    let f = c .before .before .before .before .before in
+    let d = f .before .before in
+    let k = d .before .before .before in
+    let e = run-ended _ _ _ (k .before .find-task .ensures .stands (k .if1 .left)) _ _ (d .before .wide .ensures .0) _ (d .state-table .ensures) _ refl _ (c .run-state .ensures) (not-false _ (f .if2 .left)) in
+    (e, run-promised _ _ _ _ e)
 
 pub run-spec : {M : Type 1} → statement M
 run-spec =
@@ -33,7 +58,10 @@ run-spec =
     find-task-requires
     returns
     wide-requires
-    state-values-requires
+    state-table-requires
     returns-2
-    run-steps-requires
+    sub-run-state
+    part-run-state-start
+    part-run-state-end
+    run-state-requires
     returns-3)

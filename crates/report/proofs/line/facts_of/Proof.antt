@@ -11,7 +11,7 @@ returns : tie.Need-returns
 returns c = no-facts _ _ _ (c .before .find-task .ensures) (c .if1 .taken)
 
 returns-2 : tie.Need-returns-2
-returns-2 c = facts-are _ _ _ (c .before .find-task .ensures .found (c .if1 .left))
+returns-2 c = facts-are _ _ _ (c .before .find-task .ensures .stands (c .if1 .left))
 
 pub facts-of-spec : {M : Type 1} → statement M
 facts-of-spec = tie.close (tie.spec find-task-requires returns returns-2)

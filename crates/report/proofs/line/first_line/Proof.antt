@@ -42,25 +42,25 @@ same-length : tie.Need-same-length
 same-length c = search needs
 
 returns : tie.Need-returns
-returns c = (put-as (first-refused _ _ _ _ (ap judgeAnswer (sym (c .before .before .before .before .before .refusal .given .1)) ∙ c .before .before .before .before .before .before .before .judge .ensures)) (c .before .before .put-refusal .ensures .0), c .before .before .put-refusal .ensures .1)
+returns c = (put-as (first-refused _ _ _ _ (ap judgeAnswer (sym (c .before .before .before .before .before .refusal .given .1)) ∙ c .before .before .before .before .before .before .before .judge .ensures .0)) (c .before .before .put-refusal .ensures .0), c .before .before .put-refusal .ensures .1)
 
 same-length-2 : tie.Need-same-length-2
 same-length-2 c = search needs
 
 returns-2 : tie.Need-returns-2
-returns-2 c = (put-as (first-right _ _ _ _ (ap judgeAnswer (sym (c .before .before .before .before .before .lines .given .1)) ∙ c .before .before .before .before .before .before .before .judge .ensures)) (c .before .before .put-right .ensures .0), c .before .before .put-right .ensures .1)
+returns-2 c = (put-as (first-right _ _ _ _ (ap judgeAnswer (sym (c .before .before .before .before .before .lines .given .1)) ∙ c .before .before .before .before .before .before .before .judge .ensures .0)) (c .before .before .put-right .ensures .0), c .before .before .put-right .ensures .1)
 
 same-length-3 : tie.Need-same-length-3
 same-length-3 c = search needs
 
 returns-3 : tie.Need-returns-3
-returns-3 c = (put-as (first-wrong _ _ _ _ _ _ (c .before .before .before .before .facts-of .ensures) (ap judgeAnswer (sym (c .before .before .before .before .before .before .state .given .1)) ∙ c .before .before .before .before .before .before .before .before .judge .ensures)) (c .before .before .put-wrong .ensures .0), c .before .before .put-wrong .ensures .1)
+returns-3 c = (put-as (first-wrong _ _ _ _ _ _ (c .before .before .before .before .facts-of .ensures) (ap judgeAnswer (sym (c .before .before .before .before .before .before .state .given .1)) ∙ c .before .before .before .before .before .before .before .before .judge .ensures .0)) (c .before .before .put-wrong .ensures .0), c .before .before .put-wrong .ensures .1)
 
 same-length-4 : tie.Need-same-length-4
 same-length-4 c = search needs
 
 returns-4 : tie.Need-returns-4
-returns-4 c = (put-as (first-undecided _ _ _ (ap judgeAnswer (sym (c .before .before .before .before .before .visits .given .1)) ∙ c .before .before .before .before .before .before .before .judge .ensures)) (c .before .before .put-undecided .ensures .0), c .before .before .put-undecided .ensures .1)
+returns-4 c = (put-as (first-undecided _ _ _ (ap judgeAnswer (sym (c .before .before .before .before .before .visits .given .1)) ∙ c .before .before .before .before .before .before .before .judge .ensures .0)) (c .before .before .put-undecided .ensures .0), c .before .before .put-undecided .ensures .1)
 
 pub first-line-spec : {M : Type 1} → statement M
 first-line-spec =

@@ -23,25 +23,25 @@ same-length : tie.Need-same-length
 same-length c = search needs
 
 returns-2 : tie.Need-returns-2
-returns-2 c = too-long _ _ _ (c .before .before .before .before .before .before .before .before .before .before .find-task .ensures .found (c .before .before .before .before .before .before .before .before .before .if1 .left)) _ (c .before .before .before .before .before .before .before .before .before .before .before .before .before .before .pre) _ _ (ap writeAnswer (sym (c .before .before .before .refusal .given .1)) ∙ c .before .before .before .before .before .before .before .write-list .ensures .0) (c .if2 .taken) _ (omega arith)
+returns-2 c = too-long _ _ _ (c .before .before .before .before .before .before .before .before .before .before .find-task .ensures .stands (c .before .before .before .before .before .before .before .before .before .if1 .left)) _ (c .before .before .before .before .before .before .before .before .before .before .before .before .before .before .pre) _ _ (ap writeAnswer (sym (c .before .before .before .refusal .given .1)) ∙ c .before .before .before .before .before .before .before .write-list .ensures .0) (c .if2 .taken) _ (omega arith)
 
 enum-known-length : tie.Need-enum-known-length
 enum-known-length c = search needs
 
 sub-t13 : tie.Need-sub-t13
-sub-t13 c = omega (arith, five _ _ _ (c .before .before .before .before .before .before .before .before .find-task .ensures .found (c .before .before .before .before .before .before .before .if1 .left)) _ (c .before .before .before .before .before .before .before .before .before .before .before .before .pre) _ (ap writeAnswer (sym (c .before .length .given .1)) ∙ c .before .before .before .before .before .write-list .ensures .0))
+sub-t13 c = omega (arith, five _ _ _ (c .before .before .before .before .before .before .before .before .find-task .ensures .stands (c .before .before .before .before .before .before .before .if1 .left)) _ (c .before .before .before .before .before .before .before .before .before .before .before .before .pre) _ (ap writeAnswer (sym (c .before .length .given .1)) ∙ c .before .before .before .before .before .write-list .ensures .0))
 
 same-length-2 : tie.Need-same-length-2
 same-length-2 c = search needs
 
 returns-3 : tie.Need-returns-3
-returns-3 c = no-list _ _ _ (c .before .before .before .before .before .before .before .before .before .before .find-task .ensures .found (c .before .before .before .before .before .before .before .before .before .if1 .left)) _ (c .before .before .before .before .before .before .before .before .before .before .before .before .before .before .pre) _ _ (ap writeAnswer (sym (c .before .before .before .refusal .given .1)) ∙ c .before .before .before .before .before .before .before .write-list .ensures .0) (c .if2 .left) _ (omega arith)
+returns-3 c = no-list _ _ _ (c .before .before .before .before .before .before .before .before .before .before .find-task .ensures .stands (c .before .before .before .before .before .before .before .before .before .if1 .left)) _ (c .before .before .before .before .before .before .before .before .before .before .before .before .before .before .pre) _ _ (ap writeAnswer (sym (c .before .before .before .refusal .given .1)) ∙ c .before .before .before .before .before .before .before .write-list .ensures .0) (c .if2 .left) _ (omega arith)
 
 same-length-3 : tie.Need-same-length-3
 same-length-3 c = search needs
 
 returns-4 : tie.Need-returns-4
-returns-4 c = the-lines _ _ _ (c .before .before .before .before .before .before .before .before .find-task .ensures .found (c .before .before .before .before .before .before .before .if1 .left)) _ (c .before .before .before .before .before .before .before .before .before .before .before .before .pre) _ _ (ap writeAnswer (sym (c .before .length .given .1)) ∙ c .before .before .before .before .before .write-list .ensures .0) refl _ (c .before .before .before .before .before .write-list .ensures .1) (omega arith)
+returns-4 c = the-lines _ _ _ (c .before .before .before .before .before .before .before .before .find-task .ensures .stands (c .before .before .before .before .before .before .before .if1 .left)) _ (c .before .before .before .before .before .before .before .before .before .before .before .before .pre) _ _ (ap writeAnswer (sym (c .before .length .given .1)) ∙ c .before .before .before .before .before .write-list .ensures .0) refl _ (c .before .before .before .before .before .write-list .ensures .1) (omega arith)
 
 pub write-rest-spec : {M : Type 1} → statement M
 write-rest-spec =

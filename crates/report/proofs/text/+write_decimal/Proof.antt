@@ -1,3 +1,4 @@
+-- `write_decimal` meets its contract. Assumes nothing.
 use Prim.Native.Nat.{ℕ, _<_}
 use borrow.Fn.Kinds.{In}
 use borrow.Fn.PlainCycle.{Measures, is, falls, and}
@@ -8,12 +9,11 @@ use Rattle.report.proofs.text.digit.Reads as digit-reads
 use Rattle.report.proofs.text.+write_decimal.{statement}
 use Rattle.report.proofs.text.+write_decimal.Tie.{close}
 use Prim.Native.Nat.{_-_, _+_}
-use lib.ListN.{length, set}
+use lib.ListN.{set}
 use lib.Seq.{sets}
 use native.Mathlib.Omega.{arith}
 use mathlib.Core.Path.{sym, ap, _∙_}
 use borrow.Author.Needs.{needs}
-use Rattle.model.specs.DeskText.{decimal}
 use Rattle.report.proofs.Decimal.{one-digit, len-one, len-more, last-store}
 use mathlib.Core.List.{List}
 

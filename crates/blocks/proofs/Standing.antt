@@ -1,0 +1,104 @@
+-- What was read stands there as the bytes that encode it, by the laws of the codec. Assumes nothing.
+use mathlib.Core.Path.{_≡_, refl, ap, _∙_}
+use mathlib.Core.List.{List, [], _∷_, map}
+use Prim.Native.Nat.{ℕ, zero, suc, _+_, _-_, _≤_, _<_}
+use native.Mathlib.Nat.{le-of-suc-le-suc, not-suc-le-zero}
+use native.Mathlib.Omega.{arith}
+use lib.ListN.{length, getD, drop, length-map, length-drop}
+use lib.Seq.{getD-drop}
+use Rattle.model.specs.Limits.{version1}
+use Rattle.model.specs.Answer as Answer
+use Rattle.model.specs.Answer.{answered}
+use Rattle.model.specs.Case.{Task}
+use Rattle.model.specs.Formula.{Formula}
+use Rattle.model.specs.Action.{Action}
+use Rattle.model.specs.Read.{headBytes, bytesOf}
+use Rattle.model.specs.FormulaBytes.{encodeFormula}
+use Rattle.model.specs.ProblemBytes.{actionAt, actionBytes}
+use Rattle.model.specs.Operations.{taskOf, readTask}
+use Rattle.model.specs.WellFormed.{Bytes}
+use Rattle.model.specs.Stands.{Span, nothing, next, FormulaAt, ActionAt}
+use Rattle.model.proofs.Laws.Reading.{first}
+use Rattle.model.proofs.Laws.FormulaCodec.{formula-got}
+use Rattle.model.proofs.Laws.ProblemCodec.{action-got}
+use Rattle.blocks.specs.declared.plan.Task as found
+use Rattle.blocks.specs.Standing.{TaskStands, StandsFound}
+use Rattle.blocks.specs.Parts.{FormulaStands, ActionStands, TaskAt}
+
+-- ---- from a reader to the bytes
+
+module _ {s : List ℕ} {facts : ℕ} (b : Bytes s) (most : facts ≤ version1 .facts) where
+  pub formula-stands : {p : ℕ} {f : Formula} → FormulaStands s facts p f → (q : ℕ) × FormulaAt s facts p f q
+  formula-stands {p} {f} k =
+      let (o, r) = formula-got version1 s facts (omega arith) p f (k .next) b (k .read) in
+      (k .next, record { ok = o; bytes = r })
+
+  pub action-stands : {p : ℕ} {a : Action} → ActionStands s facts p a → (q : ℕ) × ActionAt s facts p a q
+  action-stands {p} {a} k =
+      let (o, r) = action-got version1 s facts (omega arith) p a (k .next) b (k .read) in
+      (k .next, record { ok = o; bytes = r })
+
+-- the action of a plan's step is the one that the step names
+step-action : (as′ : List Action) (bs : List ℕ) (i : ℕ) → i < length bs → actionAt (map (actionAt as′) bs) i ≡ actionAt as′ (getD bs i 0)
+unfolding actionAt
+step-action as′ [] i h = absurd (not-suc-le-zero h)
+step-action as′ (b ∷ bs) zero h = refl
+step-action as′ (b ∷ bs) (suc i) h = step-action as′ bs i (le-of-suc-le-suc h)
+
+module _ (s t : List ℕ) (r : found.Task) (b : Bytes s) (o : TaskAt s t r) where
+  abbrev task : Task
+  task = taskOf version1 (o .problem) (o .steps)
+
+  read-task : readTask version1 s t ≡ answered task
+  unfolding readTask Answer._>>=_
+  read-task = rw (o .problem-read, Answer._>>=_, o .plan-read)
+
+  -- a step in the plan's block
+  at-step : (i : ℕ) → i < length (drop headBytes t) →
+      (i < length (o .steps)) × (getD (drop headBytes t) i 0 ≡ getD (o .steps) i 0) × (getD (o .steps) i 0 < length (o .problem .actions))
+  at-step i h =
+      let l : i < r .steps = omega (arith, length-drop headBytes t, o .fits) in
+      let (e, k) = o .step i l in
+      (omega (arith, o .count), getD-drop headBytes t i 0 ∙ e, k)
+
+  task-stands : TaskStands s (drop headBytes t) (r .problem .action) (r .problem .initial) (r .problem .goal) task
+  unfolding taskOf
+  task-stands =
+      record {
+        width = refl;
+        most = o .placed .most;
+        starting = formula-stands b (o .placed .most) (o .placed .initial);
+        reaching = formula-stands b (o .placed .most) (o .placed .goal);
+        counted = length-map (o .steps) (actionAt (o .problem .actions)) ∙ omega (arith, length-drop headBytes t, o .fits, o .count);
+        named = λ i h. let (l, e, k) = at-step i h in omega (arith, o .placed .few);
+        acting =
+            λ i h.
+            let (l, e, k) = at-step i h in
+            rw (e, step-action (o .problem .actions) (o .steps) i l) (action-stands b (o .placed .most) (o .placed .action (getD (o .steps) i 0) k));
+      }
+
+  pub stands-found : StandsFound s t r
+  unfolding taskOf
+  stands-found = record { task = task; read = read-task; facts = o .placed .facts; fits = o .fits; stands = task-stands }
+
+-- ---- a part of a block
+
+-- bytes that stand from m on stand in the part of s from p on
+span-from : {s xs : List ℕ} {m q : ℕ} (p : ℕ) → p ≤ m → Span s (length s) m xs q → Span (drop p s) (length (drop p s)) (m - p) xs (q - p)
+span-from {m} {q} p l (nothing e) = let i : m - p ≡ q - p = omega arith in nothing i
+span-from {s} p l (next {p = m} h e k) =
+    let n : m - p < length (drop p s) = omega (arith, length-drop p s) in
+    let i : p + (m - p) ≡ m = omega arith in
+    let j : (m + 1) - p ≡ (m - p) + 1 = omega arith in
+    next n (getD-drop p s (m - p) 0 ∙ ap (λ (k : ℕ). getD s k 0) i ∙ e) (rw j at (span-from p (omega arith) k))
+
+pub span-drop : {s xs : List ℕ} {p q : ℕ} → Span s (length s) p xs q → Span (drop p s) (length (drop p s)) 0 xs (q - p)
+span-drop {p = p} h = let e : p - p ≡ 0 = omega arith in rw e at (span-from p (omega arith) h)
+
+-- an action has a byte, so it stands inside
+pub action-inside : {s : List ℕ} {facts p q : ℕ} {a : Action} → ActionAt s facts p a q → p < length s
+unfolding actionBytes encodeFormula bytesOf
+action-inside h = first (h .bytes) .0
+
+pub action-part : {s : List ℕ} {facts p q : ℕ} {a : Action} → ActionAt s facts p a q → ActionAt (drop p s) facts 0 a (q - p)
+action-part h = record { ok = h .ok; bytes = span-drop (h .bytes) }

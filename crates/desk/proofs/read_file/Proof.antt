@@ -1,0 +1,109 @@
+-- `read_file` meets its contract: what came so far is within the buffer, whose length stays. Assumes nothing.
+use Prim.Native.Nat.{ℕ, zero, suc, _-_, _≤_, _<_}
+use mathlib.Core.Path.{_≡_, refl, sym}
+use mathlib.Core.Bool.{false}
+use native.Mathlib.Omega.{arith}
+use lib.Dec.{T}
+use lib.IntN.{ℤ, pos, negsuc, natAbs}
+use lib.ListN.{length}
+use lib.Seq.{length-take-le}
+use lib.Signed.{ltZ, nonNeg}
+use mir.Facts.{toZ-ofZ}
+use mir.Syntax.{w64}
+use mir.Val.{SFits, toZ, ofZ}
+use borrow.Author.Needs.{needs}
+use Rattle.libc.specs.Io.{Moved}
+use Rattle.desk.proofs.read_file.Statement.{statement}
+use Rattle.desk.proofs.read_file.Tie as tie
+
+-- what a read answers that neither failed nor met the end: a byte or more, and no more than it was asked for
+record Came (n : ℕ) (z : ℤ) : Type 0 where
+  pub sign : T (nonNeg z)
+  pub some : 0 < natAbs z
+  pub within : natAbs z ≤ n
+
+came : (n : ℕ) (z : ℤ) → Moved n z → ltZ z (pos 0) ≡ false → (ofZ w64 z ≡ 0 → ⊥) → Came n z
+came n (pos zero) m f h = absurd (h refl)
+came n (pos (suc k)) m f h = record { sign = tt; some = omega arith; within = m }
+came n (negsuc k) m f h = let z : _≡_ {A = ℕ} 0 1 = cc in absurd (omega arith)
+
+-- the same of what the code reads back from the answer's bits
+back : (n : ℕ) (z : ℤ) → SFits w64 z → Moved n z → ltZ (toZ w64 (ofZ w64 z)) (pos 0) ≡ false → (ofZ w64 z ≡ 0 → ⊥) → Came n (toZ w64 (ofZ w64 z))
+back n z s = rw (toZ-ofZ s) (came n z)
+
+abbrev Inv-loop : tie.InvT-loop
+Inv-loop fd buf₀ done₀ buf done = (done ≤ length buf) × (length buf ≡ length buf₀)
+
+abbrev μ-loop : tie.MeasureT-loop
+μ-loop fd buf₀ done₀ buf done = length buf - done
+
+-- a turn that goes on: what came fits into the rest of the buffer
+more : (c : tie.Else2 Inv-loop μ-loop) → Came (length (c .before .before .before .before .before .before .before .loop .buf) - c .before .before .before .before .before .before .before .loop .done) (toZ w64 (ofZ w64 (c .before .before .before .before .read .result)))
+more c = let h = back _ (c .before .before .before .before .read .result) (record { sfits = c .before .before .before .before .read .ok }) (c .before .before .before .before .read .ensures) (c .before .if1 .left) (c .if2 .left) in record { sign = h .sign; some = h .some; within = omega arith }
+
+loop-holds : tie.Need-loop-holds Inv-loop μ-loop
+loop-holds c = search needs
+
+sub-read : tie.Need-sub-read Inv-loop μ-loop
+sub-read c = search needs
+
+part-read-start : tie.Need-part-read-start Inv-loop μ-loop
+part-read-start c = search needs
+
+part-read-end : tie.Need-part-read-end Inv-loop μ-loop
+part-read-end c = search needs
+
+read-requires : tie.Need-read-requires Inv-loop μ-loop
+read-requires c κs = search needs
+
+same-length : tie.Need-same-length Inv-loop μ-loop
+same-length c = search needs
+
+returns : tie.Need-returns Inv-loop μ-loop
+returns c = search needs
+
+same-length-2 : tie.Need-same-length-2 Inv-loop μ-loop
+same-length-2 c = search needs
+
+returns-2 : tie.Need-returns-2 Inv-loop μ-loop
+returns-2 c = (search needs, sym (length-take-le _ _ (search needs)))
+
+cast-done : tie.Need-cast-done Inv-loop μ-loop
+cast-done c = (more c .sign, omega (arith, more c .within))
+
+add-done : tie.Need-add-done Inv-loop μ-loop
+add-done c = omega (arith, more c .within)
+
+loop-less : tie.Need-loop-less Inv-loop μ-loop
+loop-less c = omega (arith, more c .some)
+
+loop-again : tie.Need-loop-again Inv-loop μ-loop
+loop-again c = (omega (arith, more c .within), search needs)
+
+same-length-3 : tie.Need-same-length-3 Inv-loop μ-loop
+same-length-3 c = search needs
+
+returns-3 : tie.Need-returns-3 Inv-loop μ-loop
+returns-3 c = (search needs, sym (length-take-le _ _ (search needs)))
+
+pub read-file-spec : {M : Type 1} → statement M
+read-file-spec =
+    tie.close
+    (tie.spec
+    Inv-loop
+    μ-loop
+    loop-holds
+    sub-read
+    part-read-start
+    part-read-end
+    read-requires
+    same-length
+    returns
+    same-length-2
+    returns-2
+    cast-done
+    add-done
+    loop-less
+    loop-again
+    same-length-3
+    returns-3)

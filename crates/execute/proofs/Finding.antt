@@ -1,0 +1,290 @@
+-- The loops over an action's entries: their conditions are found one after the other, and their facts settled from the last to the first.
+-- Assumes nothing.
+use mathlib.Core.Path.{_≡_, refl, sym, ap, _∙_, subst}
+use mathlib.Core.List.{List, [], _∷_}
+use Prim.Native.Nat.{ℕ, zero, suc, _+_, _*_, _-_, _%_, _≤_, _<_}
+use native.Mathlib.Omega.{arith}
+use native.Mathlib.Numerals.{add-one}
+use native.Mathlib.Decide.{ℕ-discrete}
+use native.Mathlib.Nat.{mod-eq-of-lt}
+use lib.ListN.{length, getD, set, drop, length-set}
+use lib.Seq.{getD-set-same, getD-set-other, drop-cons}
+use lib.Bits.{bitAnd, bitOr, bitXor}
+use Rattle.model.specs.Limits.{version1}
+use Rattle.model.specs.Kleene.{Kleene, No, both, either, denied, three}
+use Rattle.model.specs.Formula.{Literal, fact, denial, eval}
+use Rattle.model.specs.Action.{Effect, step}
+use Rattle.model.specs.FormulaBytes.{literalByte, encodeFormula}
+use Rattle.model.specs.ProblemBytes.{effectsBytes}
+use Rattle.model.specs.WellFormed.{Declared, EffectsOk}
+use Rattle.model.specs.Planes.{Table}
+use Rattle.model.specs.Stands.{Span}
+use Rattle.model.proofs.Laws.Reading.{first, split}
+use Rattle.model.proofs.Laws.Planes.{ones, lane-both, lane-either, lane-denied, table-same, table-fact}
+use Rattle.formula.specs.declared.planes.Planes.{Planes}
+use Rattle.formula.specs.Planes.{FormulaPlanes}
+use Rattle.table.specs.Tables.{Sized, SetsFact}
+use Rattle.execute.specs.Effects.{entryAt, Entries, FindsConditions, settled, SettlesEntry, Settles, AppliesEffects}
+use Rattle.execute.proofs.Settling.{length-settled, settled-step}
+
+-- the entries from number i on
+drop-entry : (es : List Effect) (i : ℕ) → i < length es → drop i es ≡ entryAt es i ∷ drop (i + 1) es
+drop-entry es i h = drop-cons es i _ h ∙ ap (λ (x : ℕ). entryAt es i ∷ drop x es) (sym (add-one i))
+
+-- ---- finding
+
+-- of the entries es, which end at q, those from number e on stand from p on
+pub record Left (s : List ℕ) (facts : ℕ) (es : List Effect) (q e p : ℕ) : Type 0 where
+  pub least : ℕ
+  pub ok : EffectsOk version1 facts least (drop e es)
+  pub stands : Span s (length s) p (effectsBytes (drop e es)) q
+
+pub record Finding (s : List ℕ) (at : ℕ) (c found literals : List ℕ) (n e p : ℕ) : Type 0 where
+  pub wide : length found ≡ 512
+  pub long : length literals ≡ 256
+  pub few : e ≤ n
+  pub small : n ≤ 255
+  pub is :
+      (facts : ℕ) (es : List Effect) (q : ℕ) → facts ≤ 64 → EffectsOk version1 facts 0 es → Span s (length s) at (length es ∷ effectsBytes es) q →
+      (n ≡ length es) × Left s facts es q e p × Entries c literals found es e
+
+no-entries : (c literals found : List ℕ) (es : List Effect) → Entries c literals found es 0
+no-entries c literals found es = record { literal = λ i h. absurd (omega arith); condition = λ case t i h. absurd (omega arith) }
+
+pub finding-begins :
+    (s : List ℕ) (at : ℕ) (c found literals : List ℕ) (n : ℕ) → length found ≡ 512 → length literals ≡ 256 → n < 256 → n ≡ getD s at 0 →
+    Finding s at c found literals n 0 (at + 1)
+finding-begins s at c found literals n w l h e =
+    record {
+      wide = w;
+      long = l;
+      few = omega arith;
+      small = omega arith;
+      is =
+          λ facts es q m ok v.
+          let a = first v in
+          (e ∙ a .1, record { least = 0; ok = ok; stands = a .2 }, no-entries c literals found es);
+    }
+
+-- the block ends before the count
+pub finding-none : (s : List ℕ) (at : ℕ) (c found literals : List ℕ) → length found ≡ 512 → length literals ≡ 256 → length s ≤ at → FindsConditions s at c found literals 0
+finding-none s at c found literals w l h =
+    record { wide = w; long = l; few = omega arith; is = λ facts es q m ok v. absurd (omega (arith, first v .0)) }
+
+module _ (s : List ℕ) (at : ℕ) (c found literals : List ℕ) (n e p : ℕ) (F : Finding s at c found literals n e p) where
+  -- the bytes end before an entry
+  pub finding-short : e < n → length s ≤ p → FindsConditions s at c found literals e
+  unfolding effectsBytes
+  finding-short h l =
+      record {
+        wide = F .wide;
+        long = F .long;
+        few = omega (arith, F .few, F .small);
+        is =
+            λ facts es q m ok v.
+            let (i, r, x) = F .is facts es q m ok v in
+            absurd (omega (arith, first (subst (λ (d : List Effect). Span s (length s) p (effectsBytes d) q) (drop-entry es e (omega arith)) (r .stands)) .0));
+      }
+
+  pub finding-ends : n ≤ e → FindsConditions s at c found literals e
+  finding-ends h =
+      record {
+        wide = F .wide;
+        long = F .long;
+        few = omega (arith, F .few, F .small);
+        is =
+            λ facts es q m ok v.
+            let (i, r, x) = F .is facts es q m ok v in
+            (omega (arith, F .few), x);
+      }
+
+  -- one more entry, whose condition was evaluated
+  module _ (h : e < n) (r : Planes) (x : FormulaPlanes s c (p + 1) r) where
+    abbrev literals′ : List ℕ
+    literals′ = set literals e (getD s p 0)
+
+    abbrev found₁ : List ℕ
+    found₁ = set found (2 * e) (r .some)
+
+    abbrev found′ : List ℕ
+    found′ = set found₁ (2 * e + 1) (r .sure)
+
+    wide₁ : length found₁ ≡ 512
+    wide₁ = length-set found (2 * e) (r .some) ∙ F .wide
+
+    wide′ : length found′ ≡ 512
+    wide′ = length-set found₁ (2 * e + 1) (r .sure) ∙ wide₁
+
+    old-word : (i : ℕ) → (i ≡ 2 * e → ⊥) → (i ≡ 2 * e + 1 → ⊥) → getD found′ i 0 ≡ getD found i 0
+    old-word i a b = getD-set-other found₁ (2 * e + 1) i (r .sure) 0 b ∙ getD-set-other found (2 * e) i (r .some) 0 a
+
+    some-word : getD found′ (2 * e) 0 ≡ r .some
+    some-word = getD-set-other found₁ (2 * e + 1) (2 * e) (r .sure) 0 (λ i. omega arith) ∙ getD-set-same found (2 * e) (r .some) 0 (omega (arith, F .wide, F .small))
+
+    sure-word : getD found′ (2 * e + 1) 0 ≡ r .sure
+    sure-word = getD-set-same found₁ (2 * e + 1) (r .sure) 0 (omega (arith, wide₁, F .small))
+
+    next-entry :
+        (facts : ℕ) (es : List Effect) (q : ℕ) → facts ≤ 64 → e < length es → Left s facts es q e p → Entries c literals found es e →
+        Left s facts es q (e + 1) (r .next) × Entries c literals′ found′ es (e + 1)
+    unfolding effectsBytes
+    next-entry facts es q m l left old =
+        let d = drop-entry es e l in
+        let ok = subst (EffectsOk version1 facts (left .least)) d (left .ok) in
+        let v = first (subst (λ (y : List Effect). Span s (length s) p (effectsBytes y) q) d (left .stands)) in
+        split (encodeFormula (entryAt es e .condition)) (v .2) λ o a b.
+        let (i, lanes) = x .is facts (entryAt es e .condition) o m (record { ok = ok .2; bytes = a }) in (
+          record { least = literalByte (entryAt es e .literal) + 1; ok = ok .3; stands = subst (λ (y : ℕ). Span s (length s) y (effectsBytes (drop (e + 1) es)) q) (sym i) b },
+          record {
+            literal =
+                λ k b.
+                elim (ℕ-discrete k e) [
+                  | yes z ↦ rw z (getD-set-same literals e _ 0 (omega (arith, F .long, F .small)) ∙ v .1)
+                  | no z ↦ getD-set-other literals e k _ 0 z ∙ old .literal k (omega arith)
+                ];
+            condition =
+                λ case t k b.
+                elim (ℕ-discrete k e) [
+                  | yes z ↦ rw (z, some-word, sure-word) (lanes case t)
+                  | no z ↦
+                      rw (old-word (2 * k) (λ i. z (omega arith)) (λ i. omega arith), old-word (2 * k + 1) (λ i. omega arith) (λ i. z (omega arith)))
+                      (old .condition case t k (omega arith))
+                ];
+          },
+        )
+
+    pub finding-next : Finding s at c found′ literals′ n (e + 1) (r .next)
+    finding-next =
+        record {
+          wide = wide′;
+          long = length-set literals e _ ∙ F .long;
+          few = omega arith;
+          small = F .small;
+          is =
+              λ facts es q m ok v.
+              let (i, left, old) = F .is facts es q m ok v in
+              let (a, b) = next-entry facts es q m (omega arith) left old in
+              (i, a, b);
+        }
+
+-- ---- settling
+
+declared-at : (facts least : ℕ) (es : List Effect) (i : ℕ) → EffectsOk version1 facts least es → i < length es → Declared facts (entryAt es i .literal)
+declared-at facts least [] i ok h = absurd (omega arith)
+declared-at facts least (e ∷ es) zero ok h = ok .0
+declared-at facts least (e ∷ es) (suc i) ok h = declared-at facts (literalByte (e .literal) + 1) es i (ok .3) (omega arith)
+
+-- the entries from number e on are settled
+pub record Settling (n : ℕ) (literals found c : List ℕ) (e : ℕ) (d : List ℕ) : Type 0 where
+  pub size : length d ≡ 256
+  pub few : e ≤ n
+  pub is :
+      (facts : ℕ) (es : List Effect) → facts ≤ 64 → EffectsOk version1 facts 0 es → n ≡ length es → Entries c literals found es n →
+      (case : ℕ → List Kleene) → Sized facts case → Table c case → Table d (λ j. settled (case j) (drop e es))
+
+drop-all : (es : List Effect) (n : ℕ) → length es ≤ n → drop n es ≡ []
+drop-all [] zero h = refl
+drop-all [] (suc n) h = refl
+drop-all (e ∷ es) zero h = absurd (omega arith)
+drop-all (e ∷ es) (suc n) h = drop-all es n (omega arith)
+
+pub settling-begins : (n : ℕ) (literals found c : List ℕ) → length c ≡ 256 → Settling n literals found c n c
+unfolding settled
+settling-begins n literals found c w =
+    record {
+      size = w;
+      few = omega arith;
+      is = λ facts es h ok i x case z t. subst (λ (y : List Effect). Table c (λ j. settled (case j) y)) (sym (drop-all es n (omega arith))) t;
+    }
+
+pub settling-ends : (n : ℕ) (literals found c : List ℕ) (e : ℕ) (d : List ℕ) → Settling n literals found c e d → e ≤ 0 → Settles n literals found c d
+settling-ends n literals found c e d S h =
+    let z : e ≡ 0 = omega arith in
+    record { size = S .size; is = λ facts es m ok i x case y t. subst (λ (k : ℕ). Table d (λ j. settled (case j) (drop k es))) z (S .is facts es m ok i x case y t) }
+
+-- a literal by its byte
+fact-of : (facts : ℕ) (l : Literal) → facts ≤ 64 → Declared facts l → literalByte l < 64 → l ≡ fact (literalByte l)
+fact-of facts (fact f) h d b = refl
+fact-of facts (denial f) h d b = absurd (omega arith)
+
+denial-of : (facts : ℕ) (l : Literal) → facts ≤ 64 → Declared facts l → 64 ≤ literalByte l → l ≡ denial (literalByte l - 64)
+denial-of facts (fact f) h d b = absurd (omega arith)
+denial-of facts (denial f) h d b = ap denial (omega arith)
+
+byte-small : (facts : ℕ) (l : Literal) → facts ≤ 64 → Declared facts l → literalByte l < 128
+byte-small facts (fact f) h d = omega arith
+byte-small facts (denial f) h d = omega arith
+
+module _ (d : List ℕ) (l some sure : ℕ) (d′ : List ℕ) where
+  -- the entry sets its fact
+  pub entry-sets :
+      l < 64 → (some′ sure′ : ℕ) → some′ ≡ bitOr some (getD d (2 * l) 0) → sure′ ≡ bitOr sure (getD d (2 * l + 1) 0) → SetsFact d l some′ sure′ d′ →
+      SettlesEntry d l some sure d′
+  entry-sets small some′ sure′ es eu x =
+      record {
+        size = x .size;
+        is =
+            λ facts lit case t h dec b z table lanes.
+            let f : lit ≡ fact l = fact-of facts lit h dec (omega arith) ∙ ap fact (sym b) in
+            let w : l < facts = subst (Declared facts) f dec in
+            rw f
+            (x .is case _ (λ j. either (t j) (getD (case j) l No)) table
+            (record { lane = λ j m. rw (es, eu) (lane-either j (lanes .lane j m) (table-fact d case l j table small m)) })
+            (λ j g k. getD-set-other (case j) l g _ No k)
+            (λ j m. getD-set-same (case j) l _ No (omega (arith, z j m))));
+      }
+
+  -- the entry clears its fact
+  pub entry-clears :
+      64 ≤ l → (some′ sure′ : ℕ) → some′ ≡ bitAnd (getD d (2 * (l - 64)) 0) (bitXor ones sure) → sure′ ≡ bitAnd (getD d (2 * (l - 64) + 1) 0) (bitXor ones some) →
+      l < 128 → SetsFact d (l - 64) some′ sure′ d′ → SettlesEntry d l some sure d′
+  entry-clears big some′ sure′ es eu small x =
+      record {
+        size = x .size;
+        is =
+            λ facts lit case t h dec b z table lanes.
+            let f : lit ≡ denial (l - 64) = denial-of facts lit h dec (omega arith) ∙ ap (λ (u : ℕ). denial (u - 64)) (sym b) in
+            let w : l - 64 < facts = subst (Declared facts) f dec in
+            rw f
+            (x .is case _ (λ j. both (getD (case j) (l - 64) No) (denied (t j))) table
+            (record { lane = λ j m. rw (es, eu) (lane-both j (table-fact d case (l - 64) j table (omega arith) m) (lane-denied j (lanes .lane j m) m)) })
+            (λ j g k. getD-set-other (case j) (l - 64) g _ No k)
+            (λ j m. getD-set-same (case j) (l - 64) _ No (omega (arith, z j m))));
+      }
+
+-- one more entry, the one before, is settled
+pub settling-next :
+    (n : ℕ) (literals found c : List ℕ) (e : ℕ) (d d′ : List ℕ) → Settling n literals found c e d → 0 < e → (l : ℕ) → l ≡ getD literals (e - 1) 0 % 128 →
+    SettlesEntry d l (getD found (2 * (e - 1)) 0) (getD found (2 * (e - 1) + 1) 0) d′ → Settling n literals found c (e - 1) d′
+unfolding settled
+settling-next n literals found c e d d′ S pos l l-is x =
+    record {
+      size = x .size;
+      few = omega (arith, S .few);
+      is =
+          λ facts es h ok i y case z t.
+          let b : e - 1 < length es = omega (arith, S .few) in
+          let k : e - 1 + 1 ≡ e = omega arith in
+          let m = entryAt es (e - 1) in
+          let dec = declared-at facts 0 es (e - 1) ok b in
+          let u = y .literal (e - 1) (omega arith) in
+          let o : l ≡ literalByte (m .literal) = l-is ∙ rw u (mod-eq-of-lt (byte-small facts (m .literal) h dec)) in
+          let q : drop (e - 1) es ≡ m ∷ drop e es = drop-entry es (e - 1) b ∙ ap (λ (w : ℕ). m ∷ drop w es) k in
+          rw (q, settled)
+          (x .is facts (m .literal) (λ j. settled (case j) (drop e es)) (λ j. eval three (case j) (m .condition)) h dec o
+          (λ j w. length-settled (case j) (drop e es) ∙ z j w) (S .is facts es h ok i y case z t) (y .condition case t (e - 1) (omega arith)));
+    }
+
+-- ---- both
+
+pub applies :
+    (s : List ℕ) (p : ℕ) (c found literals : List ℕ) (n : ℕ) (d : List ℕ) → FindsConditions s p c found literals n → Settles n literals found c d → AppliesEffects s p c d
+applies s p c found literals n d F S =
+    record {
+      size = S .size;
+      is =
+          λ facts a q h ok v case z t.
+          let (i, x) = F .is facts (a .effects) q h ok v in
+          table-same d (λ j. settled (case j) (a .effects)) (λ j. step three facts a (case j)) (S .is facts (a .effects) h ok i x case z t)
+          (λ j g m l. settled-step facts a (case j) h ok (z j m) g);
+    }

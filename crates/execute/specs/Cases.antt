@@ -1,0 +1,62 @@
+-- What an action, a run and a look answer in the 64 cases of a table.
+use mathlib.Core.Path.{_≡_}
+use mathlib.Core.Bool.{Bool, true, false}
+use mathlib.Core.List.{List}
+use Prim.Native.Nat.{ℕ, zero, suc, _≤_, _<_, min}
+use lib.ListN.{length}
+use Rattle.model.specs.Kleene.{Kleene, three}
+use Rattle.model.specs.Formula.{eval}
+use Rattle.model.specs.Action.{Action, applicable, step}
+use Rattle.model.specs.Run.{reached, missed, blocked, run}
+use Rattle.model.specs.Run as Run
+use Rattle.model.specs.Case.{Task}
+use Rattle.model.specs.Walk as Walk
+use Rattle.model.specs.Answers.{outcome}
+use Rattle.model.specs.declared.Outcome.{Outcome}
+use Rattle.model.specs.Planes.{laneBit, Table}
+use Rattle.model.specs.Stands.{ActionAt}
+use Rattle.blocks.specs.Standing.{TaskStands}
+use Rattle.table.specs.Tables.{Sized}
+use Rattle.execute.specs.declared.cases.Looks.{Looks}
+
+abbrev pub flag : Bool → ℕ
+flag true = 1
+flag false = 0
+
+abbrev pub reachedBit : Run.Outcome → ℕ
+reachedBit reached = 1
+reachedBit missed = 0
+reachedBit (blocked p) = 0
+
+-- the lanes r of `alive` in which the action is applicable; where there are some, d is the table after it
+pub record ObeysAction (action c : List ℕ) (alive : ℕ) (d : List ℕ) (r : ℕ) : Type 0 where
+  pub size : length d ≡ 256
+  pub is :
+      (facts : ℕ) (a : Action) (q : ℕ) → facts ≤ 64 → ActionAt action facts 0 a q → (case : ℕ → List Kleene) → Sized facts case → Table c case →
+      ((j : ℕ) → j < 64 → laneBit j r ≡ min (laneBit j alive) (flag (applicable three a (case j)))) ×
+      ((r ≡ 0 → ⊥) → Table d (λ j. step three facts a (case j)))
+
+-- the lanes r of `lanes` whose run reaches the goal
+pub record RunsCases (problem steps actions : List ℕ) (goal lanes : ℕ) (c : List ℕ) (r : ℕ) : Type 0 where
+  pub is :
+      (initial : ℕ) (T : Task) → TaskStands problem steps actions initial goal T → (case : ℕ → List Kleene) → Sized (T .facts) case → Table c case →
+      (j : ℕ) → j < 64 → laneBit j r ≡ min (laneBit j lanes) (reachedBit (run three (T .facts) (T .goal) (T .plan) 0 (case j)))
+
+-- what two bits, empty and carries, say of a case
+abbrev pub lookBits : ℕ → ℕ → Walk.Look
+lookBits zero zero = Walk.opened
+lookBits zero (suc b) = Walk.closed Walk.carries
+lookBits (suc a) b = Walk.closed Walk.empty
+
+pub record LooksAtCases (problem steps actions : List ℕ) (initial goal : ℕ) (c : List ℕ) (r : Looks) : Type 0 where
+  pub is :
+      (T : Task) → TaskStands problem steps actions initial goal T → (case : ℕ → List Kleene) → Sized (T .facts) case → Table c case →
+      (j : ℕ) → j < 64 →
+      lookBits (laneBit j (r .empty)) (laneBit j (r .carries)) ≡
+      Walk.lookOf (eval three (case j) (T .initial)) (run three (T .facts) (T .goal) (T .plan) 0 (case j))
+
+-- how the run of the case in lane 0 ends
+pub record RunsState (problem steps actions : List ℕ) (goal : ℕ) (c : List ℕ) (r : Outcome) : Type 0 where
+  pub is :
+      (initial : ℕ) (T : Task) → TaskStands problem steps actions initial goal T → (case : ℕ → List Kleene) → Sized (T .facts) case → Table c case →
+      outcome r ≡ run three (T .facts) (T .goal) (T .plan) 0 (case 0)

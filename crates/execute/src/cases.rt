@@ -1,0 +1,90 @@
+// A plan's run in 64 cases at once: one action, the run to the goal, one look at a table of cases.
+ghost use mathlib.Core.Path.{_≡_};
+ghost use lib.ListN.{length};
+ghost use Rattle.execute.specs.Cases.{ObeysAction, RunsCases, LooksAtCases};
+use crate::effects::apply_effects;
+use formula::formula_planes;
+use table::ONES;
+
+// Obeys an action, which stands at the front of `action`, in the lanes in `alive` in which it is applicable, and answers these.
+pub fn obey_action(
+    action: &[u8],
+    c: &mut [u64; 256],
+    found: &mut [u64; 512],
+    literals: &mut [u8; 256],
+    alive: u64,
+) -> u64
+    requires { ⌜ (length (now c) ≡ 256) × (length (now found) ≡ 512) × (length (now literals) ≡ 256) ⌝ }
+    ensures { λ r. ⌜ ObeysAction (now (action .entry)) (now (c .entry)) alive (now (c .exit)) r × (length (now (found .exit)) ≡ 512) × (length (now (literals .exit)) ≡ 256) ⌝ }
+{
+    let r = formula_planes(action, 0, c);
+    let going = alive & r.sure;
+    if going == 0 {
+        return 0;
+    }
+    apply_effects(action, r.next, c, found, literals);
+    going
+}
+
+// The lanes in `lanes` whose run reaches the goal.
+fn run_cases(
+    problem: &[u8],
+    steps: &[u8],
+    actions: &[usize; 64],
+    goal: usize,
+    lanes: u64,
+    c: &[u64; 256],
+) -> u64
+    requires { ⌜ length (now c) ≡ 256 ⌝ }
+    ensures { λ r. ⌜ RunsCases (now (problem .entry)) (now (steps .entry)) (now (actions .entry)) goal lanes (now (c .entry)) r ⌝ }
+{
+    let mut current = *c;
+    let mut found = [0u64; 512];
+    let mut literals = [0u8; 256];
+    let mut alive = lanes;
+    let mut i: usize = 0;
+    while i < steps.len() {
+        let slot = crate::wide(steps[i] % 64);
+        let from = actions[slot];
+        if problem.len() < from {
+            return 0;
+        }
+        alive = obey_action(
+            &problem[from..],
+            &mut current,
+            &mut found,
+            &mut literals,
+            alive,
+        );
+        if alive == 0 {
+            return 0;
+        }
+        i = i + 1;
+    }
+    let r = formula_planes(problem, goal, &current);
+    alive & r.sure
+}
+
+// What a visit finds of 64 cases: those that are empty, and those that carry; the others are open.
+pub struct Looks {
+    pub empty: u64,
+    pub carries: u64,
+}
+
+pub fn look_at_cases(
+    problem: &[u8],
+    steps: &[u8],
+    actions: &[usize; 64],
+    initial: usize,
+    goal: usize,
+    c: &[u64; 256],
+) -> Looks
+    requires { ⌜ length (now c) ≡ 256 ⌝ }
+    ensures { λ r. ⌜ LooksAtCases (now (problem .entry)) (now (steps .entry)) (now (actions .entry)) initial goal (now (c .entry)) r ⌝ }
+{
+    let r = formula_planes(problem, initial, c);
+    Looks {
+        empty: ONES ^ r.some,
+        carries: run_cases(problem, steps, actions, goal, r.some, c),
+    }
+}

@@ -1,0 +1,86 @@
+// The effects of an action in 64 cases at once. All conditions are found first, in the values before the action; then each fact that has
+// an entry is settled, so that nothing is read after it changed and no table is copied.
+ghost use mathlib.Core.Path.{_≡_};
+ghost use Prim.Native.Nat.{_≤_, _<_};
+ghost use lib.ListN.{length};
+ghost use Rattle.execute.specs.Effects.{FindsConditions, SettlesEntry, Settles, AppliesEffects};
+use formula::formula_planes;
+use table::ONES;
+use table::set_fact;
+
+// The entries from `at` on, their count first: the literal of entry e goes to literals[e], the words of its condition to found[2 * e] and
+// after it. The answer is their count.
+fn find_conditions(
+    s: &[u8],
+    at: usize,
+    c: &[u64; 256],
+    found: &mut [u64; 512],
+    literals: &mut [u8; 256],
+) -> usize
+    requires { ⌜ (length (now found) ≡ 512) × (length (now literals) ≡ 256) ⌝ }
+    ensures { λ r. ⌜ FindsConditions (now (s .entry)) at (now (c .entry)) (now (found .exit)) (now (literals .exit)) r ⌝ }
+{
+    let mut e: usize = 0;
+    if s.len() <= at {
+        return e;
+    }
+    let n = crate::wide(s[at]);
+    let mut p = at + 1;
+    while e < n {
+        if s.len() <= p {
+            return e;
+        }
+        let r = formula_planes(s, p + 1, c);
+        literals[e] = s[p];
+        found[2 * e] = r.some;
+        found[2 * e + 1] = r.sure;
+        p = r.next;
+        e = e + 1;
+    }
+    e
+}
+
+// Equation 2 for one entry, by its literal's byte and its condition's words: it sets its fact, or clears it.
+fn settle_entry(c: &mut [u64; 256], l: usize, some: u64, sure: u64)
+    requires { ⌜ (length (now c) ≡ 256) × (l < 128) ⌝ }
+    ensures { λ _. ⌜ SettlesEntry (now (c .entry)) l some sure (now (c .exit)) ⌝ }
+{
+    if l < 64 {
+        let was_some = c[2 * l];
+        let was_sure = c[2 * l + 1];
+        set_fact(c, l, some | was_some, sure | was_sure);
+    } else {
+        let f = l - 64;
+        let was_some = c[2 * f];
+        let was_sure = c[2 * f + 1];
+        set_fact(c, f, was_some & (ONES ^ sure), was_sure & (ONES ^ some));
+    }
+}
+
+// Equation 2 for the first n entries, from the last to the first: literals rise, so that what clears a fact comes before what sets it.
+fn settle(n: usize, literals: &[u8; 256], found: &[u64; 512], c: &mut [u64; 256])
+    requires { ⌜ (n ≤ 256) × (length (now literals) ≡ 256) × (length (now found) ≡ 512) × (length (now c) ≡ 256) ⌝ }
+    ensures { λ _. ⌜ Settles n (now (literals .entry)) (now (found .entry)) (now (c .entry)) (now (c .exit)) ⌝ }
+{
+    let mut e = n;
+    while 0 < e {
+        e = e - 1;
+        let l = crate::wide(literals[e] % 128);
+        settle_entry(c, l, found[2 * e], found[2 * e + 1]);
+    }
+}
+
+// The effects whose count stands at `at`, in every lane. `found` and `literals` are room to work in.
+pub fn apply_effects(
+    s: &[u8],
+    at: usize,
+    c: &mut [u64; 256],
+    found: &mut [u64; 512],
+    literals: &mut [u8; 256],
+)
+    requires { ⌜ (length (now c) ≡ 256) × (length (now found) ≡ 512) × (length (now literals) ≡ 256) ⌝ }
+    ensures { λ _. ⌜ AppliesEffects (now (s .entry)) at (now (c .entry)) (now (c .exit)) × (length (now (found .exit)) ≡ 512) × (length (now (literals .exit)) ≡ 256) ⌝ }
+{
+    let n = find_conditions(s, at, c, found, literals);
+    settle(n, literals, found, c);
+}

@@ -1,0 +1,198 @@
+// Evaluating a formula in 64 cases at once, a bit each. The bytes were read before, so nothing is tested again but that they are there.
+ghost use mathlib.Core.Path.{_≡_};
+ghost use mathlib.Core.Bool.{true, false};
+ghost use Prim.Native.Nat.{_+_, _<_};
+ghost use Rattle.model.specs.FormulaBytes.{conjunction, disjunction};
+ghost use Rattle.formula.specs.Planes.{LiteralPlanes, GroupPlanes, OutermostPlanes, FormulaPlanes};
+
+// Every lane.
+pub const ONES: u64 = 0xffff_ffff_ffff_ffff;
+
+// A value in 64 lanes, and the position after the bytes that have it. (The words stand apart: stored singly, they are not loaded as one.)
+pub struct Planes {
+    pub some: u64,
+    pub next: usize,
+    pub sure: u64,
+}
+
+pub struct Literal {
+    pub some: u64,
+    pub sure: u64,
+}
+
+// The value of a literal, by its byte.
+fn literal_planes(b: u8, c: &[u64; 256]) -> Literal
+    requires { ⌜ b < 128 ⌝ }
+    ensures { λ r. ⌜ LiteralPlanes (now (c .entry)) b r ⌝ }
+{
+    let i = 2 * crate::wide(b);
+    Literal {
+        some: c[i],
+        sure: c[i + 1],
+    }
+}
+
+// The members of an "all", n of them from `at` on. Unless the position after the whole group is asked for, no in every lane decides it.
+fn all_planes(s: &[u8], at: usize, n: u8, c: &[u64; 256], whole: bool) -> Planes
+    ensures { λ r. ⌜ GroupPlanes (now (s .entry)) (now (c .entry)) conjunction n at whole r ⌝ }
+{
+    let mut some: u64 = ONES;
+    let mut sure: u64 = ONES;
+    let mut p = at;
+    let mut k = n;
+    while 0 < k {
+        if !whole & (some == 0) {
+            return Planes {
+                some,
+                next: p,
+                sure,
+            };
+        }
+        if s.len() <= p {
+            return Planes {
+                some,
+                next: p,
+                sure,
+            };
+        }
+        let b = s[p];
+        if b < crate::ALL {
+            let l = literal_planes(b, c);
+            some = some & l.some;
+            sure = sure & l.sure;
+            p = p + 1;
+        } else {
+            if s.len() - p < 2 {
+                return Planes {
+                    some,
+                    next: p,
+                    sure,
+                };
+            }
+            let r = any_planes(s, p + 2, s[p + 1], c, true);
+            some = some & r.some;
+            sure = sure & r.sure;
+            p = r.next;
+        }
+        k = k - 1;
+    }
+    Planes {
+        some,
+        next: p,
+        sure,
+    }
+}
+
+// The members of an "any", n of them from `at` on. Unless the position after the whole group is asked for, yes in every lane decides it.
+fn any_planes(s: &[u8], at: usize, n: u8, c: &[u64; 256], whole: bool) -> Planes
+    ensures { λ r. ⌜ GroupPlanes (now (s .entry)) (now (c .entry)) disjunction n at whole r ⌝ }
+{
+    let mut some: u64 = 0;
+    let mut sure: u64 = 0;
+    let mut p = at;
+    let mut k = n;
+    while 0 < k {
+        if !whole & (sure == ONES) {
+            return Planes {
+                some,
+                next: p,
+                sure,
+            };
+        }
+        if s.len() <= p {
+            return Planes {
+                some,
+                next: p,
+                sure,
+            };
+        }
+        let b = s[p];
+        if b < crate::ALL {
+            let l = literal_planes(b, c);
+            some = some | l.some;
+            sure = sure | l.sure;
+            p = p + 1;
+        } else {
+            if s.len() - p < 2 {
+                return Planes {
+                    some,
+                    next: p,
+                    sure,
+                };
+            }
+            let r = all_planes(s, p + 2, s[p + 1], c, true);
+            some = some | r.some;
+            sure = sure | r.sure;
+            p = r.next;
+        }
+        k = k - 1;
+    }
+    Planes {
+        some,
+        next: p,
+        sure,
+    }
+}
+
+// The group at `at`, from its mark on.
+fn group_planes(s: &[u8], at: usize, c: &[u64; 256]) -> Planes
+    ensures { λ r. ⌜ OutermostPlanes (now (s .entry)) (now (c .entry)) at r ⌝ }
+{
+    if s.len() <= at {
+        return Planes {
+            some: 0,
+            next: at,
+            sure: 0,
+        };
+    }
+    if s.len() - at < 2 {
+        return Planes {
+            some: 0,
+            next: at,
+            sure: 0,
+        };
+    }
+    if s[at] == crate::ALL {
+        all_planes(s, at + 2, s[at + 1], c, false)
+    } else {
+        any_planes(s, at + 2, s[at + 1], c, false)
+    }
+}
+
+// The formula whose length field stands at `at`, and the position after it.
+pub fn formula_planes(s: &[u8], at: usize, c: &[u64; 256]) -> Planes
+    ensures { λ r. ⌜ FormulaPlanes (now (s .entry)) (now (c .entry)) at r ⌝ }
+{
+    let len = s.len();
+    if len <= at {
+        return Planes {
+            some: 0,
+            next: at,
+            sure: 0,
+        };
+    }
+    if len - at < 3 {
+        return Planes {
+            some: 0,
+            next: at,
+            sure: 0,
+        };
+    }
+    let begin = at + 2;
+    let next = begin + (crate::wide(s[at]) * 256 + crate::wide(s[at + 1]));
+    let b = s[begin];
+    if b < crate::ALL {
+        let l = literal_planes(b, c);
+        return Planes {
+            some: l.some,
+            next,
+            sure: l.sure,
+        };
+    }
+    let r = group_planes(s, begin, c);
+    Planes {
+        some: r.some,
+        next,
+        sure: r.sure,
+    }
+}

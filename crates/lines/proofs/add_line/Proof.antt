@@ -1,0 +1,33 @@
+-- `add_line` meets its contract. Assumes nothing.
+use native.Mathlib.Omega.{arith}
+use mathlib.Core.Path.{refl}
+use Rattle.lines.proofs.Stores.{no-room, adds-line}
+use borrow.Author.Needs.{needs}
+use Rattle.lines.proofs.add_line.Statement.{statement}
+use Rattle.lines.proofs.add_line.Tie as tie
+
+returns : tie.Need-returns
+returns c = no-room _ _ _ _ _ (omega arith)
+
+returns-2 : tie.Need-returns-2
+returns-2 c = no-room _ _ _ _ _ (omega arith)
+
+cast-put-line : tie.Need-cast-put-line
+cast-put-line c = search needs
+
+put-line-requires : tie.Need-put-line-requires
+put-line-requires c κs = search needs
+
+add-result : tie.Need-add-result
+add-result c = search needs
+
+same-length : tie.Need-same-length
+same-length c = search needs
+
+returns-3 : tie.Need-returns-3
+returns-3 c = adds-line _ _ _ _ _ _ _ refl (c .before .before .put-line .ensures)
+
+pub add-line-spec : {M : Type 1} → statement M
+add-line-spec =
+    tie.close
+    (tie.spec returns returns-2 cast-put-line put-line-requires add-result same-length returns-3)

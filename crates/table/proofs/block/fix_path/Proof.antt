@@ -1,0 +1,90 @@
+-- `fix_path` meets its contract. Assumes nothing.
+use Rattle.table.proofs.block.fix_path.Statement.{statement}
+use Rattle.table.proofs.block.fix_path.Tie as tie
+use native.Mathlib.Omega.{arith}
+use borrow.Author.Needs.{needs}
+use Prim.Native.Nat.{_-_, _≤_}
+use Rattle.table.proofs.Blocks.{Copied, copied-none, copied-next, copied-end}
+
+abbrev Inv-loop : tie.InvT-loop
+Inv-loop c₀ k d lane i₀ c i = (i ≤ d) × Copied c₀ k i lane c
+
+abbrev μ-loop : tie.MeasureT-loop
+μ-loop c₀ k d lane i₀ c i = d - i
+
+loop-holds : tie.Need-loop-holds Inv-loop μ-loop
+loop-holds c = (omega arith, copied-none _ _ _ (c .pre .0))
+
+add-f : tie.Need-add-f Inv-loop μ-loop
+add-f c = search needs
+
+mul-spread : tie.Need-mul-spread Inv-loop μ-loop
+mul-spread c = search needs
+
+mul-spread-2 : tie.Need-mul-spread-2 Inv-loop μ-loop
+mul-spread-2 c = search needs
+
+element-copy-out-spread : tie.Need-element-copy-out-spread Inv-loop μ-loop
+element-copy-out-spread c = search needs
+
+spread-requires : tie.Need-spread-requires Inv-loop μ-loop
+spread-requires c κs = search needs
+
+mul-spread-3 : tie.Need-mul-spread-3 Inv-loop μ-loop
+mul-spread-3 c = search needs
+
+add-spread : tie.Need-add-spread Inv-loop μ-loop
+add-spread c = search needs
+
+mul-spread-4 : tie.Need-mul-spread-4 Inv-loop μ-loop
+mul-spread-4 c = search needs
+
+element-copy-out-spread-2 : tie.Need-element-copy-out-spread-2 Inv-loop μ-loop
+element-copy-out-spread-2 c = search needs
+
+spread-requires-2 : tie.Need-spread-requires-2 Inv-loop μ-loop
+spread-requires-2 c κs = search needs
+
+set-fact-requires : tie.Need-set-fact-requires Inv-loop μ-loop
+set-fact-requires c κs = (c .before .before .before .before .before .before .loop .inv .1 .size, omega arith)
+
+add-i : tie.Need-add-i Inv-loop μ-loop
+add-i c = search needs
+
+loop-less : tie.Need-loop-less Inv-loop μ-loop
+loop-less c = search needs
+
+loop-again : tie.Need-loop-again Inv-loop μ-loop
+loop-again c =
+    let second = c .before .before in
+    let first = second .before .before in
+    let now = first .before .before .before in
+    let more =
+    copied-next _ _ _ _ _ _ _ _ (now .before .pre .1) (omega arith) (now .loop .inv .1) (first .spread .ensures) (second .spread2 .ensures) (c .set-fact .ensures) in
+    (omega arith, more)
+
+returns : tie.Need-returns Inv-loop μ-loop
+returns c = copied-end _ _ _ _ _ _ (c .before .loop .inv .0) (omega arith) (c .before .loop .inv .1)
+
+pub fix-path-spec : {M : Type 1} → statement M
+fix-path-spec =
+    tie.close
+    (tie.spec
+    Inv-loop
+    μ-loop
+    loop-holds
+    add-f
+    mul-spread
+    mul-spread-2
+    element-copy-out-spread
+    spread-requires
+    mul-spread-3
+    add-spread
+    mul-spread-4
+    element-copy-out-spread-2
+    spread-requires-2
+    set-fact-requires
+    add-i
+    loop-less
+    loop-again
+    returns)

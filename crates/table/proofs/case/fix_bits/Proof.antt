@@ -1,0 +1,62 @@
+-- `fix_bits` meets its contract. Assumes nothing.
+use Rattle.table.proofs.case.fix_bits.Statement.{statement}
+use Rattle.table.proofs.case.fix_bits.Tie as tie
+use native.Mathlib.Omega.{arith}
+use borrow.Author.Needs.{needs}
+use Prim.Native.Nat.{_-_, _≤_, max}
+use Rattle.table.specs.Tables.{SetsFacts}
+use Rattle.table.specs.Cases.{bitsOf}
+use Rattle.table.proofs.Facts.{sets-none, sets-next, sets-ends}
+use Rattle.table.proofs.Cases.{bits-lanes}
+
+abbrev Inv-loop : tie.InvT-loop
+Inv-loop c₀ from to number f₀ c f = (from ≤ f) × (f ≤ max from to) × SetsFacts c₀ from f (bitsOf number) c
+
+abbrev μ-loop : tie.MeasureT-loop
+μ-loop c₀ from to number f₀ c f = to - f
+
+loop-holds : tie.Need-loop-holds Inv-loop μ-loop
+loop-holds c = (omega arith, omega arith, sets-none _ _ _ (c .pre .0))
+
+sub-spread : tie.Need-sub-spread Inv-loop μ-loop
+sub-spread c = search needs
+
+sub-spread-2 : tie.Need-sub-spread-2 Inv-loop μ-loop
+sub-spread-2 c = search needs
+
+spread-requires : tie.Need-spread-requires Inv-loop μ-loop
+spread-requires c κs = search needs
+
+set-fact-requires : tie.Need-set-fact-requires Inv-loop μ-loop
+set-fact-requires c κs = (c .before .before .before .loop .inv .2 .size, omega arith)
+
+add-f : tie.Need-add-f Inv-loop μ-loop
+add-f c = search needs
+
+loop-less : tie.Need-loop-less Inv-loop μ-loop
+loop-less c = search needs
+
+loop-again : tie.Need-loop-again Inv-loop μ-loop
+loop-again c =
+    let now = c .before .before .before .before .loop in
+    let lanes = bits-lanes _ _ _ (omega arith) (c .before .before .spread .ensures) in
+    (omega arith, omega arith, sets-next _ _ _ _ _ _ _ _ (omega arith) (omega arith) (now .inv .2) (c .set-fact .ensures) lanes)
+
+returns : tie.Need-returns Inv-loop μ-loop
+returns c = sets-ends _ _ _ _ _ _ (omega arith) (omega arith) (c .before .loop .inv .2)
+
+pub fix-bits-spec : {M : Type 1} → statement M
+fix-bits-spec =
+    tie.close
+    (tie.spec
+    Inv-loop
+    μ-loop
+    loop-holds
+    sub-spread
+    sub-spread-2
+    spread-requires
+    set-fact-requires
+    add-f
+    loop-less
+    loop-again
+    returns)

@@ -1,0 +1,41 @@
+-- `free_facts` meets its contract. Assumes nothing.
+use Rattle.table.proofs.case.free_facts.Statement.{statement}
+use Rattle.table.proofs.case.free_facts.Tie as tie
+use native.Mathlib.Omega.{arith}
+use borrow.Author.Needs.{needs}
+use Prim.Native.Nat.{_-_, _≤_, max}
+use Rattle.table.specs.Tables.{SetsFacts}
+use Rattle.table.specs.Cases.{unfixed}
+use Rattle.table.proofs.Facts.{sets-none, sets-next, sets-ends}
+use Rattle.table.proofs.Cases.{unfixed-lanes}
+
+abbrev Inv-loop : tie.InvT-loop
+Inv-loop c₀ from to f₀ c f = (from ≤ f) × (f ≤ max from to) × SetsFacts c₀ from f unfixed c
+
+abbrev μ-loop : tie.MeasureT-loop
+μ-loop c₀ from to f₀ c f = to - f
+
+loop-holds : tie.Need-loop-holds Inv-loop μ-loop
+loop-holds c = (omega arith, omega arith, sets-none _ _ _ (c .pre .0))
+
+set-fact-requires : tie.Need-set-fact-requires Inv-loop μ-loop
+set-fact-requires c κs = (c .before .before .loop .inv .2 .size, omega arith)
+
+add-f : tie.Need-add-f Inv-loop μ-loop
+add-f c = search needs
+
+loop-less : tie.Need-loop-less Inv-loop μ-loop
+loop-less c = search needs
+
+loop-again : tie.Need-loop-again Inv-loop μ-loop
+loop-again c =
+    let now = c .before .before .before .loop in
+    (omega arith, omega arith, sets-next _ _ _ _ _ _ _ _ (omega arith) (omega arith) (now .inv .2) (c .set-fact .ensures) (unfixed-lanes (now .f)))
+
+returns : tie.Need-returns Inv-loop μ-loop
+returns c = sets-ends _ _ _ _ _ _ (omega arith) (omega arith) (c .before .loop .inv .2)
+
+pub free-facts-spec : {M : Type 1} → statement M
+free-facts-spec =
+    tie.close
+    (tie.spec Inv-loop μ-loop loop-holds set-fact-requires add-f loop-less loop-again returns)

@@ -1,0 +1,47 @@
+// A table with no fact fixed, and a fact that gets new values.
+ghost use mathlib.Core.Path.{_≡_};
+ghost use Prim.Native.Nat.{_<_, _≤_};
+ghost use lib.ListN.{length};
+ghost use Rattle.table.specs.Tables.{SetsFact, NoneFixed};
+
+// Every lane.
+pub const ONES: u64 = 0xffff_ffff_ffff_ffff;
+
+// Every fact and every denial unknown in every lane.
+pub fn unknown() -> [u64; 256]
+    ensures { λ r. ⌜ NoneFixed 64 r ⌝ }
+{
+    let mut c = [0u64; 256];
+    let mut b: usize = 0;
+    while b < 128 {
+        c[2 * b] = ONES;
+        b = b + 1;
+    }
+    c
+}
+
+// Fact f gets new values, and its denial with it.
+pub fn set_fact(c: &mut [u64; 256], f: usize, some: u64, sure: u64)
+    requires { ⌜ (length (now c) ≡ 256) × (f < 64) ⌝ }
+    ensures { λ _. ⌜ SetsFact (now (c .entry)) f some sure (now (c .exit)) ⌝ }
+{
+    let i = 2 * f;
+    c[i] = some;
+    c[i + 1] = sure;
+    c[i + 128] = ONES ^ sure;
+    c[i + 129] = ONES ^ some;
+}
+
+// None of so many facts is fixed in any lane; the facts past them are no.
+pub fn none_fixed(facts: usize) -> [u64; 256]
+    requires { ⌜ facts ≤ 64 ⌝ }
+    ensures { λ r. ⌜ NoneFixed facts r ⌝ }
+{
+    let mut c = unknown();
+    let mut f = facts;
+    while f < 64 {
+        set_fact(&mut c, f, 0, 0);
+        f = f + 1;
+    }
+    c
+}
