@@ -28,17 +28,17 @@ literal-byte b = go (ltb b 64) refl
     go false e = omega (arith, ltb-false b 64 e)
 
 module _ (s : List ℕ) (facts least p : ℕ) where
-  pub effect-past : length s ≤ p → effect version1 s facts least p ≡ reject 14 (length s)
+  pub effect-past : length s ≤ p → effect s facts least p ≡ reject 14 (length s)
   unfolding effect _>>=_ _>>_ andThen position byte
   effect-past h = rw (le-ltb p (length s) h)
 
   module _ (h : p < length s) where
-    pub effect-undeclared : isLiteral facts (getD s p 0) ≡ false → effect version1 s facts least p ≡ reject 23 p
+    pub effect-undeclared : isLiteral facts (getD s p 0) ≡ false → effect s facts least p ≡ reject 23 p
     unfolding effect _>>=_ _>>_ andThen position byte require
     effect-undeclared k = rw (lt-ltb p (length s) h, k)
 
     module _ (k : isLiteral facts (getD s p 0) ≡ true) where
-      pub effect-low : getD s p 0 < least → effect version1 s facts least p ≡ reject 24 p
+      pub effect-low : getD s p 0 < least → effect s facts least p ≡ reject 24 p
       unfolding effect _>>=_ _>>_ andThen position byte require
       effect-low l = rw (lt-ltb p (length s) h, k, lt-leb least (getD s p 0) l)
 
@@ -47,18 +47,18 @@ module _ (s : List ℕ) (facts least p : ℕ) where
 
       effect-from :
           least ≤ getD s p 0 →
-          effect version1 s facts least p ≡ andThen (formula version1 s facts (p + 1)) (λ f. done (made f))
+          effect s facts least p ≡ andThen (formula s facts (p + 1)) (λ f. done (made f))
       unfolding effect _>>=_ _>>_ andThen position byte require made
       effect-from l = rw (lt-ltb p (length s) h, k, le-leb least (getD s p 0) l)
 
       effect-got :
-          least ≤ getD s p 0 → (f : Formula) (q : ℕ) → formula version1 s facts (p + 1) ≡ got f q →
-          effect version1 s facts least p ≡ got (made f) q
+          least ≤ getD s p 0 → (f : Formula) (q : ℕ) → formula s facts (p + 1) ≡ got f q →
+          effect s facts least p ≡ got (made f) q
       unfolding andThen done
       effect-got l f q e = effect-from l ∙ rw e
 
       pub effect-formula :
-          least ≤ getD s p 0 → (r : Reading) → r ≡ nextOf (formula version1 s facts (p + 1)) → EffectRead s facts least p r
+          least ≤ getD s p 0 → (r : Reading) → r ≡ nextOf (formula s facts (p + 1)) → EffectRead s facts least p r
       unfolding andThen made
       effect-formula l (Refused n q) e = effect-from l ∙ rw (next-refused _ n q (sym e))
       effect-formula l (Next q) e =
@@ -75,40 +75,40 @@ module _ (s : List ℕ) (facts least p : ℕ) where
 module _ (s : List ℕ) (facts : ℕ) where
   effects-more :
       (k least p : ℕ) → 0 < k →
-      effects version1 s facts k least p ≡
-      andThen (effect version1 s facts least p) (λ e q. andThen (effects version1 s facts (k - 1) (literalByte (e .literal) + 1) q) (λ es r. got (e ∷ es) r))
+      effects s facts k least p ≡
+      andThen (effect s facts least p) (λ e q. andThen (effects s facts (k - 1) (literalByte (e .literal) + 1) q) (λ es r. got (e ∷ es) r))
   unfolding effects _>>=_ done
   effects-more zero least p h = absurd (omega arith)
   effects-more (suc k) least p h = let e : suc k - 1 ≡ k = omega arith in rw e
 
-  pub effects-none : (k least p : ℕ) → k ≡ 0 → Next p ≡ nextOf (effects version1 s facts k least p)
+  pub effects-none : (k least p : ℕ) → k ≡ 0 → Next p ≡ nextOf (effects s facts k least p)
   unfolding effects done nextOf
   effects-none k least p h = rw h
 
   pub effects-refused :
-      (k least p n q : ℕ) → 0 < k → effect version1 s facts least p ≡ reject n q →
-      Refused n q ≡ nextOf (effects version1 s facts k least p)
+      (k least p n q : ℕ) → 0 < k → effect s facts least p ≡ reject n q →
+      Refused n q ≡ nextOf (effects s facts k least p)
   unfolding andThen nextOf
   effects-refused k least p n q h e = rw (effects-more k least p h, e)
 
   effects-go-on :
-      (k least p q : ℕ) (e : Effect) → 0 < k → effect version1 s facts least p ≡ got e q →
-      nextOf (effects version1 s facts k least p) ≡ nextOf (effects version1 s facts (k - 1) (literalByte (e .literal) + 1) q)
+      (k least p q : ℕ) (e : Effect) → 0 < k → effect s facts least p ≡ got e q →
+      nextOf (effects s facts k least p) ≡ nextOf (effects s facts (k - 1) (literalByte (e .literal) + 1) q)
   unfolding andThen
   effects-go-on k least p q e h g =
-      rw (effects-more k least p h, g) (then-next (effects version1 s facts (k - 1) (literalByte (e .literal) + 1) q) (λ es. e ∷ es))
+      rw (effects-more k least p h, g) (then-next (effects s facts (k - 1) (literalByte (e .literal) + 1) q) (λ es. e ∷ es))
 
   pub effects-next :
       (k least p q : ℕ) → 0 < k → EffectGot s facts least p q →
-      nextOf (effects version1 s facts k least p) ≡ nextOf (effects version1 s facts (k - 1) (getD s p 0 + 1) q)
+      nextOf (effects s facts k least p) ≡ nextOf (effects s facts (k - 1) (getD s p 0 + 1) q)
   effects-next k least p q h g =
       effects-go-on k least p q (g .effect) h (g .read) ∙
-      ap (λ (x : ℕ). nextOf (effects version1 s facts (k - 1) (x + 1) q)) (g .literal)
+      ap (λ (x : ℕ). nextOf (effects s facts (k - 1) (x + 1) q)) (g .literal)
 
   -- what the reader of one effect answered
   pub answered-refused :
       (k least p : ℕ) (r : Reading) → 0 < k → EffectRead s facts least p r → (n q : ℕ) → r ≡ Refused n q →
-      Refused n q ≡ nextOf (effects version1 s facts k least p)
+      Refused n q ≡ nextOf (effects s facts k least p)
   answered-refused k least p r h a n q e = effects-refused k least p n q h (subst (EffectRead s facts least p) e a)
 
   pub answered-next : (least p : ℕ) (r : Reading) → EffectRead s facts least p r → (q : ℕ) → r ≡ Next q → EffectGot s facts least p q
@@ -122,25 +122,25 @@ module _ (s : List ℕ) (facts : ℕ) where
 
   pub list-next :
       (p n q : ℕ) → count s 22 0 (version1 .effects) p ≡ got n q →
-      nextOf (effects version1 s facts n 0 q) ≡ nextOf (effectList version1 s facts p)
+      nextOf (effects s facts n 0 q) ≡ nextOf (effectList version1 s facts p)
   unfolding effectList _>>=_ andThen
   list-next p n q e = rw e
 
-  pub action-refused : (p n q : ℕ) → Refused n q ≡ nextOf (formula version1 s facts p) → Refused n q ≡ nextOf (action version1 s facts p)
+  pub action-refused : (p n q : ℕ) → Refused n q ≡ nextOf (formula s facts p) → Refused n q ≡ nextOf (action version1 s facts p)
   unfolding action _>>=_ andThen nextOf
-  action-refused p n q e = rw (next-refused (formula version1 s facts p) n q (sym e))
+  action-refused p n q e = rw (next-refused (formula s facts p) n q (sym e))
 
   made-action : Formula → List Effect → Action
   made-action f es = record { precondition = f; effects = es }
 
   action-from :
-      (p q : ℕ) (f : Formula) → formula version1 s facts p ≡ got f q →
+      (p q : ℕ) (f : Formula) → formula s facts p ≡ got f q →
       action version1 s facts p ≡ andThen (effectList version1 s facts q) (λ es r. got (made-action f es) r)
   unfolding action _>>=_ andThen done made-action
   action-from p q f e = rw e
 
   pub action-next :
-      (p q : ℕ) → Next q ≡ nextOf (formula version1 s facts p) →
+      (p q : ℕ) → Next q ≡ nextOf (formula s facts p) →
       nextOf (effectList version1 s facts q) ≡ nextOf (action version1 s facts p)
   action-next p q e =
       let g = next-got _ q (sym e) in

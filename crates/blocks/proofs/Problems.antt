@@ -6,7 +6,7 @@ use Prim.Native.Nat.{ℕ, _+_, _≤_, _<_}
 use native.Mathlib.Omega.{arith}
 use lib.ListN.{length}
 use borrow.Author.Tests.{le-leb, lt-leb}
-use Rattle.model.specs.Limits.{version1}
+use Rattle.model.specs.Limits.{version1, maxActions}
 use Rattle.model.specs.Formula.{Formula}
 use Rattle.model.specs.Action.{Action}
 use Rattle.model.specs.Read.{Read, reject, got, andThen, _>>=_, _>>_, done, position, require, header, count}
@@ -80,7 +80,7 @@ module _ (s : List ℕ) (facts m : ℕ) where
 
     placed :
         (f g : Formula) (as′ : List Action) (q : ℕ) → facts ≤ version1 .facts → FormulaStands s facts initial f →
-        FormulaStands s facts goal g → actions version1 s facts m p ≡ got as′ q → length as′ ≡ m → m ≤ version1 .actions →
+        FormulaStands s facts goal g → actions version1 s facts m p ≡ got as′ q → length as′ ≡ m → m ≤ maxActions →
         Placed s (found .problem) (made f g as′)
     unfolding made
     placed f g as′ q h fs gs e l few =
@@ -94,7 +94,7 @@ module _ (s : List ℕ) (facts m : ℕ) where
           action = λ i k. A .stand as′ q e i (omega (arith, l));
         }
 
-    pub ends-found : (q : ℕ) → a .reading ≡ Next q → length s ≤ q → m ≤ version1 .actions → Ends s initial goal p facts m found
+    pub ends-found : (q : ℕ) → a .reading ≡ Next q → length s ≤ q → m ≤ maxActions → Ends s initial goal p facts m found
     unfolding made
     ends-found q e l few f g h fs gs =
         let o = next-got _ q (sym (A .is) ∙ e) in
@@ -109,29 +109,29 @@ module _ (s : List ℕ) (facts m : ℕ) where
 
 module _ (s : List ℕ) where
   module _ (facts m p : ℕ) where
-    pub parts-refused : (n q : ℕ) → Refused n q ≡ nextOf (formula version1 s facts p) → parts version1 s facts m p ≡ reject n q
+    pub parts-refused : (n q : ℕ) → Refused n q ≡ nextOf (formula s facts p) → parts version1 s facts m p ≡ reject n q
     unfolding parts _>>=_ andThen
-    parts-refused n q e = rw (next-refused (formula version1 s facts p) n q (sym e))
+    parts-refused n q e = rw (next-refused (formula s facts p) n q (sym e))
 
-    module _ (k : ℕ) (e : Next k ≡ nextOf (formula version1 s facts p)) where
-      pub parts-goal-refused : (n q : ℕ) → Refused n q ≡ nextOf (formula version1 s facts k) → parts version1 s facts m p ≡ reject n q
+    module _ (k : ℕ) (e : Next k ≡ nextOf (formula s facts p)) where
+      pub parts-goal-refused : (n q : ℕ) → Refused n q ≡ nextOf (formula s facts k) → parts version1 s facts m p ≡ reject n q
       unfolding parts _>>=_ andThen
       parts-goal-refused n q g =
-          let o = next-got (formula version1 s facts p) k (sym e) in
-          rw (o .is, next-refused (formula version1 s facts k) n q (sym g))
+          let o = next-got (formula s facts p) k (sym e) in
+          rw (o .is, next-refused (formula s facts k) n q (sym g))
 
       parts-got :
-          (q : ℕ) (f g : Formula) → formula version1 s facts p ≡ got f k → formula version1 s facts k ≡ got g q →
+          (q : ℕ) (f g : Formula) → formula s facts p ≡ got f k → formula s facts k ≡ got g q →
           parts version1 s facts m p ≡ ending version1 s facts m f g q
       unfolding parts _>>=_ andThen
       parts-got q f g a b = rw (a, b)
 
       pub parts-found :
-          (q : ℕ) (r : Found) → Next q ≡ nextOf (formula version1 s facts k) → facts ≤ version1 .facts → Ends s p k q facts m r →
+          (q : ℕ) (r : Found) → Next q ≡ nextOf (formula s facts k) → facts ≤ version1 .facts → Ends s p k q facts m r →
           Finds s (parts version1 s facts m p) r
       parts-found q r g h y =
-          let a = next-got (formula version1 s facts p) k (sym e) in
-          let b = next-got (formula version1 s facts k) q (sym g) in
+          let a = next-got (formula s facts p) k (sym e) in
+          let b = next-got (formula s facts k) q (sym g) in
           finds-as s _ _ r (parts-got q (a .value) (b .value) (a .is) (b .is))
           (y (a .value) (b .value) h (record { next = k; read = a .is }) (record { next = q; read = b .is }))
 
@@ -141,12 +141,12 @@ module _ (s : List ℕ) where
     body-refused n q e = rw e
 
     module _ (facts k : ℕ) (e : count s 15 1 (version1 .facts) p ≡ got facts k) where
-      pub body-actions-refused : (n q : ℕ) → count s 16 0 (version1 .actions) k ≡ reject n q → body version1 s p ≡ reject n q
+      pub body-actions-refused : (n q : ℕ) → count s 16 0 maxActions k ≡ reject n q → body version1 s p ≡ reject n q
       unfolding body _>>=_ andThen
       body-actions-refused n q g = rw (e, g)
 
       pub body-got :
-          (m : ℕ) → k ≡ p + 1 → count s 16 0 (version1 .actions) k ≡ got m (k + 1) → body version1 s p ≡ parts version1 s facts m (p + 2)
+          (m : ℕ) → k ≡ p + 1 → count s 16 0 maxActions k ≡ got m (k + 1) → body version1 s p ≡ parts version1 s facts m (p + 2)
       unfolding body _>>=_ andThen
       body-got m h g = rw (e, g) (ap (parts version1 s facts m) (omega arith))
 

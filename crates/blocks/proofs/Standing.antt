@@ -4,8 +4,8 @@ use mathlib.Core.List.{List, [], _∷_, map}
 use Prim.Native.Nat.{ℕ, zero, suc, _+_, _-_, _≤_, _<_}
 use native.Mathlib.Nat.{le-of-suc-le-suc, not-suc-le-zero}
 use native.Mathlib.Omega.{arith}
-use lib.ListN.{length, getD, drop, length-map, length-drop}
-use lib.Seq.{getD-drop}
+use lib.ListN.{length, getD, take, drop, length-map, length-drop}
+use lib.Seq.{getD-drop, take-all}
 use Rattle.model.specs.Limits.{version1}
 use Rattle.model.specs.Answer as Answer
 use Rattle.model.specs.Answer.{answered}
@@ -30,13 +30,13 @@ use Rattle.blocks.specs.Parts.{FormulaStands, ActionStands, TaskAt}
 module _ {s : List ℕ} {facts : ℕ} (b : Bytes s) (most : facts ≤ version1 .facts) where
   pub formula-stands : {p : ℕ} {f : Formula} → FormulaStands s facts p f → (q : ℕ) × FormulaAt s facts p f q
   formula-stands {p} {f} k =
-      let (o, r) = formula-got version1 s facts (omega arith) p f (k .next) b (k .read) in
+      let (o, r) = formula-got s facts (omega arith) p f (k .next) b (k .read) in
       (k .next, record { ok = o; bytes = r })
 
   pub action-stands : {p : ℕ} {a : Action} → ActionStands s facts p a → (q : ℕ) × ActionAt s facts p a q
   action-stands {p} {a} k =
       let (o, r) = action-got version1 s facts (omega arith) p a (k .next) b (k .read) in
-      (k .next, record { ok = o; bytes = r })
+      (k .next, record { precondition = o .precondition; few = omega (arith, o .count); effects = o .effects; bytes = r })
 
 -- the action of a plan's step is the one that the step names
 step-action : (as′ : List Action) (bs : List ℕ) (i : ℕ) → i < length bs → actionAt (map (actionAt as′) bs) i ≡ actionAt as′ (getD bs i 0)
@@ -81,24 +81,7 @@ module _ (s t : List ℕ) (r : found.Task) (b : Bytes s) (o : TaskAt s t r) wher
   unfolding taskOf
   stands-found = record { task = task; read = read-task; facts = o .placed .facts; fits = o .fits; stands = task-stands }
 
--- ---- a part of a block
+-- ---- what a slice has from p on
 
--- bytes that stand from m on stand in the part of s from p on
-span-from : {s xs : List ℕ} {m q : ℕ} (p : ℕ) → p ≤ m → Span s (length s) m xs q → Span (drop p s) (length (drop p s)) (m - p) xs (q - p)
-span-from {m} {q} p l (nothing e) = let i : m - p ≡ q - p = omega arith in nothing i
-span-from {s} p l (next {p = m} h e k) =
-    let n : m - p < length (drop p s) = omega (arith, length-drop p s) in
-    let i : p + (m - p) ≡ m = omega arith in
-    let j : (m + 1) - p ≡ (m - p) + 1 = omega arith in
-    next n (getD-drop p s (m - p) 0 ∙ ap (λ (k : ℕ). getD s k 0) i ∙ e) (rw j at (span-from p (omega arith) k))
-
-pub span-drop : {s xs : List ℕ} {p q : ℕ} → Span s (length s) p xs q → Span (drop p s) (length (drop p s)) 0 xs (q - p)
-span-drop {p = p} h = let e : p - p ≡ 0 = omega arith in rw e at (span-from p (omega arith) h)
-
--- an action has a byte, so it stands inside
-pub action-inside : {s : List ℕ} {facts p q : ℕ} {a : Action} → ActionAt s facts p a q → p < length s
-unfolding actionBytes encodeFormula bytesOf
-action-inside h = first (h .bytes) .0
-
-pub action-part : {s : List ℕ} {facts p q : ℕ} {a : Action} → ActionAt s facts p a q → ActionAt (drop p s) facts 0 a (q - p)
-action-part h = record { ok = h .ok; bytes = span-drop (h .bytes) }
+pub part-from : (s : List ℕ) (p : ℕ) → take (length s - p) (drop p s) ≡ drop p s
+part-from s p = take-all (length s - p) (drop p s) (omega (arith, length-drop p s))

@@ -5,7 +5,6 @@ use Prim.Native.Nat.{ℕ, zero, suc, _+_, _-_, _≤_, _<_}
 use native.Mathlib.Omega.{arith}
 use lib.ListN.{length, getD}
 use borrow.Author.Tests.{lt-ltb, le-ltb}
-use Rattle.model.specs.Limits.{version1}
 use Rattle.model.specs.Read.{reject, got, andThen, _>>=_, _>>_, done, position, require, counted, header}
 use Rattle.model.specs.ProblemBytes.{steps, plan}
 use Rattle.formula.specs.Readings.{nextOf}
@@ -14,38 +13,38 @@ use Rattle.formula.proofs.Readers.{next-got, next-refused, then-next}
 use Rattle.blocks.proofs.Headers.{header-five}
 
 module _ (s : List ℕ) (m : ℕ) where
-  pub steps-none : (n p : ℕ) → n ≡ 0 → Next p ≡ nextOf (steps version1 s m n p)
+  pub steps-none : (n p : ℕ) → n ≡ 0 → Next p ≡ nextOf (steps s m n p)
   unfolding steps done nextOf
   steps-none n p h = rw h
 
-  steps-bad : (n p : ℕ) → m ≤ getD s p 0 → steps version1 s m (suc n) p ≡ reject 34 p
+  steps-bad : (n p : ℕ) → m ≤ getD s p 0 → steps s m (suc n) p ≡ reject 34 p
   unfolding steps _>>=_ _>>_ andThen position counted require
   steps-bad n p g = rw (le-ltb (getD s p 0) m g)
 
-  pub steps-refused : (n p : ℕ) → 0 < n → m ≤ getD s p 0 → Refused 34 p ≡ nextOf (steps version1 s m n p)
+  pub steps-refused : (n p : ℕ) → 0 < n → m ≤ getD s p 0 → Refused 34 p ≡ nextOf (steps s m n p)
   unfolding nextOf
   steps-refused zero p h g = absurd (omega arith)
   steps-refused (suc n) p h g = rw (steps-bad n p g)
 
   steps-more :
       (n p : ℕ) → getD s p 0 < m →
-      steps version1 s m (suc n) p ≡ andThen (steps version1 s m n (p + 1)) (λ bs q. got (getD s p 0 ∷ bs) q)
+      steps s m (suc n) p ≡ andThen (steps s m n (p + 1)) (λ bs q. got (getD s p 0 ∷ bs) q)
   unfolding steps _>>=_ _>>_ andThen position counted require done
   steps-more n p g = rw (lt-ltb (getD s p 0) m g)
 
   pub steps-next :
-      (n k p : ℕ) → n ≡ suc k → getD s p 0 < m → nextOf (steps version1 s m n p) ≡ nextOf (steps version1 s m k (p + 1))
-  steps-next n k p e g = rw (e, steps-more k p g) (then-next (steps version1 s m k (p + 1)) (λ bs. getD s p 0 ∷ bs))
+      (n k p : ℕ) → n ≡ suc k → getD s p 0 < m → nextOf (steps s m n p) ≡ nextOf (steps s m k (p + 1))
+  steps-next n k p e g = rw (e, steps-more k p g) (then-next (steps s m k (p + 1)) (λ bs. getD s p 0 ∷ bs))
 
   pub plan-refused :
-      (n q : ℕ) → Refused n q ≡ nextOf (header s 30 261 1 0) → Refused n q ≡ nextOf (plan version1 s m 0)
+      (n q : ℕ) → Refused n q ≡ nextOf (header s 30 261 1 0) → Refused n q ≡ nextOf (plan s m 0)
   unfolding plan _>>_ andThen nextOf
   plan-refused n q e = rw (next-refused (header s 30 261 1 0) n q (sym e))
 
   pub plan-next :
       (q : ℕ) → Next q ≡ nextOf (header s 30 261 1 0) →
-      nextOf (steps version1 s m (length s - q) q) ≡ nextOf (plan version1 s m 0)
+      nextOf (steps s m (length s - q) q) ≡ nextOf (plan s m 0)
   unfolding plan _>>_ andThen
   plan-next q e =
       let g = next-got (header s 30 261 1 0) q (sym e) in
-      rw (g .is) (ap (λ (x : ℕ). nextOf (steps version1 s m (length s - x) q)) (header-five s 30 261 q e))
+      rw (g .is) (ap (λ (x : ℕ). nextOf (steps s m (length s - x) q)) (header-five s 30 261 q e))

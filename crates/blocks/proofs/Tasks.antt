@@ -43,7 +43,7 @@ stepped-more s m n p bs q h r =
         let k = r .step i (omega arith) in
         (ap (λ (x : ℕ). getD s x 0) (omega arith) ∙ k .0, k .1)
 
-steps-got : (s : List ℕ) (m n p : ℕ) (bs : List ℕ) (q : ℕ) → steps version1 s m n p ≡ got bs q → Stepped s m n p bs q
+steps-got : (s : List ℕ) (m n p : ℕ) (bs : List ℕ) (q : ℕ) → steps s m n p ≡ got bs q → Stepped s m n p bs q
 unfolding steps _>>=_ _>>_ position counted done andThen
 steps-got s m zero p bs q e =
     let (a, b) = got-inj e in
@@ -66,12 +66,12 @@ header-length s number most q u e =
     (leb-true 5 (length s) t₂, sym (got-inj h₄ .1))
 
 pub plan-stepped :
-    (t : List ℕ) (m : ℕ) (bs : List ℕ) (q : ℕ) → plan version1 t m 0 ≡ got bs q → (5 ≤ length t) × Stepped t m (length t - 5) 5 bs q
+    (t : List ℕ) (m : ℕ) (bs : List ℕ) (q : ℕ) → plan t m 0 ≡ got bs q → (5 ≤ length t) × Stepped t m (length t - 5) 5 bs q
 unfolding plan _>>_
 plan-stepped t m bs q e =
     then-got e λ u k e₁ h.
     let (a, b) = header-length t 30 261 k u e₁ in
-    (a, steps-got t m (length t - 5) 5 bs q (subst (λ (x : ℕ). steps version1 t m (length t - 5) x ≡ got bs q) b h))
+    (a, steps-got t m (length t - 5) 5 bs q (subst (λ (x : ℕ). steps t m (length t - 5) x ≡ got bs q) b h))
 
 -- ---- the problem alone
 
@@ -116,10 +116,10 @@ module _ (s : List ℕ) (r : Found) (f : Finds s (bytes.problem version1 s 0) r)
 
     module _ (t : List ℕ) where
       abbrev pub plan-as : Read (List ℕ)
-      plan-as = plan version1 t (r .problem .actions) 0
+      plan-as = plan t (r .problem .actions) 0
 
-      plan-is : (p : bytes.Problem) → Placed s (r .problem) p → plan version1 t (length (p .actions)) 0 ≡ plan-as
-      plan-is p w = ap (λ (m : ℕ). plan version1 t m 0) (sym (w .actions))
+      plan-is : (p : bytes.Problem) → Placed s (r .problem) p → plan t (length (p .actions)) 0 ≡ plan-as
+      plan-is p w = ap (λ (m : ℕ). plan t m 0) (sym (w .actions))
 
       task-plan-refused : (n q : ℕ) → plan-as ≡ reject n q → readTask version1 s t ≡ refused n q
       unfolding readTask planOf answerOf Answer._>>=_
@@ -145,7 +145,7 @@ module _ (s : List ℕ) (r : Found) (f : Finds s (bytes.problem version1 s 0) r)
         pub five-first : 5 ≤ q
         five-first = let (bs, a, b, d) = found-plan in omega (arith, d .end)
 
-        plan-read : (p : bytes.Problem) → Placed s (r .problem) p → (bs : List ℕ) → plan-as ≡ got bs q → planOf version1 t (length (p .actions)) ≡ answered bs
+        plan-read : (p : bytes.Problem) → Placed s (r .problem) p → (bs : List ℕ) → plan-as ≡ got bs q → planOf t (length (p .actions)) ≡ answered bs
         unfolding planOf answerOf
         plan-read p w bs a = rw (plan-is p w ∙ a)
 
@@ -194,7 +194,7 @@ module _ (s t : List ℕ) (r : Task) (f : FindsTask s t r) where
 
   pub read-plan-refused : r .refused ≡ true → refused (r .number) (r .place) ≡ readPlan version1 s t
   unfolding readPlan readTask
-  read-plan-refused h = sym (plan-as-task (problemOf version1 s) (λ p. planOf version1 t (length (p .actions))) (r .number) (r .place) (f .refusal h))
+  read-plan-refused h = sym (plan-as-task (problemOf version1 s) (λ p. planOf t (length (p .actions))) (r .number) (r .place) (f .refusal h))
 
   pub read-plan-found : r .refused ≡ false → answered (r .steps) ≡ readPlan version1 s t
   unfolding readPlan Answer._>>=_

@@ -4,7 +4,7 @@ use mathlib.Core.Bool.{true, false}
 use mathlib.Core.List.{List}
 use Prim.Native.Nat.{ℕ, _+_, _<_, _≤_}
 use lib.ListN.{length, getD}
-use Rattle.model.specs.Limits.{version1}
+use Rattle.model.specs.Limits.{version1, maxActions}
 use Rattle.model.specs.Answer.{refused, answered}
 use Rattle.model.specs.Formula.{Formula}
 use Rattle.model.specs.Action.{Effect, Action}
@@ -25,18 +25,18 @@ use Rattle.blocks.specs.Standing.{StandsFound}
 -- an effect that was read from p on, with its literal's byte at p
 pub record EffectGot (s : List ℕ) (facts least p q : ℕ) : Type 0 where
   pub effect : Effect
-  pub read : bytes.effect version1 s facts least p ≡ got effect q
+  pub read : bytes.effect s facts least p ≡ got effect q
   pub literal : literalByte (effect .literal) ≡ getD s p 0
   pub inside : p < length s
 
 abbrev pub EffectRead : List ℕ → ℕ → ℕ → ℕ → Reading → Type 0
-EffectRead s facts least p (Refused n q) = bytes.effect version1 s facts least p ≡ reject n q
+EffectRead s facts least p (Refused n q) = bytes.effect s facts least p ≡ reject n q
 EffectRead s facts least p (Next q) = EffectGot s facts least p q
 
 -- the formula f stands at p
 pub record FormulaStands (s : List ℕ) (facts p : ℕ) (f : Formula) : Type 0 where
   pub next : ℕ
-  pub read : formula version1 s facts p ≡ got f next
+  pub read : formula s facts p ≡ got f next
 
 -- the action a stands at p
 pub record ActionStands (s : List ℕ) (facts p : ℕ) (a : Action) : Type 0 where
@@ -55,7 +55,7 @@ pub record Placed (s : List ℕ) (r : Problem) (p : bytes.Problem) : Type 0 wher
   pub facts : r .facts ≡ p .facts
   pub most : p .facts ≤ version1 .facts
   pub actions : r .actions ≡ length (p .actions)
-  pub few : length (p .actions) ≤ version1 .actions
+  pub few : length (p .actions) ≤ maxActions
   pub initial : FormulaStands s (p .facts) (r .initial) (p .initial)
   pub goal : FormulaStands s (p .facts) (r .goal) (p .goal)
   pub action : (i : ℕ) → i < length (p .actions) → ActionStands s (p .facts) (getD (r .action) i 0) (actionAt (p .actions) i)
@@ -76,7 +76,7 @@ pub record TaskAt (s t : List ℕ) (r : Task) : Type 0 where
   pub problem : bytes.Problem
   pub steps : List ℕ
   pub problem-read : problemOf version1 s ≡ answered problem
-  pub plan-read : planOf version1 t (length (problem .actions)) ≡ answered steps
+  pub plan-read : planOf t (length (problem .actions)) ≡ answered steps
   pub placed : Placed s (r .problem) problem
   pub count : r .steps ≡ length steps
   pub fits : headBytes + r .steps ≡ length t

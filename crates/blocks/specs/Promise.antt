@@ -15,7 +15,7 @@ abbrev pub HoldsProblem : List ℕ → Problem → Type 0
 HoldsProblem problem p = ProblemOk version1 p × (problem ≡ encodeProblem version1 p)
 
 abbrev pub HoldsPlan : List ℕ → ℕ → List ℕ → Type 0
-HoldsPlan plan m steps = PlanOk version1 m steps × (plan ≡ encodePlan steps)
+HoldsPlan plan m steps = PlanOk m steps × (plan ≡ encodePlan steps)
 
 -- what an answer of `read_problem` promises
 abbrev pub ProblemPromised : List ℕ → Answer Counts → Type 0

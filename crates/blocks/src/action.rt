@@ -30,7 +30,7 @@ fn read_effect(s: &[u8], at: usize, facts: u8, least: usize) -> Reading
 
 // n effects from `at` on, whose literals rise strictly.
 fn read_effects(s: &[u8], at: usize, facts: u8, n: u8) -> Reading
-    ensures { λ r. ⌜ r ≡ nextOf (effects version1 (now (s .entry)) facts n 0 at) ⌝ }
+    ensures { λ r. ⌜ r ≡ nextOf (effects (now (s .entry)) facts n 0 at) ⌝ }
 {
     let mut p = at;
     let mut k = n;

@@ -5,8 +5,8 @@ pub mod header;
 pub mod plan;
 pub mod problem;
 
-use formula::wide;
 pub use header::check_header;
+use numbers::wide;
 pub use plan::Task;
 pub use plan::find_task;
 pub use plan::read_plan;

@@ -20,7 +20,7 @@ use model::Refusal;
 
 // The steps from `at` to the end of the block: a refusal, or that end.
 fn check_steps(s: &[u8], at: usize, actions: u8) -> Reading
-    ensures { λ r. ⌜ r ≡ nextOf (bytes.steps version1 (now (s .entry)) actions (length (now (s .entry)) - at) at) ⌝ }
+    ensures { λ r. ⌜ r ≡ nextOf (bytes.steps (now (s .entry)) actions (length (now (s .entry)) - at) at) ⌝ }
 {
     let mut p = at;
     while p < s.len() {
@@ -34,7 +34,7 @@ fn check_steps(s: &[u8], at: usize, actions: u8) -> Reading
 
 // A plan for so many actions: a refusal, or the block's end.
 fn check_plan(s: &[u8], actions: u8) -> Reading
-    ensures { λ r. ⌜ r ≡ nextOf (bytes.plan version1 (now (s .entry)) actions 0) ⌝ }
+    ensures { λ r. ⌜ r ≡ nextOf (bytes.plan (now (s .entry)) actions 0) ⌝ }
 {
     match check_header(s, 30, Plan::MAX_BYTES) {
         Reading::Refused(number, place) => Reading::Refused(number, place),

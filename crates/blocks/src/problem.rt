@@ -2,7 +2,7 @@
 ghost use mathlib.Core.Path.{_≡_};
 ghost use mathlib.Core.Bool.{true};
 ghost use Prim.Native.Nat.{_≤_};
-ghost use Rattle.model.specs.Limits.{version1};
+ghost use Rattle.model.specs.Limits.{version1, maxActions};
 ghost use Rattle.model.specs.ProblemBytes as bytes;
 ghost use Rattle.model.specs.Operations.{readProblem};
 ghost use Rattle.model.specs.Answers.{problemAnswer};
@@ -26,7 +26,7 @@ pub struct Actions {
 
 // Reads m actions from `at` on.
 fn read_actions(s: &[u8], at: usize, facts: u8, m: usize) -> Actions
-    requires { ⌜ m ≤ version1 .actions ⌝ }
+    requires { ⌜ m ≤ maxActions ⌝ }
     ensures { λ r. ⌜ ActionsAt (now (s .entry)) facts m at r ⌝ }
 {
     let mut stand = [0usize; Problem::MAX_ACTIONS];
@@ -81,7 +81,7 @@ fn refused(number: u8, place: usize) -> Found
 
 // The actions from `at` on, and the end of the block.
 fn find_actions(s: &[u8], initial: usize, goal: usize, at: usize, facts: u8, m: u8) -> Found
-    requires { ⌜ m ≤ version1 .actions ⌝ }
+    requires { ⌜ m ≤ maxActions ⌝ }
     ensures { λ r. ⌜ Ends (now (s .entry)) initial goal at facts m r ⌝ }
 {
     let all = read_actions(s, at, facts, crate::wide(m));
@@ -112,7 +112,7 @@ fn find_actions(s: &[u8], initial: usize, goal: usize, at: usize, facts: u8, m: 
 
 // The initial formula, the goal and the actions, from `at` on.
 fn find_parts(s: &[u8], at: usize, facts: u8, m: u8) -> Found
-    requires { ⌜ (facts ≤ version1 .facts) × (m ≤ version1 .actions) ⌝ }
+    requires { ⌜ (facts ≤ version1 .facts) × (m ≤ maxActions) ⌝ }
     ensures { λ r. ⌜ Finds (now (s .entry)) (bytes.parts version1 (now (s .entry)) facts m at) r ⌝ }
 {
     match read_formula(s, at, facts) {

@@ -6,10 +6,10 @@ pub mod reader;
 pub mod write;
 
 pub use follow::follow_list;
-use formula::wide;
 pub use line::Checked;
 pub use line::Line;
 pub use line::check_line;
+use numbers::wide;
 pub use reader::ListReader;
 pub use reader::check_at;
 pub use write::write_list;

@@ -9,22 +9,22 @@ use native.Mathlib.Decide.{ℕ-discrete}
 use native.Mathlib.Nat.{mod-eq-of-lt}
 use lib.ListN.{length, getD, set, drop, length-set}
 use lib.Seq.{getD-set-same, getD-set-other, drop-cons}
-use lib.Bits.{bitAnd, bitOr, bitXor}
-use Rattle.model.specs.Limits.{version1}
+use lib.Bits.{bitOr}
+use Rattle.model.specs.Limits.{maxEffects}
 use Rattle.model.specs.Kleene.{Kleene, No, both, either, denied, three}
-use Rattle.model.specs.Formula.{Literal, fact, denial, eval}
+use Rattle.model.specs.Formula.{Literal, fact, denial, valueOf, eval}
 use Rattle.model.specs.Action.{Effect, step}
-use Rattle.model.specs.FormulaBytes.{literalByte, encodeFormula}
+use Rattle.model.specs.FormulaBytes.{literalOf, literalByte, encodeFormula}
 use Rattle.model.specs.ProblemBytes.{effectsBytes}
 use Rattle.model.specs.WellFormed.{Declared, EffectsOk}
 use Rattle.model.specs.Planes.{Table}
 use Rattle.model.specs.Stands.{Span}
 use Rattle.model.proofs.Laws.Reading.{first, split}
-use Rattle.model.proofs.Laws.Planes.{ones, lane-both, lane-either, lane-denied, table-same, table-fact}
-use Rattle.formula.specs.declared.planes.Planes.{Planes}
-use Rattle.formula.specs.Planes.{FormulaPlanes}
-use Rattle.table.specs.Tables.{Sized, SetsFact}
-use Rattle.execute.specs.Effects.{entryAt, Entries, FindsConditions, settled, SettlesEntry, Settles, AppliesEffects}
+use Rattle.model.proofs.Laws.Planes.{denied-both, lane-either, literal-fact, literal-denial, table-same}
+use Rattle.evaluate.specs.declared.Planes.{Planes}
+use Rattle.evaluate.specs.Planes.{FormulaPlanes}
+use Rattle.table.specs.Tables.{Sized, SetsLiteral}
+use Rattle.execute.specs.Effects.{entryAt, Entries, FindsConditions, settledBy, settled, SettlesEntry, Settles, AppliesEffects}
 use Rattle.execute.proofs.Settling.{length-settled, settled-step}
 
 -- the entries from number i on
@@ -36,23 +36,23 @@ drop-entry es i h = drop-cons es i _ h ∙ ap (λ (x : ℕ). entryAt es i ∷ dr
 -- of the entries es, which end at q, those from number e on stand from p on
 pub record Left (s : List ℕ) (facts : ℕ) (es : List Effect) (q e p : ℕ) : Type 0 where
   pub least : ℕ
-  pub ok : EffectsOk version1 facts least (drop e es)
+  pub ok : EffectsOk facts least (drop e es)
   pub stands : Span s (length s) p (effectsBytes (drop e es)) q
 
 pub record Finding (s : List ℕ) (at : ℕ) (c found literals : List ℕ) (n e p : ℕ) : Type 0 where
-  pub wide : length found ≡ 512
-  pub long : length literals ≡ 256
+  pub wide : length found ≡ 256
+  pub long : length literals ≡ 128
   pub few : e ≤ n
-  pub small : n ≤ 255
+  pub small : n ≤ 128
   pub is :
-      (facts : ℕ) (es : List Effect) (q : ℕ) → facts ≤ 64 → EffectsOk version1 facts 0 es → Span s (length s) at (length es ∷ effectsBytes es) q →
+      (facts : ℕ) (es : List Effect) (q : ℕ) → facts ≤ 64 → length es ≤ maxEffects → EffectsOk facts 0 es → Span s (length s) at (length es ∷ effectsBytes es) q →
       (n ≡ length es) × Left s facts es q e p × Entries c literals found es e
 
 no-entries : (c literals found : List ℕ) (es : List Effect) → Entries c literals found es 0
 no-entries c literals found es = record { literal = λ i h. absurd (omega arith); condition = λ case t i h. absurd (omega arith) }
 
 pub finding-begins :
-    (s : List ℕ) (at : ℕ) (c found literals : List ℕ) (n : ℕ) → length found ≡ 512 → length literals ≡ 256 → n < 256 → n ≡ getD s at 0 →
+    (s : List ℕ) (at : ℕ) (c found literals : List ℕ) (n : ℕ) → length found ≡ 256 → length literals ≡ 128 → n ≤ 128 → n ≡ getD s at 0 →
     Finding s at c found literals n 0 (at + 1)
 finding-begins s at c found literals n w l h e =
     record {
@@ -61,15 +61,20 @@ finding-begins s at c found literals n w l h e =
       few = omega arith;
       small = omega arith;
       is =
-          λ facts es q m ok v.
+          λ facts es q m b ok v.
           let a = first v in
           (e ∙ a .1, record { least = 0; ok = ok; stands = a .2 }, no-entries c literals found es);
     }
 
 -- the block ends before the count
-pub finding-none : (s : List ℕ) (at : ℕ) (c found literals : List ℕ) → length found ≡ 512 → length literals ≡ 256 → length s ≤ at → FindsConditions s at c found literals 0
+pub finding-none : (s : List ℕ) (at : ℕ) (c found literals : List ℕ) → length found ≡ 256 → length literals ≡ 128 → length s ≤ at → FindsConditions s at c found literals 0
 finding-none s at c found literals w l h =
-    record { wide = w; long = l; few = omega arith; is = λ facts es q m ok v. absurd (omega (arith, first v .0)) }
+    record { wide = w; long = l; few = omega arith; is = λ facts es q m b ok v. absurd (omega (arith, first v .0)) }
+
+-- more than any action has
+pub finding-many : (s : List ℕ) (at : ℕ) (c found literals : List ℕ) (n : ℕ) → length found ≡ 256 → length literals ≡ 128 → 128 < n → n ≡ getD s at 0 → FindsConditions s at c found literals 0
+finding-many s at c found literals n w l h e =
+    record { wide = w; long = l; few = omega arith; is = λ facts es q m b ok v. absurd (omega (arith, first v .1)) }
 
 module _ (s : List ℕ) (at : ℕ) (c found literals : List ℕ) (n e p : ℕ) (F : Finding s at c found literals n e p) where
   -- the bytes end before an entry
@@ -81,8 +86,8 @@ module _ (s : List ℕ) (at : ℕ) (c found literals : List ℕ) (n e p : ℕ) (
         long = F .long;
         few = omega (arith, F .few, F .small);
         is =
-            λ facts es q m ok v.
-            let (i, r, x) = F .is facts es q m ok v in
+            λ facts es q m b ok v.
+            let (i, r, x) = F .is facts es q m b ok v in
             absurd (omega (arith, first (subst (λ (d : List Effect). Span s (length s) p (effectsBytes d) q) (drop-entry es e (omega arith)) (r .stands)) .0));
       }
 
@@ -93,8 +98,8 @@ module _ (s : List ℕ) (at : ℕ) (c found literals : List ℕ) (n e p : ℕ) (
         long = F .long;
         few = omega (arith, F .few, F .small);
         is =
-            λ facts es q m ok v.
-            let (i, r, x) = F .is facts es q m ok v in
+            λ facts es q m b ok v.
+            let (i, r, x) = F .is facts es q m b ok v in
             (omega (arith, F .few), x);
       }
 
@@ -109,10 +114,10 @@ module _ (s : List ℕ) (at : ℕ) (c found literals : List ℕ) (n e p : ℕ) (
     abbrev found′ : List ℕ
     found′ = set found₁ (2 * e + 1) (r .sure)
 
-    wide₁ : length found₁ ≡ 512
+    wide₁ : length found₁ ≡ 256
     wide₁ = length-set found (2 * e) (r .some) ∙ F .wide
 
-    wide′ : length found′ ≡ 512
+    wide′ : length found′ ≡ 256
     wide′ = length-set found₁ (2 * e + 1) (r .sure) ∙ wide₁
 
     old-word : (i : ℕ) → (i ≡ 2 * e → ⊥) → (i ≡ 2 * e + 1 → ⊥) → getD found′ i 0 ≡ getD found i 0
@@ -130,7 +135,7 @@ module _ (s : List ℕ) (at : ℕ) (c found literals : List ℕ) (n e p : ℕ) (
     unfolding effectsBytes
     next-entry facts es q m l left old =
         let d = drop-entry es e l in
-        let ok = subst (EffectsOk version1 facts (left .least)) d (left .ok) in
+        let ok = subst (EffectsOk facts (left .least)) d (left .ok) in
         let v = first (subst (λ (y : List Effect). Span s (length s) p (effectsBytes y) q) d (left .stands)) in
         split (encodeFormula (entryAt es e .condition)) (v .2) λ o a b.
         let (i, lanes) = x .is facts (entryAt es e .condition) o m (record { ok = ok .2; bytes = a }) in (
@@ -161,15 +166,15 @@ module _ (s : List ℕ) (at : ℕ) (c found literals : List ℕ) (n e p : ℕ) (
           few = omega arith;
           small = F .small;
           is =
-              λ facts es q m ok v.
-              let (i, left, old) = F .is facts es q m ok v in
+              λ facts es q m b ok v.
+              let (i, left, old) = F .is facts es q m b ok v in
               let (a, b) = next-entry facts es q m (omega arith) left old in
               (i, a, b);
         }
 
 -- ---- settling
 
-declared-at : (facts least : ℕ) (es : List Effect) (i : ℕ) → EffectsOk version1 facts least es → i < length es → Declared facts (entryAt es i .literal)
+declared-at : (facts least : ℕ) (es : List Effect) (i : ℕ) → EffectsOk facts least es → i < length es → Declared facts (entryAt es i .literal)
 declared-at facts least [] i ok h = absurd (omega arith)
 declared-at facts least (e ∷ es) zero ok h = ok .0
 declared-at facts least (e ∷ es) (suc i) ok h = declared-at facts (literalByte (e .literal) + 1) es i (ok .3) (omega arith)
@@ -179,7 +184,7 @@ pub record Settling (n : ℕ) (literals found c : List ℕ) (e : ℕ) (d : List 
   pub size : length d ≡ 256
   pub few : e ≤ n
   pub is :
-      (facts : ℕ) (es : List Effect) → facts ≤ 64 → EffectsOk version1 facts 0 es → n ≡ length es → Entries c literals found es n →
+      (facts : ℕ) (es : List Effect) → facts ≤ 64 → EffectsOk facts 0 es → n ≡ length es → Entries c literals found es n →
       (case : ℕ → List Kleene) → Sized facts case → Table c case → Table d (λ j. settled (case j) (drop e es))
 
 drop-all : (es : List Effect) (n : ℕ) → length es ≤ n → drop n es ≡ []
@@ -202,55 +207,39 @@ settling-ends n literals found c e d S h =
     let z : e ≡ 0 = omega arith in
     record { size = S .size; is = λ facts es m ok i x case y t. subst (λ (k : ℕ). Table d (λ j. settled (case j) (drop k es))) z (S .is facts es m ok i x case y t) }
 
--- a literal by its byte
-fact-of : (facts : ℕ) (l : Literal) → facts ≤ 64 → Declared facts l → literalByte l < 64 → l ≡ fact (literalByte l)
-fact-of facts (fact f) h d b = refl
-fact-of facts (denial f) h d b = absurd (omega arith)
-
-denial-of : (facts : ℕ) (l : Literal) → facts ≤ 64 → Declared facts l → 64 ≤ literalByte l → l ≡ denial (literalByte l - 64)
-denial-of facts (fact f) h d b = absurd (omega arith)
-denial-of facts (denial f) h d b = ap denial (omega arith)
-
 byte-small : (facts : ℕ) (l : Literal) → facts ≤ 64 → Declared facts l → literalByte l < 128
 byte-small facts (fact f) h d = omega arith
 byte-small facts (denial f) h d = omega arith
 
-module _ (d : List ℕ) (l some sure : ℕ) (d′ : List ℕ) where
-  -- the entry sets its fact
-  pub entry-sets :
-      l < 64 → (some′ sure′ : ℕ) → some′ ≡ bitOr some (getD d (2 * l) 0) → sure′ ≡ bitOr sure (getD d (2 * l + 1) 0) → SetsFact d l some′ sure′ d′ →
-      SettlesEntry d l some sure d′
-  entry-sets small some′ sure′ es eu x =
-      record {
-        size = x .size;
-        is =
-            λ facts lit case t h dec b z table lanes.
-            let f : lit ≡ fact l = fact-of facts lit h dec (omega arith) ∙ ap fact (sym b) in
-            let w : l < facts = subst (Declared facts) f dec in
-            rw f
-            (x .is case _ (λ j. either (t j) (getD (case j) l No)) table
-            (record { lane = λ j m. rw (es, eu) (lane-either j (lanes .lane j m) (table-fact d case l j table small m)) })
-            (λ j g k. getD-set-other (case j) l g _ No k)
-            (λ j m. getD-set-same (case j) l _ No (omega (arith, z j m))));
-      }
+-- the literal with a literal's byte
+literal-of : (facts : ℕ) (m : Literal) → facts ≤ 64 → Declared facts m → literalOf (literalByte m) ≡ m
+literal-of facts (fact f) h d = literal-fact f (omega arith)
+literal-of facts (denial f) h d = literal-denial (f + 64) (omega arith) ∙ ap denial (omega arith)
 
-  -- the entry clears its fact
-  pub entry-clears :
-      64 ≤ l → (some′ sure′ : ℕ) → some′ ≡ bitAnd (getD d (2 * (l - 64)) 0) (bitXor ones sure) → sure′ ≡ bitAnd (getD d (2 * (l - 64) + 1) 0) (bitXor ones some) →
-      l < 128 → SetsFact d (l - 64) some′ sure′ d′ → SettlesEntry d l some sure d′
-  entry-clears big some′ sure′ es eu small x =
-      record {
-        size = x .size;
-        is =
-            λ facts lit case t h dec b z table lanes.
-            let f : lit ≡ denial (l - 64) = denial-of facts lit h dec (omega arith) ∙ ap (λ (u : ℕ). denial (u - 64)) (sym b) in
-            let w : l - 64 < facts = subst (Declared facts) f dec in
-            rw f
-            (x .is case _ (λ j. both (getD (case j) (l - 64) No) (denied (t j))) table
-            (record { lane = λ j m. rw (es, eu) (lane-both j (table-fact d case (l - 64) j table (omega arith) m) (lane-denied j (lanes .lane j m) m)) })
-            (λ j g k. getD-set-other (case j) (l - 64) g _ No k)
-            (λ j m. getD-set-same (case j) (l - 64) _ No (omega (arith, z j m))));
-      }
+-- the entry's literal holds where it did, or where its condition does
+settled-value : (facts : ℕ) (m : Literal) (t : Kleene) (v : List Kleene) → Declared facts m → length v ≡ facts → valueOf three (settledBy m t v) m ≡ either t (valueOf three v m)
+settled-value facts (fact f) t v d z = getD-set-same v f _ No (omega arith)
+settled-value facts (denial f) t v d z = ap denied (getD-set-same v f _ No (omega arith)) ∙ denied-both t (getD v f No)
+
+-- every other fact has the value that it had
+settled-other : (m : Literal) (t : Kleene) (v : List Kleene) (g : ℕ) → (g ≡ literalByte m → ⊥) → (g + 64 ≡ literalByte m → ⊥) → getD (settledBy m t v) g No ≡ getD v g No
+settled-other (fact f) t v g n n′ = getD-set-other v f g _ No n
+settled-other (denial f) t v g n n′ = getD-set-other v f g _ No (λ e. n′ (omega arith))
+
+pub entry-settles :
+    (d : List ℕ) (l some sure : ℕ) (d′ : List ℕ) (some′ sure′ : ℕ) → some′ ≡ bitOr some (getD d (2 * l) 0) → sure′ ≡ bitOr sure (getD d (2 * l + 1) 0) → l < 128 →
+    SetsLiteral d l some′ sure′ d′ → SettlesEntry d l some sure d′
+entry-settles d l some sure d′ some′ sure′ es eu small x =
+    record {
+      size = x .size;
+      is =
+          λ facts m case t h dec b z table lanes.
+          let e : literalOf l ≡ m = ap literalOf b ∙ literal-of facts m h dec in
+          x .is case _ (λ j. either (t j) (valueOf three (case j) m)) table
+          (record { lane = λ j i. rw (es, eu) (lane-either j (lanes .lane j i) (rw e at (table .literal l small .lane j i))) })
+          (λ j g n n′. settled-other m (t j) (case j) g (λ i. n (i ∙ sym b)) (λ i. n′ (i ∙ sym b)))
+          (λ j i. rw e (settled-value facts m (t j) (case j) dec (z j i)));
+    }
 
 -- one more entry, the one before, is settled
 pub settling-next :
@@ -283,8 +272,8 @@ applies s p c found literals n d F S =
     record {
       size = S .size;
       is =
-          λ facts a q h ok v case z t.
-          let (i, x) = F .is facts (a .effects) q h ok v in
+          λ facts a q h b ok v case z t.
+          let (i, x) = F .is facts (a .effects) q h b ok v in
           table-same d (λ j. settled (case j) (a .effects)) (λ j. step three facts a (case j)) (S .is facts (a .effects) h ok i x case z t)
           (λ j g m l. settled-step facts a (case j) h ok (z j m) g);
     }

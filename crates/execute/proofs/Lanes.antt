@@ -6,8 +6,8 @@ use Prim.Native.Nat.{ℕ, zero, suc, _+_, _-_, _%_, _≤_, _<_, min}
 use native.Mathlib.Omega.{arith}
 use native.Mathlib.Numerals.{add-one}
 use native.Mathlib.Nat.{mod-eq-of-lt}
-use lib.ListN.{length, getD, take, drop, length-drop}
-use lib.Seq.{drop-cons, take-all}
+use lib.ListN.{length, getD, drop}
+use lib.Seq.{drop-cons}
 use lib.Bits.{bitAnd, bitXor}
 use Rattle.model.specs.Kleene.{Kleene, No, Unknown, Yes, isYes, three}
 use Rattle.model.specs.Formula.{eval}
@@ -25,10 +25,9 @@ use Rattle.model.specs.Stands.{Span, ActionAt}
 use Rattle.model.proofs.Laws.Reading.{split}
 use Rattle.model.proofs.Laws.Tabulate.{length-tabulate}
 use Rattle.model.proofs.Laws.Planes.{ones, bit-and, bit-ones, bit-zero, bit-flip}
-use Rattle.formula.specs.declared.planes.Planes.{Planes}
-use Rattle.formula.specs.Planes.{FormulaPlanes}
+use Rattle.evaluate.specs.declared.Planes.{Planes}
+use Rattle.evaluate.specs.Planes.{FormulaPlanes}
 use Rattle.blocks.specs.Standing.{TaskStands}
-use Rattle.blocks.proofs.Standing.{action-inside, action-part}
 use Rattle.table.specs.Tables.{Sized}
 use Rattle.execute.specs.Effects.{AppliesEffects}
 use Rattle.execute.specs.declared.cases.Looks.{Looks}
@@ -62,21 +61,21 @@ dead a x e = omega arith
 
 -- ---- one action
 
-module _ (action c : List ℕ) (alive : ℕ) (r : Planes) (x : FormulaPlanes action c 0 r) where
+module _ (problem : List ℕ) (p : ℕ) (c : List ℕ) (alive : ℕ) (r : Planes) (x : FormulaPlanes problem c p r) where
   obeyed :
-      (facts : ℕ) (a : Action) (q : ℕ) → facts ≤ 64 → ActionAt action facts 0 a q → (case : ℕ → List Kleene) → Table c case →
+      (facts : ℕ) (a : Action) (q : ℕ) → facts ≤ 64 → ActionAt problem facts p a q → (case : ℕ → List Kleene) → Table c case →
       ((j : ℕ) → j < 64 → laneBit j (bitAnd alive (r .sure)) ≡ min (laneBit j alive) (flag (applicable three a (case j)))) ×
-      Span action (length action) (r .next) (length (a .effects) ∷ effectsBytes (a .effects)) q
+      Span problem (length problem) (r .next) (length (a .effects) ∷ effectsBytes (a .effects)) q
   unfolding actionBytes applicable
   obeyed facts a q h at case t =
       split (encodeFormula (a .precondition)) (at .bytes) λ m v w.
-      let (e, lanes) = x .is facts (a .precondition) m h (record { ok = at .ok .precondition; bytes = v }) in (
+      let (e, lanes) = x .is facts (a .precondition) m h (record { ok = at .precondition; bytes = v }) in (
         (λ j l. bit-and j alive (r .sure) ∙ ap (min (laneBit j alive)) (lanes case t .lane j l .is-sure ∙ sure-flag (eval three (case j) (a .precondition)))),
-        subst (λ (y : ℕ). Span action (length action) y (length (a .effects) ∷ effectsBytes (a .effects)) q) (sym e) w,
+        subst (λ (y : ℕ). Span problem (length problem) y (length (a .effects) ∷ effectsBytes (a .effects)) q) (sym e) w,
       )
 
   -- no lane goes on
-  pub obeys-none : length c ≡ 256 → bitAnd alive (r .sure) ≡ 0 → ObeysAction action c alive c 0
+  pub obeys-none : length c ≡ 256 → bitAnd alive (r .sure) ≡ 0 → ObeysAction problem p c alive c 0
   obeys-none w e =
       record {
         size = w;
@@ -87,14 +86,14 @@ module _ (action c : List ℕ) (alive : ℕ) (r : Planes) (x : FormulaPlanes act
             );
       }
 
-  pub obeys-some : (d : List ℕ) → AppliesEffects action (r .next) c d → ObeysAction action c alive d (bitAnd alive (r .sure))
+  pub obeys-some : (d : List ℕ) → AppliesEffects problem (r .next) c d → ObeysAction problem p c alive d (bitAnd alive (r .sure))
   obeys-some d A =
       record {
         size = A .size;
         is =
             λ facts a q h at case z t.
             let (bits, v) = obeyed facts a q h at case t in
-            (bits, λ n. A .is facts a q h (at .ok .effects) v case z t);
+            (bits, λ n. A .is facts a q h (at .few) (at .effects) v case z t);
       }
 
 -- ---- the run of a task that stands there
@@ -122,10 +121,6 @@ sized-step : (facts : ℕ) (a : Action) (case : ℕ → List Kleene) → Sized f
 unfolding step
 sized-step facts a case j l = length-tabulate facts _
 
--- what a slice has from p on
-pub part-from : (s : List ℕ) (p : ℕ) → take (length s - p) (drop p s) ≡ drop p s
-part-from s p = take-all (length s - p) (drop p s) (omega (arith, length-drop p s))
-
 -- the action of step i, by the slot that the step names
 acting :
     (problem steps actions : List ℕ) (goal i : ℕ) → i < length steps → (slot : ℕ) → slot ≡ getD steps i 0 % 64 → (initial : ℕ) (T : Task) →
@@ -136,11 +131,7 @@ acting problem steps actions goal i more slot named initial T S =
 
 module _ (problem steps actions : List ℕ) (goal lanes : ℕ) (c : List ℕ) (i alive : ℕ) (d : List ℕ) (R : Running problem steps actions goal lanes c i alive d) (more : i < length steps)
     (slot : ℕ) (named : slot ≡ getD steps i 0 % 64) where
-  -- an action that does not stand in the block
-  pub running-short : length problem < getD actions slot 0 → (r : ℕ) → RunsCases problem steps actions goal lanes c r
-  running-short h r = record { is = λ initial T S case z t j l. let (q, a) = acting problem steps actions goal i more slot named initial T S in absurd (omega (arith, action-inside a)) }
-
-  module _ (part : List ℕ) (own : part ≡ take (length problem - getD actions slot 0) (drop (getD actions slot 0) problem)) (alive′ : ℕ) (d′ : List ℕ) (O : ObeysAction part d alive d′ alive′) where
+  module _ (alive′ : ℕ) (d′ : List ℕ) (O : ObeysAction problem (getD actions slot 0) d alive d′ alive′) where
     turn :
         (initial : ℕ) (T : Task) → TaskStands problem steps actions initial goal T → (case : ℕ → List Kleene) → Sized (T .facts) case → Table c case →
         (now′ : ℕ → List Kleene) × ((alive′ ≡ 0 → ⊥) → Table d′ (λ j. step three (T .facts) (actionAt (T .plan) i) (now′ j))) ×
@@ -151,7 +142,7 @@ module _ (problem steps actions : List ℕ) (goal lanes : ℕ) (c : List ℕ) (i
     turn initial T S case z t =
         let (now′, y, u, e) = R .is initial T S case z t in
         let (q, a) = acting problem steps actions goal i more slot named initial T S in
-        let (bits, after) = O .is (T .facts) (actionAt (T .plan) i) (q - getD actions slot 0) (omega (arith, S .most)) (rw (own, part-from) (action-part a)) now′ y u in
+        let (bits, after) = O .is (T .facts) (actionAt (T .plan) i) q (omega (arith, S .most)) a now′ y u in
         let p = drop-action (T .plan) i (omega (arith, S .counted)) in (
           now′,
           after,
@@ -265,10 +256,7 @@ flag-true false x e h = absurd (h (omega arith))
 
 module _ (problem steps actions : List ℕ) (goal : ℕ) (c : List ℕ) (i : ℕ) (d : List ℕ) (R : Stating problem steps actions goal c i d) (more : i < length steps)
     (slot : ℕ) (named : slot ≡ getD steps i 0 % 64) where
-  pub stating-short : length problem < getD actions slot 0 → (r : Outcome) → RunsState problem steps actions goal c r
-  stating-short h r = record { is = λ initial T S case z t. let (q, a) = acting problem steps actions goal i more slot named initial T S in absurd (omega (arith, action-inside a)) }
-
-  module _ (part : List ℕ) (own : part ≡ take (length problem - getD actions slot 0) (drop (getD actions slot 0) problem)) (alive : ℕ) (d′ : List ℕ) (O : ObeysAction part d ones d′ alive) where
+  module _ (alive : ℕ) (d′ : List ℕ) (O : ObeysAction problem (getD actions slot 0) d ones d′ alive) where
     -- the values before the step, whether it is applicable in them, and the table after it
     stated :
         (initial : ℕ) (T : Task) → TaskStands problem steps actions initial goal T → (case : ℕ → List Kleene) → Sized (T .facts) case → Table c case →
@@ -281,7 +269,7 @@ module _ (problem steps actions : List ℕ) (goal : ℕ) (c : List ℕ) (i : ℕ
     stated initial T S case z t =
         let (now′, y, u, e) = R .is initial T S case z t in
         let (q, a) = acting problem steps actions goal i more slot named initial T S in
-        let (bits, after) = O .is (T .facts) (actionAt (T .plan) i) (q - getD actions slot 0) (omega (arith, S .most)) (rw (own, part-from) (action-part a)) now′ y u in (
+        let (bits, after) = O .is (T .facts) (actionAt (T .plan) i) q (omega (arith, S .most)) a now′ y u in (
           now′,
           sym (low-bit alive) ∙ bits 0 (omega arith) ∙ ap (λ (x : ℕ). min x (flag (applicable three (actionAt (T .plan) i) (now′ 0)))) (bit-ones 0 (omega arith)),
           after,

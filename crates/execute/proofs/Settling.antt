@@ -10,7 +10,6 @@ use lib.ListN.{length, getD, length-set, List·getD-eq-default}
 use lib.Seq.{getD-set-same, getD-set-other}
 use lib.Dec.{eqb}
 use borrow.Author.Tests.{eq-eqb, eqb-true}
-use Rattle.model.specs.Limits.{version1}
 use Rattle.model.specs.Kleene.{Kleene, No, Unknown, Yes, both, either, denied, three}
 use Rattle.model.specs.Formula.{Literal, fact, denial, Formula, any, none, eval}
 use Rattle.model.specs.Action.{Effect, Action, sameLiteral, conditionIn, conditionOf, next, step}
@@ -41,7 +40,7 @@ same-other facts (denial f) (denial g) h d d′ n = eqb-other f g (λ e. n (omeg
 
 -- a literal below the least has no entry
 no-entry :
-    (facts least : ℕ) (es : List Effect) (l : Literal) (φ : Formula) → facts ≤ 64 → EffectsOk version1 facts least es → Declared facts l →
+    (facts least : ℕ) (es : List Effect) (l : Literal) (φ : Formula) → facts ≤ 64 → EffectsOk facts least es → Declared facts l →
     literalByte l < least → conditionIn φ l es ≡ φ
 unfolding conditionIn
 no-entry facts least [] l φ h ok d b = refl
@@ -51,19 +50,19 @@ no-entry facts least (e ∷ es) l φ h ok d b =
 
 -- the condition of the first entry's own literal, and of another
 own-condition :
-    (facts least : ℕ) (e : Effect) (es : List Effect) → facts ≤ 64 → EffectsOk version1 facts least (e ∷ es) →
+    (facts least : ℕ) (e : Effect) (es : List Effect) → facts ≤ 64 → EffectsOk facts least (e ∷ es) →
     conditionOf (e .literal) (e ∷ es) ≡ e .condition
 unfolding conditionIn
 own-condition facts least e es h ok =
     rw (same-self (e .literal)) (no-entry facts (literalByte (e .literal) + 1) es (e .literal) (e .condition) h (ok .3) (ok .0) (omega arith))
 
 other-condition :
-    (facts least : ℕ) (e : Effect) (es : List Effect) (l : Literal) → facts ≤ 64 → EffectsOk version1 facts least (e ∷ es) → Declared facts l →
+    (facts least : ℕ) (e : Effect) (es : List Effect) (l : Literal) → facts ≤ 64 → EffectsOk facts least (e ∷ es) → Declared facts l →
     (literalByte l ≡ literalByte (e .literal) → ⊥) → conditionOf l (e ∷ es) ≡ conditionOf l es
 unfolding conditionIn
 other-condition facts least e es l h ok d n = rw (same-other facts l (e .literal) h d (ok .0) n)
 
-no-condition : (facts least : ℕ) (es : List Effect) (l : Literal) → facts ≤ 64 → EffectsOk version1 facts least es → Declared facts l → literalByte l < least → conditionOf l es ≡ any none
+no-condition : (facts least : ℕ) (es : List Effect) (l : Literal) → facts ≤ 64 → EffectsOk facts least es → Declared facts l → literalByte l < least → conditionOf l es ≡ any none
 no-condition facts least es l h ok d b = no-entry facts least es l (any none) h ok d b
 
 -- ---- equation 2
@@ -108,7 +107,7 @@ module _ (facts : ℕ) (h : facts ≤ 64) (v : List Kleene) (n : length v ≡ fa
   Due es = getD (settled v es) f No ≡ due v es f
 
   -- an entry for another fact
-  due-other : (least : ℕ) (e : Effect) (es : List Effect) → EffectsOk version1 facts least (e ∷ es) → (f ≡ factOf (e .literal) → ⊥) → Due es → Due (e ∷ es)
+  due-other : (least : ℕ) (e : Effect) (es : List Effect) → EffectsOk facts least (e ∷ es) → (f ≡ factOf (e .literal) → ⊥) → Due es → Due (e ∷ es)
   unfolding settled
   due-other least e es ok d i =
       other-fact (e .literal) (eval three v (e .condition)) (settled v es) f d ∙ i ∙
@@ -121,7 +120,7 @@ module _ (facts : ℕ) (h : facts ≤ 64) (v : List Kleene) (n : length v ≡ fa
   within es = omega (arith, length-settled v es)
 
   -- the entry that sets f
-  due-set : (least : ℕ) (φ : Formula) (es : List Effect) → EffectsOk version1 facts least (record { literal = fact f; condition = φ } ∷ es) → Due es → Due (record { literal = fact f; condition = φ } ∷ es)
+  due-set : (least : ℕ) (φ : Formula) (es : List Effect) → EffectsOk facts least (record { literal = fact f; condition = φ } ∷ es) → Due es → Due (record { literal = fact f; condition = φ } ∷ es)
   unfolding settled eval
   due-set least φ es ok i =
       let k : getD (settled v es) f No ≡ both (getD v f No) (denied (eval three v (conditionOf (denial f) es))) = i ∙ rw (no-condition facts (f + 1) es (fact f) h (ok .3) b (omega arith)) in
@@ -132,7 +131,7 @@ module _ (facts : ℕ) (h : facts ≤ 64) (v : List Kleene) (n : length v ≡ fa
       )
 
   -- the entry that clears f
-  due-clear : (least : ℕ) (φ : Formula) (es : List Effect) → EffectsOk version1 facts least (record { literal = denial f; condition = φ } ∷ es) → Due es → Due (record { literal = denial f; condition = φ } ∷ es)
+  due-clear : (least : ℕ) (φ : Formula) (es : List Effect) → EffectsOk facts least (record { literal = denial f; condition = φ } ∷ es) → Due es → Due (record { literal = denial f; condition = φ } ∷ es)
   unfolding settled eval
   due-clear least φ es ok i =
       let k : getD (settled v es) f No ≡ getD v f No =
@@ -146,7 +145,7 @@ module _ (facts : ℕ) (h : facts ≤ 64) (v : List Kleene) (n : length v ≡ fa
       )
 
   -- the value of f after the entries
-  settled-due : (least : ℕ) (es : List Effect) → EffectsOk version1 facts least es → Due es
+  settled-due : (least : ℕ) (es : List Effect) → EffectsOk facts least es → Due es
   unfolding settled conditionIn eval
   settled-due least [] ok = sym (both-yes (getD v f No))
   settled-due least (e ∷ es) ok =
@@ -155,13 +154,13 @@ module _ (facts : ℕ) (h : facts ≤ 64) (v : List Kleene) (n : length v ≡ fa
         | no d ↦ due-other least e es ok d (settled-due (literalByte (e .literal) + 1) es (ok .3))
       ]
     where
-      here : (l : Literal) (φ : Formula) → f ≡ factOf l → EffectsOk version1 facts least (record { literal = l; condition = φ } ∷ es) → Due es → Due (record { literal = l; condition = φ } ∷ es)
-      here (fact g) φ d ok i = subst (λ (x : ℕ). EffectsOk version1 facts least (record { literal = fact x; condition = φ } ∷ es) → Due (record { literal = fact x; condition = φ } ∷ es)) d (λ k. due-set least φ es k i) ok
-      here (denial g) φ d ok i = subst (λ (x : ℕ). EffectsOk version1 facts least (record { literal = denial x; condition = φ } ∷ es) → Due (record { literal = denial x; condition = φ } ∷ es)) d (λ k. due-clear least φ es k i) ok
+      here : (l : Literal) (φ : Formula) → f ≡ factOf l → EffectsOk facts least (record { literal = l; condition = φ } ∷ es) → Due es → Due (record { literal = l; condition = φ } ∷ es)
+      here (fact g) φ d ok i = subst (λ (x : ℕ). EffectsOk facts least (record { literal = fact x; condition = φ } ∷ es) → Due (record { literal = fact x; condition = φ } ∷ es)) d (λ k. due-set least φ es k i) ok
+      here (denial g) φ d ok i = subst (λ (x : ℕ). EffectsOk facts least (record { literal = denial x; condition = φ } ∷ es) → Due (record { literal = denial x; condition = φ } ∷ es)) d (λ k. due-clear least φ es k i) ok
 
 -- the values after the action
 pub settled-step :
-    (facts : ℕ) (a : Action) (v : List Kleene) → facts ≤ 64 → EffectsOk version1 facts 0 (a .effects) → length v ≡ facts → (g : ℕ) →
+    (facts : ℕ) (a : Action) (v : List Kleene) → facts ≤ 64 → EffectsOk facts 0 (a .effects) → length v ≡ facts → (g : ℕ) →
     getD (step three facts a v) g No ≡ getD (settled v (a .effects)) g No
 unfolding step next
 settled-step facts a v h ok n g =

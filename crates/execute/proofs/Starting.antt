@@ -27,7 +27,7 @@ use Rattle.table.specs.Cases.{bitsOf}
 use Rattle.execute.specs.declared.start.StateTable.{StateTable}
 use Rattle.execute.specs.Start.{HoldsState}
 use Rattle.execute.specs.Cases.{RunsState}
-use Rattle.execute.proofs.Lanes.{part-from}
+use Rattle.blocks.proofs.Standing.{part-from}
 
 -- ---- the table
 

@@ -29,10 +29,10 @@ reachedBit missed = 0
 reachedBit (blocked p) = 0
 
 -- the lanes r of `alive` in which the action is applicable; where there are some, d is the table after it
-pub record ObeysAction (action c : List ℕ) (alive : ℕ) (d : List ℕ) (r : ℕ) : Type 0 where
+pub record ObeysAction (problem : List ℕ) (at : ℕ) (c : List ℕ) (alive : ℕ) (d : List ℕ) (r : ℕ) : Type 0 where
   pub size : length d ≡ 256
   pub is :
-      (facts : ℕ) (a : Action) (q : ℕ) → facts ≤ 64 → ActionAt action facts 0 a q → (case : ℕ → List Kleene) → Sized facts case → Table c case →
+      (facts : ℕ) (a : Action) (q : ℕ) → facts ≤ 64 → ActionAt problem facts at a q → (case : ℕ → List Kleene) → Sized facts case → Table c case →
       ((j : ℕ) → j < 64 → laneBit j r ≡ min (laneBit j alive) (flag (applicable three a (case j)))) ×
       ((r ≡ 0 → ⊥) → Table d (λ j. step three facts a (case j)))
 

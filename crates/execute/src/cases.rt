@@ -3,26 +3,27 @@ ghost use mathlib.Core.Path.{_≡_};
 ghost use lib.ListN.{length};
 ghost use Rattle.execute.specs.Cases.{ObeysAction, RunsCases, LooksAtCases};
 use crate::effects::apply_effects;
-use formula::formula_planes;
+use evaluate::formula_planes;
 use table::ONES;
 
-// Obeys an action, which stands at the front of `action`, in the lanes in `alive` in which it is applicable, and answers these.
+// Obeys the action that stands at `at`, in the lanes in `alive` in which it is applicable, and answers these.
 pub fn obey_action(
-    action: &[u8],
+    problem: &[u8],
+    at: usize,
     c: &mut [u64; 256],
-    found: &mut [u64; 512],
-    literals: &mut [u8; 256],
+    found: &mut [u64; 256],
+    literals: &mut [u8; 128],
     alive: u64,
 ) -> u64
-    requires { ⌜ (length (now c) ≡ 256) × (length (now found) ≡ 512) × (length (now literals) ≡ 256) ⌝ }
-    ensures { λ r. ⌜ ObeysAction (now (action .entry)) (now (c .entry)) alive (now (c .exit)) r × (length (now (found .exit)) ≡ 512) × (length (now (literals .exit)) ≡ 256) ⌝ }
+    requires { ⌜ (length (now c) ≡ 256) × (length (now found) ≡ 256) × (length (now literals) ≡ 128) ⌝ }
+    ensures { λ r. ⌜ ObeysAction (now (problem .entry)) at (now (c .entry)) alive (now (c .exit)) r × (length (now (found .exit)) ≡ 256) × (length (now (literals .exit)) ≡ 128) ⌝ }
 {
-    let r = formula_planes(action, 0, c);
+    let r = formula_planes(problem, at, c);
     let going = alive & r.sure;
     if going == 0 {
         return 0;
     }
-    apply_effects(action, r.next, c, found, literals);
+    apply_effects(problem, r.next, c, found, literals);
     going
 }
 
@@ -38,19 +39,20 @@ fn run_cases(
     requires { ⌜ length (now c) ≡ 256 ⌝ }
     ensures { λ r. ⌜ RunsCases (now (problem .entry)) (now (steps .entry)) (now (actions .entry)) goal lanes (now (c .entry)) r ⌝ }
 {
+    if steps.len() == 0 {
+        let r = formula_planes(problem, goal, c);
+        return lanes & r.sure;
+    }
     let mut current = *c;
-    let mut found = [0u64; 512];
-    let mut literals = [0u8; 256];
+    let mut found = [0u64; 256];
+    let mut literals = [0u8; 128];
     let mut alive = lanes;
     let mut i: usize = 0;
     while i < steps.len() {
         let slot = crate::wide(steps[i] % 64);
-        let from = actions[slot];
-        if problem.len() < from {
-            return 0;
-        }
         alive = obey_action(
-            &problem[from..],
+            problem,
+            actions[slot],
             &mut current,
             &mut found,
             &mut literals,

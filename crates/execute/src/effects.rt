@@ -3,10 +3,13 @@
 ghost use mathlib.Core.Path.{_≡_};
 ghost use Prim.Native.Nat.{_≤_, _<_};
 ghost use lib.ListN.{length};
+ghost use Rattle.model.specs.Limits.{maxEffects};
 ghost use Rattle.execute.specs.Effects.{FindsConditions, SettlesEntry, Settles, AppliesEffects};
-use formula::formula_planes;
-use table::ONES;
-use table::set_fact;
+use evaluate::formula_planes;
+use table::set_literal;
+
+// The entries of an action, in any version: two a fact.
+const MAX_EFFECTS: usize = 128;
 
 // The entries from `at` on, their count first: the literal of entry e goes to literals[e], the words of its condition to found[2 * e] and
 // after it. The answer is their count.
@@ -14,10 +17,10 @@ fn find_conditions(
     s: &[u8],
     at: usize,
     c: &[u64; 256],
-    found: &mut [u64; 512],
-    literals: &mut [u8; 256],
+    found: &mut [u64; 256],
+    literals: &mut [u8; 128],
 ) -> usize
-    requires { ⌜ (length (now found) ≡ 512) × (length (now literals) ≡ 256) ⌝ }
+    requires { ⌜ (length (now found) ≡ 256) × (length (now literals) ≡ 128) ⌝ }
     ensures { λ r. ⌜ FindsConditions (now (s .entry)) at (now (c .entry)) (now (found .exit)) (now (literals .exit)) r ⌝ }
 {
     let mut e: usize = 0;
@@ -25,6 +28,9 @@ fn find_conditions(
         return e;
     }
     let n = crate::wide(s[at]);
+    if MAX_EFFECTS < n {
+        return e;
+    }
     let mut p = at + 1;
     while e < n {
         if s.len() <= p {
@@ -40,26 +46,19 @@ fn find_conditions(
     e
 }
 
-// Equation 2 for one entry, by its literal's byte and its condition's words: it sets its fact, or clears it.
+// Equation 2 for one entry, by its literal's byte and its condition's words: the literal holds where it did, or where its condition does.
 fn settle_entry(c: &mut [u64; 256], l: usize, some: u64, sure: u64)
     requires { ⌜ (length (now c) ≡ 256) × (l < 128) ⌝ }
     ensures { λ _. ⌜ SettlesEntry (now (c .entry)) l some sure (now (c .exit)) ⌝ }
 {
-    if l < 64 {
-        let was_some = c[2 * l];
-        let was_sure = c[2 * l + 1];
-        set_fact(c, l, some | was_some, sure | was_sure);
-    } else {
-        let f = l - 64;
-        let was_some = c[2 * f];
-        let was_sure = c[2 * f + 1];
-        set_fact(c, f, was_some & (ONES ^ sure), was_sure & (ONES ^ some));
-    }
+    let was_some = c[2 * l];
+    let was_sure = c[2 * l + 1];
+    set_literal(c, l, some | was_some, sure | was_sure);
 }
 
 // Equation 2 for the first n entries, from the last to the first: literals rise, so that what clears a fact comes before what sets it.
-fn settle(n: usize, literals: &[u8; 256], found: &[u64; 512], c: &mut [u64; 256])
-    requires { ⌜ (n ≤ 256) × (length (now literals) ≡ 256) × (length (now found) ≡ 512) × (length (now c) ≡ 256) ⌝ }
+fn settle(n: usize, literals: &[u8; 128], found: &[u64; 256], c: &mut [u64; 256])
+    requires { ⌜ (n ≤ maxEffects) × (length (now literals) ≡ 128) × (length (now found) ≡ 256) × (length (now c) ≡ 256) ⌝ }
     ensures { λ _. ⌜ Settles n (now (literals .entry)) (now (found .entry)) (now (c .entry)) (now (c .exit)) ⌝ }
 {
     let mut e = n;
@@ -75,11 +74,11 @@ pub fn apply_effects(
     s: &[u8],
     at: usize,
     c: &mut [u64; 256],
-    found: &mut [u64; 512],
-    literals: &mut [u8; 256],
+    found: &mut [u64; 256],
+    literals: &mut [u8; 128],
 )
-    requires { ⌜ (length (now c) ≡ 256) × (length (now found) ≡ 512) × (length (now literals) ≡ 256) ⌝ }
-    ensures { λ _. ⌜ AppliesEffects (now (s .entry)) at (now (c .entry)) (now (c .exit)) × (length (now (found .exit)) ≡ 512) × (length (now (literals .exit)) ≡ 256) ⌝ }
+    requires { ⌜ (length (now c) ≡ 256) × (length (now found) ≡ 256) × (length (now literals) ≡ 128) ⌝ }
+    ensures { λ _. ⌜ AppliesEffects (now (s .entry)) at (now (c .entry)) (now (c .exit)) × (length (now (found .exit)) ≡ 256) × (length (now (literals .exit)) ≡ 128) ⌝ }
 {
     let n = find_conditions(s, at, c, found, literals);
     settle(n, literals, found, c);

@@ -9,7 +9,7 @@ pub mod start;
 pub use cases::Looks;
 pub use cases::look_at_cases;
 pub use cases::obey_action;
-use formula::wide;
+use numbers::wide;
 pub use operation::run;
 pub use start::StateTable;
 pub use start::run_state;

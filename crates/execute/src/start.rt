@@ -3,7 +3,7 @@ ghost use Prim.Native.Nat.{_≤_};
 ghost use Rattle.execute.specs.Cases.{RunsState};
 ghost use Rattle.execute.specs.Start.{HoldsState};
 use crate::obey_action;
-use formula::formula_planes;
+use evaluate::formula_planes;
 use model::CaseList;
 use model::Outcome;
 use table::ONES;
@@ -47,17 +47,14 @@ pub fn run_state(
     ensures { λ r. ⌜ RunsState (now (problem .entry)) (now (steps .entry)) (now (actions .entry)) goal c r ⌝ }
 {
     let mut current = c;
-    let mut found = [0u64; 512];
-    let mut literals = [0u8; 256];
+    let mut found = [0u64; 256];
+    let mut literals = [0u8; 128];
     let mut i: usize = 0;
     while i < steps.len() {
         let slot = crate::wide(steps[i] % 64);
-        let from = actions[slot];
-        if problem.len() < from {
-            return Outcome::Missed;
-        }
         let alive = obey_action(
-            &problem[from..],
+            problem,
+            actions[slot],
             &mut current,
             &mut found,
             &mut literals,

@@ -7,7 +7,7 @@ use native.Mathlib.Omega.{arith}
 use lib.ListN.{length, getD}
 use lib.Dec.{leb}
 use borrow.Author.Tests.{lt-ltb, le-ltb, le-leb, lt-leb, leb-true}
-use Rattle.model.specs.Limits.{version1}
+use Rattle.model.specs.Limits.{maxFormulaBytes, maxDepth}
 use Rattle.model.specs.Formula.{Formula}
 use Rattle.model.specs.Read.{reject, got, andThen, done, position, require, byte, _>>=_, _>>_}
 use Rattle.model.specs.FormulaBytes.{item, stated, formula}
@@ -18,27 +18,27 @@ use Rattle.formula.proofs.Readers.{then-got, require-got, byte-got, nex
 use Rattle.formula.proofs.Bounds.{item-within}
 
 abbrev pub most : ℕ
-most = version1 .formula
+most = maxFormulaBytes
 
 abbrev pub stated-bytes : List ℕ → ℕ → ℕ
 stated-bytes s p = getD s p 0 * 256 + getD s (p + 1) 0
 
 module _ (s : List ℕ) (p : ℕ) where
-  pub stated-none : length s ≤ p → reject 14 (length s) ≡ stated version1 s p
+  pub stated-none : length s ≤ p → reject 14 (length s) ≡ stated s p
   unfolding stated _>>=_ andThen position byte
   stated-none h = simp (le-ltb p (length s) h)
 
-  pub stated-half : p < length s → length s ≤ p + 1 → reject 14 (length s) ≡ stated version1 s p
+  pub stated-half : p < length s → length s ≤ p + 1 → reject 14 (length s) ≡ stated s p
   unfolding stated _>>=_ andThen position byte
   stated-half h k = simp (lt-ltb p (length s) h, le-ltb (p + 1) (length s) k)
 
   module _ (h : p + 1 < length s) where
-    pub stated-zero : stated-bytes s p ≡ 0 → reject 17 p ≡ stated version1 s p
+    pub stated-zero : stated-bytes s p ≡ 0 → reject 17 p ≡ stated s p
     unfolding stated _>>=_ _>>_ andThen position byte require
     stated-zero k = simp (lt-ltb p (length s) (omega arith), lt-ltb (p + 1) (length s) h, k)
 
     module _ (k : 1 ≤ stated-bytes s p) where
-      pub stated-long : most < stated-bytes s p → reject 17 p ≡ stated version1 s p
+      pub stated-long : most < stated-bytes s p → reject 17 p ≡ stated s p
       unfolding stated _>>=_ _>>_ andThen position byte require
       stated-long l =
           simp (
@@ -49,7 +49,7 @@ module _ (s : List ℕ) (p : ℕ) where
           )
 
       module _ (l : stated-bytes s p ≤ most) where
-        pub stated-short : length s < p + 2 + stated-bytes s p → reject 14 (length s) ≡ stated version1 s p
+        pub stated-short : length s < p + 2 + stated-bytes s p → reject 14 (length s) ≡ stated s p
         unfolding stated _>>=_ _>>_ andThen position byte require
         stated-short m =
             simp (
@@ -60,7 +60,7 @@ module _ (s : List ℕ) (p : ℕ) where
               lt-leb (p + 1 + 1 + stated-bytes s p) (length s) (omega arith),
             )
 
-        pub stated-whole : (end : ℕ) → end ≡ p + 2 + stated-bytes s p → end ≤ length s → got end (p + 2) ≡ stated version1 s p
+        pub stated-whole : (end : ℕ) → end ≡ p + 2 + stated-bytes s p → end ≤ length s → got end (p + 2) ≡ stated s p
         unfolding stated _>>=_ _>>_ andThen position byte require done
         stated-whole end e m =
             let t : p + 2 ≡ p + 1 + 1 = omega arith in
@@ -87,7 +87,7 @@ module _ (s : List ℕ) (p end q : ℕ) where
     pub is : end ≡ p + 2 + stated-bytes s p
     pub next : q ≡ p + 2
 
-  pub stated-got : stated version1 s p ≡ got end q → IsLength
+  pub stated-got : stated s p ≡ got end q → IsLength
   unfolding stated _>>=_ _>>_ andThen position done
   stated-got e =
       let a = then-got (byte s (length s) 14 p) _ end q e in
@@ -118,39 +118,39 @@ in-stated s p r h end e = rw e at (h .within)
 
 -- the whole formula
 module _ (s : List ℕ) (facts p : ℕ) where
-  formula-by : formula version1 s facts p ≡ andThen (stated version1 s p) (λ end. afterOf s end facts)
+  formula-by : formula s facts p ≡ andThen (stated s p) (λ end. afterOf s end facts)
   unfolding formula afterOf _>>=_
   formula-by = refl
 
   module _ (r : Reading) (h : Stated s p r) where
-    pub formula-refused : (n q : ℕ) → r ≡ Refused n q → Refused n q ≡ nextOf (formula version1 s facts p)
+    pub formula-refused : (n q : ℕ) → r ≡ Refused n q → Refused n q ≡ nextOf (formula s facts p)
     unfolding andThen nextOf
     formula-refused n q e = let d = rw e at (h .is) in rw (formula-by, ← d)
 
-    pub formula-after : (end : ℕ) → r ≡ Next end → nextOf (afterOf s end facts (p + 2)) ≡ nextOf (formula version1 s facts p)
+    pub formula-after : (end : ℕ) → r ≡ Next end → nextOf (afterOf s end facts (p + 2)) ≡ nextOf (formula s facts p)
     unfolding andThen
     formula-after end e = let d = rw e at (h .is) in rw (formula-by, ← d)
 
 module _ (s : List ℕ) (end facts p : ℕ) where
   after-by :
       afterOf s end facts p ≡
-      andThen (item s end facts (version1 .depth) 0 p) (λ f q. andThen (require (leb end q) 21 q q) (λ u r. got f r))
+      andThen (item s end facts maxDepth 0 p) (λ f q. andThen (require (leb end q) 21 q q) (λ u r. got f r))
   unfolding afterOf _>>=_ _>>_ andThen position done
   after-by = refl
 
   pub after-refused :
-      (n q : ℕ) → Refused n q ≡ nextOf (item s end facts (version1 .depth) 0 p) → Refused n q ≡ nextOf (afterOf s end facts p)
+      (n q : ℕ) → Refused n q ≡ nextOf (item s end facts maxDepth 0 p) → Refused n q ≡ nextOf (afterOf s end facts p)
   unfolding andThen nextOf
-  after-refused n q h = rw (after-by, next-refused (item s end facts (version1 .depth) 0 p) n q (sym h))
+  after-refused n q h = rw (after-by, next-refused (item s end facts maxDepth 0 p) n q (sym h))
 
-  module _ (q : ℕ) (h : Next q ≡ nextOf (item s end facts (version1 .depth) 0 p)) where
+  module _ (q : ℕ) (h : Next q ≡ nextOf (item s end facts maxDepth 0 p)) where
     pub after-early : q < end → Refused 21 q ≡ nextOf (afterOf s end facts p)
     unfolding andThen nextOf require
-    after-early k = let g = next-got (item s end facts (version1 .depth) 0 p) q (sym h) in rw (after-by, g .is) (simp (lt-leb end q k))
+    after-early k = let g = next-got (item s end facts maxDepth 0 p) q (sym h) in rw (after-by, g .is) (simp (lt-leb end q k))
 
     pub after-whole : end ≤ q → Next q ≡ nextOf (afterOf s end facts p)
     unfolding andThen nextOf require
-    after-whole k = let g = next-got (item s end facts (version1 .depth) 0 p) q (sym h) in rw (after-by, g .is) (simp (le-leb end q k))
+    after-whole k = let g = next-got (item s end facts maxDepth 0 p) q (sym h) in rw (after-by, g .is) (simp (le-leb end q k))
 
 -- back: what is known where a formula was read
 module _ (s : List ℕ) (facts p : ℕ) (f : Formula) (q : ℕ) where
@@ -158,16 +158,16 @@ module _ (s : List ℕ) (facts p : ℕ) (f : Formula) (q : ℕ) where
     pub some : 1 ≤ stated-bytes s p
     pub inside : q ≤ length s
     pub is : q ≡ p + 2 + stated-bytes s p
-    pub read : item s q facts (version1 .depth) 0 (p + 2) ≡ got f q
+    pub read : item s q facts maxDepth 0 (p + 2) ≡ got f q
 
-  pub formula-got : formula version1 s facts p ≡ got f q → IsFormula
+  pub formula-got : formula s facts p ≡ got f q → IsFormula
   formula-got e =
-      let a = then-got (stated version1 s p) _ f q (sym (formula-by s facts p) ∙ e) in
+      let a = then-got (stated s p) _ f q (sym (formula-by s facts p) ∙ e) in
       go (a .value) (a .at) (stated-got s p (a .value) (a .at) (a .first)) (a .rest)
     where
       go : (end r : ℕ) → IsLength s p end r → afterOf s end facts r ≡ got f q → IsFormula
       go end r l g =
-          let b = then-got (item s end facts (version1 .depth) 0 r) _ f q (sym (after-by s end facts r) ∙ g) in
+          let b = then-got (item s end facts maxDepth 0 r) _ f q (sym (after-by s end facts r) ∙ g) in
           let c = then-got (require (leb end (b .at)) 21 (b .at) (b .at)) _ f q (b .rest) in
           let c′ = require-got _ _ _ _ _ _ (c .first) in
           let d : got (b .value) (c .at) ≡ got f q = c .rest in

@@ -4,4 +4,3 @@ pub mod Heads
 pub mod Items
 pub mod Bounds
 pub mod Lengths
-pub mod Evaluating

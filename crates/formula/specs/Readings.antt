@@ -4,7 +4,7 @@ use mathlib.Core.List.{List}
 use Prim.Native.Nat.{ℕ, _+_, _<_, _≤_}
 use lib.ListN.{length}
 use lib.Dec.{leb}
-use Rattle.model.specs.Limits.{version1}
+use Rattle.model.specs.Limits.{maxDepth}
 use Rattle.model.specs.Formula.{Formula}
 use Rattle.model.specs.Read.{Read, reject, got, Reader, done, position, require, _>>=_, _>>_}
 use Rattle.model.specs.FormulaBytes.{item, stated}
@@ -19,7 +19,7 @@ nextOf (got a q) = Next q
 -- what follows a length field whose stated bytes end at `end`, as `formula` has it
 unfoldable pub afterOf : List ℕ → ℕ → ℕ → Reader Formula
 afterOf s end facts = do
-  f ← item s end facts (version1 .depth) 0
+  f ← item s end facts maxDepth 0
   stop ← position
   require (leb end stop) 21 stop
   done f
@@ -34,5 +34,5 @@ Within s p (Refused n q) = Unit {0}
 Within s p (Next end) = (p + 2 < end) × (end ≤ length s)
 
 pub record Stated (s : List ℕ) (p : ℕ) (r : Reading) : Type 0 where
-  pub is : statedOf p r ≡ stated version1 s p
+  pub is : statedOf p r ≡ stated s p
   pub within : Within s p r

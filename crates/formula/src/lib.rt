@@ -1,13 +1,8 @@
-// Formulas in bytes: reading one, which refuses what is no formula, and evaluating one that was read.
-ghost use mathlib.Core.Path.{_≡_};
-ghost use Prim.Native.Nat.{_<_};
+// Formulas in bytes: reading one, which refuses what is none.
 
-pub mod planes;
 pub mod read;
 
-pub use planes::ONES;
-pub use planes::Planes;
-pub use planes::formula_planes;
+use numbers::wide;
 pub use read::Reading;
 pub use read::is_literal;
 pub use read::read_formula;
@@ -16,10 +11,3 @@ pub use read::read_formula;
 const ALL: u8 = 0x80;
 
 const ANY: u8 = 0x81;
-
-// A byte as a number that may index or count.
-pub fn wide(b: u8) -> usize
-    ensures { λ r. ⌜ (r ≡ b) × (r < 256) ⌝ }
-{
-    b as usize
-}

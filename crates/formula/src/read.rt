@@ -2,7 +2,7 @@
 ghost use mathlib.Core.Path.{_≡_};
 ghost use Prim.Native.Nat.{_≤_};
 ghost use lib.ListN.{length};
-ghost use Rattle.model.specs.Limits.{version1};
+ghost use Rattle.model.specs.Limits.{maxDepth};
 ghost use Rattle.model.specs.FormulaBytes.{isLiteral, members, item, formula};
 ghost use Rattle.formula.specs.Heads.{Headed};
 ghost use Rattle.formula.specs.Readings.{nextOf, Stated, afterOf};
@@ -143,7 +143,7 @@ fn read_any(s: &[u8], at: usize, end: usize, left: u8, n: u8, facts: u8) -> Read
 // Reads the formula at `at`, its length field passed.
 fn read_outermost(s: &[u8], at: usize, end: usize, facts: u8) -> Reading
     requires { ⌜ end ≤ length (now s) ⌝ }
-    ensures { λ r. ⌜ r ≡ nextOf (item (now (s .entry)) end facts (version1 .depth) 0 at) ⌝ }
+    ensures { λ r. ⌜ r ≡ nextOf (item (now (s .entry)) end facts maxDepth 0 at) ⌝ }
 {
     let depth = model::Problem::MAX_DEPTH;
     match head_at(s, at, end, depth, 0, facts) {
@@ -198,7 +198,7 @@ fn stated_end(s: &[u8], at: usize) -> Reading
 
 // Reads the formula whose length field stands at `at`, over the facts below `facts`.
 pub fn read_formula(s: &[u8], at: usize, facts: u8) -> Reading
-    ensures { λ r. ⌜ r ≡ nextOf (formula version1 (now (s .entry)) facts at) ⌝ }
+    ensures { λ r. ⌜ r ≡ nextOf (formula (now (s .entry)) facts at) ⌝ }
 {
     match stated_end(s, at) {
         Reading::Refused(number, place) => Reading::Refused(number, place),

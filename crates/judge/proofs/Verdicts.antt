@@ -29,7 +29,7 @@ use Rattle.blocks.specs.Parts.{FindsTask}
 use Rattle.blocks.specs.Standing.{StandsFound}
 use Rattle.table.specs.Tables.{NoneFixed}
 use Rattle.table.specs.Blocks.{blockCase, FixesLevels}
-use Rattle.execute.proofs.Lanes.{part-from}
+use Rattle.blocks.proofs.Standing.{part-from}
 use Rattle.execute.specs.Cases.{RunsState}
 use Rattle.execute.specs.Start.{HoldsState}
 use Rattle.execute.specs.declared.start.StateTable.{StateTable}

@@ -3,7 +3,7 @@
 pub mod operation;
 pub mod walk;
 
-use formula::wide;
+use numbers::wide;
 pub use operation::judge;
 pub use operation::walk_task;
 pub use walk::Ending;

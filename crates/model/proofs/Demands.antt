@@ -25,12 +25,12 @@ module _ (F : Limits) (S : Sensible F) where
   unfolding problemOf answerOf
   problem-accepted p k = ap answerOf (problem-ok F S (encodeProblem F p) p k refl)
 
-  plan-accepted : (m : ℕ) (steps : List ℕ) → PlanOk F m steps → planOf F (encodePlan steps) m ≡ answered steps
+  plan-accepted : (m : ℕ) (steps : List ℕ) → PlanOk m steps → planOf (encodePlan steps) m ≡ answered steps
   unfolding planOf answerOf
-  plan-accepted m steps k = ap answerOf (plan-ok F S (encodePlan steps) m steps k refl)
+  plan-accepted m steps k = ap answerOf (plan-ok (encodePlan steps) m steps k refl)
 
   task-accepted :
-      (p : Problem) (steps : List ℕ) → ProblemOk F p → PlanOk F (length (p .actions)) steps →
+      (p : Problem) (steps : List ℕ) → ProblemOk F p → PlanOk (length (p .actions)) steps →
       readTask F (encodeProblem F p) (encodePlan steps) ≡ answered (taskOf F p steps)
   unfolding readTask Answer._>>=_
   task-accepted p steps k l = rw (problem-accepted p k, Answer._>>=_, plan-accepted (length (p .actions)) steps l)
@@ -40,7 +40,7 @@ module _ (F : Limits) (S : Sensible F) where
   reading =
       record {
         problem-sound = λ s b p e. let (q, h) = answer-got (problem F s 0) e in problem-got F S s p q b h;
-        plan-sound = λ s b m steps e. let (q, h) = answer-got (plan F s m 0) e in plan-got F S s m steps q b h;
+        plan-sound = λ s b m steps e. let (q, h) = answer-got (plan s m 0) e in plan-got s m steps q b h;
         list-sound = list-sound F S;
         problem-accepted = problem-accepted;
         plan-accepted = plan-accepted;

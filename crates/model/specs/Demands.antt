@@ -27,16 +27,16 @@ pub record Demand1 (F : Limits) : Type 0 where
   pub problem-sound :
       (s : List ℕ) → Bytes s → (p : Problem) → problemOf F s ≡ answered p → ProblemOk F p × (s ≡ encodeProblem F p)
   pub plan-sound :
-      (s : List ℕ) → Bytes s → (m : ℕ) → (steps : List ℕ) → planOf F s m ≡ answered steps →
-      PlanOk F m steps × (s ≡ encodePlan steps)
+      (s : List ℕ) → Bytes s → (m : ℕ) → (steps : List ℕ) → planOf s m ≡ answered steps →
+      PlanOk m steps × (s ≡ encodePlan steps)
   pub list-sound :
       (s : List ℕ) → Bytes s → (ls : List Line) → listOf F s ≡ answered ls → ListOk F ls × (s ≡ encodeList F ls)
   -- nothing sound is turned down
   pub problem-accepted : (p : Problem) → ProblemOk F p → problemOf F (encodeProblem F p) ≡ answered p
-  pub plan-accepted : (m : ℕ) (steps : List ℕ) → PlanOk F m steps → planOf F (encodePlan steps) m ≡ answered steps
+  pub plan-accepted : (m : ℕ) (steps : List ℕ) → PlanOk m steps → planOf (encodePlan steps) m ≡ answered steps
   pub list-accepted : (ls : List Line) → ListOk F ls → listOf F (encodeList F ls) ≡ answered ls
   pub task-accepted :
-      (p : Problem) (steps : List ℕ) → ProblemOk F p → PlanOk F (length (p .actions)) steps →
+      (p : Problem) (steps : List ℕ) → ProblemOk F p → PlanOk (length (p .actions)) steps →
       readTask F (encodeProblem F p) (encodePlan steps) ≡ answered (taskOf F p steps)
   -- "a refused call changes no byte"
   pub refused-unchanged :

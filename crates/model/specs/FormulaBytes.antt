@@ -4,7 +4,7 @@ use mathlib.Core.List.{List, [], _∷_, _++_}
 use Prim.Native.Nat.{ℕ, zero, suc, _+_, _-_, _*_}
 use lib.ListN.{length}
 use lib.Dec.{eqb, ltb, leb}
-use Rattle.model.specs.declared.Limits.{Limits}
+use Rattle.model.specs.Limits.{maxFormulaBytes, maxDepth}
 use Rattle.model.specs.Formula.{Literal, fact, denial, Formula, Formulas, lit, all, any, none, more}
 use Rattle.model.specs.Read.{Read, reject, Reader, _>>=_, _>>_, done, position, require, byte, bytesOf}
 
@@ -77,7 +77,7 @@ module _ (s : List ℕ) (end facts : ℕ) where
   item zero parent = head 0 parent >>= whole (λ m p. reject 19 p)
   item (suc left) parent = head (suc left) parent >>= whole (item left)
 
-module _ (F : Limits) (s : List ℕ) where
+module _ (s : List ℕ) where
   -- "two-byte length, 1 to 1,024, then that many bytes"; "length readable (14), 17, stated bytes present (14)"; "17 formula length 0 or
   -- over 1,024 (its first byte)": gives where the stated bytes end
   unfoldable pub stated : Reader ℕ
@@ -85,7 +85,7 @@ module _ (F : Limits) (s : List ℕ) where
     start ← position
     high ← byte s (length s) 14
     low ← byte s (length s) 14
-    require (leb 1 (high * 256 + low) && leb (high * 256 + low) (F .formula)) 17 start
+    require (leb 1 (high * 256 + low) && leb (high * 256 + low) maxFormulaBytes) 17 start
     begin ← position
     require (leb (begin + (high * 256 + low)) (length s)) 14 (length s)
     done (begin + (high * 256 + low))
@@ -95,7 +95,7 @@ module _ (F : Limits) (s : List ℕ) where
   unfoldable pub formula : ℕ → Reader Formula
   formula facts = do
     end ← stated
-    f ← item s end facts (F .depth) 0
+    f ← item s end facts maxDepth 0
     stop ← position
     require (leb end stop) 21 stop
     done f

@@ -44,7 +44,7 @@ module _ (F : Limits) where
   unfoldable pub readPlan : List ℕ → List ℕ → Answer ℕ
   readPlan problem plan = do
     p ← problemOf F problem
-    steps ← planOf F plan (length (p .actions))
+    steps ← planOf plan (length (p .actions))
     answered (length steps)
 
   -- "Problem, plan": both read, and the plan's actions looked up
@@ -55,7 +55,7 @@ module _ (F : Limits) where
   unfoldable pub readTask : List ℕ → List ℕ → Answer Task
   readTask problem plan = do
     p ← problemOf F problem
-    steps ← planOf F plan (length (p .actions))
+    steps ← planOf plan (length (p .actions))
     answered (taskOf p steps)
 
   -- "Run one state. Problem, plan; 40 .. The state need not be a start state. Answer: reached, missed, or blocked with its step."

@@ -5,6 +5,7 @@ use Prim.Native.Nat.{ℕ, zero, suc, _+_, _-_}
 use lib.ListN.{length, getD}
 use lib.Dec.{ltb, leb}
 use Rattle.model.specs.declared.Limits.{Limits}
+use Rattle.model.specs.Limits.{maxActions, maxSteps, maxProblemBytes}
 use Rattle.model.specs.Answer.{Answer}
 use Rattle.model.specs.Formula.{Formula, all, none}
 use Rattle.model.specs.Action.{Effect, Action}
@@ -18,37 +19,38 @@ pub record Problem : Type 0 where
   pub goal : Formula
   pub actions : List Action
 
+module _ (s : List ℕ) (facts : ℕ) where
+  -- "for each effect a literal byte and a condition"; "23 effect literal not of a declared fact; 24 effect literal not above the one
+  -- before"; "at an effect literal 23, then 24": the literal's byte is `least` or more
+  unfoldable pub effect : ℕ → Reader Effect
+  effect least = do
+    p ← position
+    b ← byte s (length s) 14
+    require (isLiteral facts b) 23 p
+    require (leb least b) 24 p
+    condition ← formula s facts
+    done (record { literal = literalOf b; condition = condition })
+
+  -- "Literals rise strictly."
+  unfoldable pub effects : ℕ → ℕ → Reader (List Effect)
+  effects zero least = done []
+  effects (suc n) least = do
+    e ← effect least
+    es ← effects n (literalByte (e .literal) + 1)
+    done (e ∷ es)
+
 module _ (F : Limits) (s : List ℕ) where
   module _ (facts : ℕ) where
-    -- "for each effect a literal byte and a condition"; "23 effect literal not of a declared fact; 24 effect literal not above the one
-    -- before"; "at an effect literal 23, then 24": the literal's byte is `least` or more
-    unfoldable pub effect : ℕ → Reader Effect
-    effect least = do
-      p ← position
-      b ← byte s (length s) 14
-      require (isLiteral facts b) 23 p
-      require (leb least b) 24 p
-      condition ← formula F s facts
-      done (record { literal = literalOf b; condition = condition })
-
-    -- "Literals rise strictly."
-    unfoldable pub effects : ℕ → ℕ → Reader (List Effect)
-    effects zero least = done []
-    effects (suc n) least = do
-      e ← effect least
-      es ← effects n (literalByte (e .literal) + 1)
-      done (e ∷ es)
-
     -- "an effect count (1 byte, 0 to 96), and for each effect a literal byte and a condition"; "22 effect count over 96"
     unfoldable pub effectList : Reader (List Effect)
     effectList = do
       n ← count s 22 0 (F .effects)
-      effects n 0
+      effects s facts n 0
 
     -- "An action is its precondition, an effect count .."
     unfoldable pub action : Reader Action
     action = do
-      precondition ← formula F s facts
+      precondition ← formula s facts
       es ← effectList
       done (record { precondition = precondition; effects = es })
 
@@ -70,25 +72,26 @@ module _ (F : Limits) (s : List ℕ) where
   -- "initial formula, goal formula, the actions"
   unfoldable pub parts : ℕ → ℕ → Reader Problem
   parts facts m = do
-    initial ← formula F s facts
-    goal ← formula F s facts
+    initial ← formula s facts
+    goal ← formula s facts
     ending facts m initial goal
 
   -- "fact count (1 byte, 1 to 48), action count (1 byte, 0 to 64)"; "15 fact count (its place); 16 action count"
   unfoldable pub body : Reader Problem
   body = do
     facts ← count s 15 1 (F .facts)
-    m ← count s 16 0 (F .actions)
+    m ← count s 16 0 maxActions
     parts facts m
 
   unfoldable pub problem : Reader Problem
   problem = do
-    header s 10 (F .problem) (F .version)
+    header s 10 maxProblemBytes (F .version)
     body
 
   unfoldable pub problemOf : Answer Problem
   problemOf = answerOf (problem 0)
 
+module _ (s : List ℕ) where
   -- "34 step naming no action (its byte)": so many steps, which the block's length counts
   unfoldable pub steps : ℕ → ℕ → Reader (List ℕ)
   steps m zero = done []
@@ -103,7 +106,7 @@ module _ (F : Limits) (s : List ℕ) where
   -- A plan's version is 1.
   unfoldable pub plan : ℕ → Reader (List ℕ)
   plan m = do
-    header s 30 (headBytes + F .steps) 1
+    header s 30 (headBytes + maxSteps) 1
     steps m (length s - headBytes)
 
   unfoldable pub planOf : ℕ → Answer (List ℕ)

@@ -1,14 +1,14 @@
 -- Where the parts of a block stand: each is known by the bytes that encode it, and by no reader.
 use mathlib.Core.Path.{_≡_}
 use mathlib.Core.List.{List, [], _∷_}
-use Prim.Native.Nat.{ℕ, _+_, _<_}
+use Prim.Native.Nat.{ℕ, _+_, _≤_, _<_}
 use lib.ListN.{length, getD}
-use Rattle.model.specs.Limits.{version1}
+use Rattle.model.specs.Limits.{maxEffects}
 use Rattle.model.specs.Formula.{Formula, Formulas, lit, all, any, none, more}
 use Rattle.model.specs.Action.{Action}
 use Rattle.model.specs.FormulaBytes.{Group, conjunction, disjunction, encodeFormula}
 use Rattle.model.specs.ProblemBytes.{actionBytes}
-use Rattle.model.specs.WellFormed.{Declared, FormulaOk, ActionOk}
+use Rattle.model.specs.WellFormed.{Declared, FormulaOk, EffectsOk}
 
 -- the bytes xs stand in s from p up to q, before `end`
 pub data Span (s : List ℕ) (end : ℕ) : ℕ → List ℕ → ℕ → Type 0 where
@@ -17,12 +17,14 @@ pub data Span (s : List ℕ) (end : ℕ) : ℕ → List ℕ → ℕ → Type 0 w
 
 -- the sound formula f over so many facts stands from p up to q, its length field first
 pub record FormulaAt (s : List ℕ) (facts p : ℕ) (f : Formula) (q : ℕ) : Type 0 where
-  pub ok : FormulaOk version1 facts f
+  pub ok : FormulaOk facts f
   pub bytes : Span s (length s) p (encodeFormula f) q
 
 -- so does the sound action a
 pub record ActionAt (s : List ℕ) (facts p : ℕ) (a : Action) (q : ℕ) : Type 0 where
-  pub ok : ActionOk version1 facts a
+  pub precondition : FormulaOk facts (a .precondition)
+  pub few : length (a .effects) ≤ maxEffects
+  pub effects : EffectsOk facts 0 (a .effects)
   pub bytes : Span s (length s) p (actionBytes a) q
 
 -- What evaluating needs of a sound formula: its facts are declared, and a group directly holds none of its own kind.

@@ -199,12 +199,7 @@ two-lines =
       version = 1;
       width = 48;
       facts = 48;
-      actions = 64;
       effects = 96;
-      problem = 32768;
-      formula = 1024;
-      depth = 8;
-      steps = 256;
       line = 8;
       lines = 2;
     }

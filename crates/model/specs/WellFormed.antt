@@ -6,6 +6,7 @@ use mathlib.Core.List.{List, [], _∷_}
 use Prim.Native.Nat.{ℕ, _+_, _-_, _*_, _%_, _^_, _≤_, _<_}
 use lib.ListN.{length, getD}
 use Rattle.model.specs.declared.Limits.{Limits}
+use Rattle.model.specs.Limits.{maxFacts, maxEffects, maxActions, maxSteps, maxProblemBytes, maxFormulaBytes, maxDepth}
 use Rattle.model.specs.Formula.{Literal, fact, denial, Formula, Formulas, lit, all, any, none, more}
 use Rattle.model.specs.Action.{Effect, Action}
 use Rattle.model.specs.Walk.{Look, Line}
@@ -39,19 +40,24 @@ unfoldable mutual
   FormedAll facts left parent none = Unit {0}
   FormedAll facts left parent (more m ms) = Formed facts left parent m × FormedAll facts left parent ms
 
+-- "two-byte length, 1 to 1,024"
+pub record FormulaOk (facts : ℕ) (f : Formula) : Type 0 where
+  pub formed : Formed facts maxDepth 0 f
+  pub short : length (formulaBytes f) ≤ maxFormulaBytes
+
+-- "Literals rise strictly.": from the literal byte `least` on
+abbrev pub EffectsOk : ℕ → ℕ → List Effect → Type 0
+EffectsOk facts least [] = Unit {0}
+EffectsOk facts least (e ∷ es) =
+    Declared facts (e .literal) × (least ≤ literalByte (e .literal)) × FormulaOk facts (e .condition) ×
+    EffectsOk facts (literalByte (e .literal) + 1) es
+
+-- "one byte a step, an action number, 0 to 256 steps", for m actions
+pub record PlanOk (m : ℕ) (steps : List ℕ) : Type 0 where
+  pub count : length steps ≤ maxSteps
+  pub actions : Each (λ b. b < m) steps
+
 module _ (F : Limits) where
-  -- "two-byte length, 1 to 1,024"
-  pub record FormulaOk (facts : ℕ) (f : Formula) : Type 0 where
-    pub formed : Formed facts (F .depth) 0 f
-    pub short : length (formulaBytes f) ≤ F .formula
-
-  -- "Literals rise strictly.": from the literal byte `least` on
-  abbrev pub EffectsOk : ℕ → ℕ → List Effect → Type 0
-  EffectsOk facts least [] = Unit {0}
-  EffectsOk facts least (e ∷ es) =
-      Declared facts (e .literal) × (least ≤ literalByte (e .literal)) × FormulaOk facts (e .condition) ×
-      EffectsOk facts (literalByte (e .literal) + 1) es
-
   -- "an effect count (1 byte, 0 to 96)"
   pub record ActionOk (facts : ℕ) (a : Action) : Type 0 where
     pub precondition : FormulaOk facts (a .precondition)
@@ -62,16 +68,11 @@ module _ (F : Limits) where
   pub record ProblemOk (p : Problem) : Type 0 where
     pub some-fact : 1 ≤ p .facts
     pub facts : p .facts ≤ F .facts
-    pub count : length (p .actions) ≤ F .actions
+    pub count : length (p .actions) ≤ maxActions
     pub initial : FormulaOk (p .facts) (p .initial)
     pub goal : FormulaOk (p .facts) (p .goal)
     pub actions : Each (ActionOk (p .facts)) (p .actions)
-    pub short : length (encodeProblem F p) ≤ F .problem
-
-  -- "one byte a step, an action number, 0 to 256 steps", for m actions
-  pub record PlanOk (m : ℕ) (steps : List ℕ) : Type 0 where
-    pub count : length steps ≤ F .steps
-    pub actions : Each (λ b. b < m) steps
+    pub short : length (encodeProblem F p) ≤ maxProblemBytes
 
   -- "lines of 8 bytes: kind, k, six bytes of values"; "8,191 lines"
   pub record LineOk (l : Line) : Type 0 where
@@ -83,17 +84,14 @@ module _ (F : Limits) where
     pub count : length ls ≤ F .lines
     pub lines : Each LineOk ls
 
-  -- what the layouts need of a version's numbers: a literal, a mark and each count fit a byte, and each length its field
+  -- what the layouts need of a version's numbers: a literal, a mark and each count fit a byte, and a list's length its field
   pub record Sensible : Type 0 where
-    pub facts : F .facts ≤ 64
-    pub actions : F .actions < 256
-    pub effects : F .effects < 256
-    pub formula : F .formula < 256 ^ 2
-    pub problem : F .problem < 256 ^ 4
-    pub steps : F .steps < 256 ^ 4
+    pub facts : F .facts ≤ maxFacts
+    pub effects : F .effects ≤ maxEffects
     pub line : 2 < F .line
     pub lines : F .line * F .lines < 256 ^ 4
-    -- a state has a bit for each fact, and fills a line's values
+    -- a state has a bit for each fact, fits a word, and fills a line's values
+    pub word : F .width ≤ 64
     pub width : F .facts ≤ F .width
     pub value : 2 ^ F .width ≡ 256 ^ (F .line - 2)
 

@@ -82,19 +82,13 @@ impl CaseList {
     pub const NUMBERS: u64 = 1u64 << CaseList::WIDTH;
 }
 
-// The numbers of one version of the formats. The definitions take them as a parameter.
+// The numbers that one version of the formats has and another may not. The definitions take them as a parameter.
 pub struct Limits {
     pub version: u8,
     // bits of a state
     pub width: u8,
     pub facts: u8,
-    pub actions: usize,
     pub effects: u8,
-    // bytes of a problem block and of a formula
-    pub problem: usize,
-    pub formula: usize,
-    pub depth: u8,
-    pub steps: usize,
     // bytes of a line
     pub line: usize,
     pub lines: usize,
@@ -113,12 +107,7 @@ impl Limits {
             version: Limits::VERSION,
             width: CaseList::WIDTH,
             facts: Problem::MAX_FACTS,
-            actions: Problem::MAX_ACTIONS,
             effects: Problem::MAX_EFFECTS,
-            problem: Problem::MAX_BYTES,
-            formula: Problem::MAX_FORMULA_BYTES,
-            depth: Problem::MAX_DEPTH,
-            steps: Plan::MAX_STEPS,
             line: CaseList::LINE_BYTES,
             lines: CaseList::MAX_LINES,
         }

@@ -25,7 +25,7 @@ problem-over : (s : List ℕ) → 32768 < length s → problemOf version1 s ≡ 
 unfolding problemOf problem answerOf Read._>>_ andThen
 problem-over s h = rw (header-over s 10 32768 1 0 h)
 
-plan-over : (m : ℕ) (t : List ℕ) → 261 < length t → planOf version1 t m ≡ refused 30 261
+plan-over : (m : ℕ) (t : List ℕ) → 261 < length t → planOf t m ≡ refused 30 261
 unfolding planOf plan answerOf Read._>>_ andThen
 plan-over m t h = rw (header-over t 30 261 1 0 h)
 
@@ -43,7 +43,7 @@ unfolding readTask
 task-cut s t =
     λ i.
     Answer._>>=_ (cut (problemOf version1) 32768 _ problem-over s i)
-    (λ p. Answer._>>=_ (cut (λ (l : List ℕ). planOf version1 l (length (p .actions))) 261 _ (plan-over (length (p .actions))) t i) (λ steps. answered (taskOf version1 p steps)))
+    (λ p. Answer._>>=_ (cut (λ (l : List ℕ). planOf l (length (p .actions))) 261 _ (plan-over (length (p .actions))) t i) (λ steps. answered (taskOf version1 p steps)))
 
 pub text-cut : (s t : List ℕ) → deskText version1 (take 32769 s) (take 262 t) ≡ deskText version1 s t
 unfolding deskText

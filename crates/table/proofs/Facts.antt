@@ -18,7 +18,7 @@ use Rattle.model.specs.Planes.{InLanes, Table}
 use Rattle.model.proofs.Laws.Planes.{ones, all-no, all-unknown, literal-fact, literal-denial, table-same}
 use Rattle.model.proofs.Laws.Tabulate.{getD-tabulate, getD-tabulate-past}
 use Rattle.model.proofs.Laws.Held.{zeros}
-use Rattle.table.specs.Tables.{Outside, SetsFact, SetsFacts, NoneFixed}
+use Rattle.table.specs.Tables.{SetsLiteral, Outside, SetsFact, SetsFacts, NoneFixed}
 
 -- ---- the table in which every value is unknown
 
@@ -62,6 +62,14 @@ module _ (c : List ℕ) (i : ℕ) (h : Opened c i) where
       }
 
 -- ---- facts that get new values, one after the other
+
+-- a fact is the literal with its own byte
+pub sets-fact : (c : List ℕ) (f some sure : ℕ) (d : List ℕ) → f < 64 → SetsLiteral c f some sure d → SetsFact c f some sure d
+sets-fact c f some sure d h x =
+    record {
+      size = x .size;
+      is = λ case case′ t old new same at. x .is case case′ t old new (λ j g n n′. same j g n) (λ j l. rw (literal-fact f h) (at j l));
+    }
 
 -- the cases with the values v, of a fact in a lane
 abbrev pub valued : (ℕ → ℕ → Kleene) → ℕ → List Kleene

@@ -2,7 +2,7 @@
 ghost use mathlib.Core.Path.{_≡_};
 ghost use Prim.Native.Nat.{_<_, _≤_};
 ghost use lib.ListN.{length};
-ghost use Rattle.table.specs.Tables.{SetsFact, NoneFixed};
+ghost use Rattle.table.specs.Tables.{SetsLiteral, SetsFact, NoneFixed};
 
 // Every lane.
 pub const ONES: u64 = 0xffff_ffff_ffff_ffff;
@@ -20,16 +20,24 @@ pub fn unknown() -> [u64; 256]
     c
 }
 
-// Fact f gets new values, and its denial with it.
+// The literal with the byte l gets new values, and its denial with it.
+pub fn set_literal(c: &mut [u64; 256], l: usize, some: u64, sure: u64)
+    requires { ⌜ (length (now c) ≡ 256) × (l < 128) ⌝ }
+    ensures { λ _. ⌜ SetsLiteral (now (c .entry)) l some sure (now (c .exit)) ⌝ }
+{
+    let denial = (l + 64) % 128;
+    c[2 * l] = some;
+    c[2 * l + 1] = sure;
+    c[2 * denial] = ONES ^ sure;
+    c[2 * denial + 1] = ONES ^ some;
+}
+
+// Fact f gets new values.
 pub fn set_fact(c: &mut [u64; 256], f: usize, some: u64, sure: u64)
     requires { ⌜ (length (now c) ≡ 256) × (f < 64) ⌝ }
     ensures { λ _. ⌜ SetsFact (now (c .entry)) f some sure (now (c .exit)) ⌝ }
 {
-    let i = 2 * f;
-    c[i] = some;
-    c[i + 1] = sure;
-    c[i + 128] = ONES ^ sure;
-    c[i + 129] = ONES ^ some;
+    set_literal(c, f, some, sure);
 }
 
 // None of so many facts is fixed in any lane; the facts past them are no.

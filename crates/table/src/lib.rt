@@ -15,4 +15,5 @@ pub use case::set_case;
 pub use fact::ONES;
 pub use fact::none_fixed;
 pub use fact::set_fact;
+pub use fact::set_literal;
 pub use fact::unknown;

@@ -8,7 +8,7 @@ use native.Mathlib.Omega.{arith}
 use lib.ListN.{length}
 use lib.Dec.{eqb, ltb, leb}
 use borrow.Author.Tests.{ltb-true, ltb-false, leb-true, eqb-true, eqb-false, not-true, lt-ltb, le-ltb, le-leb, ne-eqb}
-use Rattle.model.specs.declared.Limits.{Limits}
+use Rattle.model.specs.Limits.{maxFormulaBytes, maxDepth}
 use Rattle.model.specs.Formula.{Literal, fact, denial, Formula, Formulas, lit, all, any, none, more}
 use Rattle.model.specs.Read.{got, Reader, andThen, _>>=_, _>>_, done, position, require, bytesOf}
 use Rattle.model.specs.FormulaBytes.{isLiteral, literalOf, literalByte, Group, conjunction, disjunction, mark, grouped, Head, leaf, group, groupHead, headFrom, head, members, whole, item, stated, formula, memberCount, formulaBytes, memberBytes, encodeFormula}
@@ -228,10 +228,10 @@ module _ (s : List ℕ) (end facts : ℕ) (most : facts ≤ 64) where
         split (formulaBytes m) r λ o a b. rw (item-ok m left parent p o d a, members-ok ms left parent o q e b)
 
 -- the length field, and the formula whole
-module _ (F : Limits) (s : List ℕ) where
+module _ (s : List ℕ) where
   pub stated-got :
-      (p e q : ℕ) → Bytes s → stated F s p ≡ got e q →
-      (n : ℕ) × (1 ≤ n) × (n ≤ F .formula) × Span s (length s) p (bytesOf 2 n) q × (e ≡ q + n) × (e ≤ length s)
+      (p e q : ℕ) → Bytes s → stated s p ≡ got e q →
+      (n : ℕ) × (1 ≤ n) × (n ≤ maxFormulaBytes) × Span s (length s) p (bytesOf 2 n) q × (e ≡ q + n) × (e ≤ length s)
   unfolding stated _>>=_ _>>_ andThen position done bytesOf
   stated-got p e q sound h =
       then-got h λ x m e₁ h₁.
@@ -244,37 +244,37 @@ module _ (F : Limits) (s : List ℕ) where
       let d : y < 256 = rw (first b .1) at (sound m) in
       let i : ((x * 256 + y) / 256) % 256 ≡ x = omega arith in
       let j : (x * 256 + y) / 1 % 256 ≡ y = omega arith in
-      let (l, k) = both-true (leb 1 (x * 256 + y)) (leb (x * 256 + y) (F .formula)) t in (
+      let (l, k) = both-true (leb 1 (x * 256 + y)) (leb (x * 256 + y) maxFormulaBytes) t in (
         x * 256 + y,
         leb-true 1 (x * 256 + y) l,
-        leb-true (x * 256 + y) (F .formula) k,
+        leb-true (x * 256 + y) maxFormulaBytes k,
         rw (i, j, ← got-inj h₄ .1) (join a b),
         rw (← got-inj h₄ .1) (sym (got-inj h₄ .0)),
         rw (← got-inj h₄ .0) (leb-true (o + (x * 256 + y)) (length s) u),
       )
 
   pub stated-ok :
-      (p q n : ℕ) → 1 ≤ n → n ≤ F .formula → F .formula < 256 ^ 2 → Span s (length s) p (bytesOf 2 n) q → q + n ≤ length s →
-      stated F s p ≡ got (q + n) q
+      (p q n : ℕ) → 1 ≤ n → n ≤ maxFormulaBytes → Span s (length s) p (bytesOf 2 n) q → q + n ≤ length s →
+      stated s p ≡ got (q + n) q
   unfolding stated _>>=_ _>>_ andThen position done bytesOf require
-  stated-ok p q n l u most r b =
+  stated-ok p q n l u r b =
       let (_, _, v) = first r in
       let i : ((n / 256) % 256) * 256 + n / 1 % 256 ≡ n = omega arith in
-      rw (byte-ok 14 r, byte-ok 14 v, i, le-leb 1 n l, le-leb n (F .formula) u, empty (first v .2), le-leb (q + n) (length s) b)
+      rw (byte-ok 14 r, byte-ok 14 v, i, le-leb 1 n l, le-leb n maxFormulaBytes u, empty (first v .2), le-leb (q + n) (length s) b)
 
   pub formula-got :
-      (facts : ℕ) → facts ≤ 64 → (p : ℕ) (f : Formula) (q : ℕ) → Bytes s → formula F s facts p ≡ got f q →
-      FormulaOk F facts f × Span s (length s) p (encodeFormula f) q
+      (facts : ℕ) → facts ≤ 64 → (p : ℕ) (f : Formula) (q : ℕ) → Bytes s → formula s facts p ≡ got f q →
+      FormulaOk facts f × Span s (length s) p (encodeFormula f) q
   unfolding formula _>>=_ _>>_ andThen position done encodeFormula
   formula-got facts most p f q sound h =
       then-got h λ e m e₁ h₁.
       then-got h₁ λ g o e₂ h₂.
       needed _ _ _ _ _ h₂ λ t h₃.
       let (n, l, u, r, i, b) = stated-got p e m sound e₁ in
-      let (d, v) = item-got s e facts most (F .depth) 0 m g o sound e₂ in
+      let (d, v) = item-got s e facts most maxDepth 0 m g o sound e₂ in
       let k : length (formulaBytes g) ≡ n = omega (arith, leb-true e o t, span-length v, span-end v (omega arith)) in
       let z : Span s (length s) p (bytesOf 2 (length (formulaBytes g))) m = rw k r in
-      carried (λ f q. FormulaOk F facts f × Span s (length s) p (encodeFormula f) q) h₃
+      carried (λ f q. FormulaOk facts f × Span s (length s) p (encodeFormula f) q) h₃
       (record { formed = d; short = rw k u }, join z (span-within (length s) v (omega (arith, span-end v (omega arith)))))
 
   formula-some : (f : Formula) → 1 ≤ length (formulaBytes f)
@@ -284,16 +284,16 @@ module _ (F : Limits) (s : List ℕ) where
   formula-some (any ms) = omega arith
 
   pub formula-ok :
-      (facts : ℕ) → facts ≤ 64 → F .formula < 256 ^ 2 → (p : ℕ) (f : Formula) (q : ℕ) → FormulaOk F facts f →
-      Span s (length s) p (encodeFormula f) q → formula F s facts p ≡ got f q
+      (facts : ℕ) → facts ≤ 64 → (p : ℕ) (f : Formula) (q : ℕ) → FormulaOk facts f →
+      Span s (length s) p (encodeFormula f) q → formula s facts p ≡ got f q
   unfolding formula _>>=_ _>>_ andThen position done encodeFormula require bytesOf
-  formula-ok facts most long p f q k r =
+  formula-ok facts most p f q k r =
       let b : q ≤ length s = span-end r (omega (arith, first r .0)) in
       split (bytesOf 2 (length (formulaBytes f))) r λ m v w.
       let e : m + length (formulaBytes f) ≡ q = sym (span-length w) in
       rw (
-        stated-ok p m (length (formulaBytes f)) (formula-some f) (k .short) long v (omega arith),
+        stated-ok p m (length (formulaBytes f)) (formula-some f) (k .short) v (omega arith),
         e,
-        item-ok s q facts most f (F .depth) 0 m q (k .formed) (span-within q w (omega arith)),
+        item-ok s q facts most f maxDepth 0 m q (k .formed) (span-within q w (omega arith)),
         le-leb q q (omega arith),
       )

@@ -42,7 +42,7 @@ module _ (F : Limits) (f≤w : F .facts ≤ F .width) (problem : List ℕ) {p : 
       (plan : List ℕ) (m : ℕ) → readPlan F problem plan ≡ answered m →
       (steps : List ℕ) × (readTask F problem plan ≡ answered (taskOf F p steps))
   unfolding readPlan readTask Answer._>>=_
-  task-read plan m h = answer-then {x = planOf F plan (length (p .actions))} (rw reads at h) λ steps e h₁. (steps, rw (reads, e))
+  task-read plan m h = answer-then {x = planOf plan (length (p .actions))} (rw reads at h) λ steps e h₁. (steps, rw (reads, e))
 
   pub no-start :
       p .initial ≡ any none → 1 ≤ F .lines → (plan : List ℕ) (m : ℕ) → readPlan F problem plan ≡ answered m → (g : ℕ) → 1 ≤ g →

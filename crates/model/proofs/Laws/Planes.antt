@@ -159,6 +159,18 @@ all-yes {j} l = record { is-some = bit-ones j l; is-sure = bit-ones j l }
 pub all-unknown : {j : ℕ} → j < 64 → InLane j ones 0 Unknown
 all-unknown {j} l = record { is-some = bit-ones j l; is-sure = bit-zero j }
 
+-- what denies an "all" of a value and a denied one
+pub denied-both : (t v : Kleene) → denied (both v (denied t)) ≡ either t (denied v)
+denied-both No No = refl
+denied-both No Unknown = refl
+denied-both No Yes = refl
+denied-both Unknown No = refl
+denied-both Unknown Unknown = refl
+denied-both Unknown Yes = refl
+denied-both Yes No = refl
+denied-both Yes Unknown = refl
+denied-both Yes Yes = refl
+
 -- ---- a table in which one fact gets new values, and its denial with it
 
 pub literal-fact : (b : ℕ) → b < 64 → literalOf b ≡ fact b
@@ -169,94 +181,105 @@ pub literal-denial : (b : ℕ) → 64 ≤ b → literalOf b ≡ denial (b - 64)
 unfolding literalOf
 literal-denial b h = rw (le-ltb b 64 h)
 
--- the table with the two words of fact f, and those of its denial
-abbrev pub withFact : List ℕ → ℕ → ℕ → ℕ → List ℕ
-withFact c f some sure = set (set (set (set c (2 * f) some) (2 * f + 1) sure) (2 * f + 128) (bitXor ones sure)) (2 * f + 129) (bitXor ones some)
+-- the table with the two words of the literal l, and those of its denial
+abbrev pub withLiteral : List ℕ → ℕ → ℕ → ℕ → ℕ → List ℕ
+withLiteral c l m some sure = set (set (set (set c (2 * l) some) (2 * l + 1) sure) (2 * m) (bitXor ones sure)) (2 * m + 1) (bitXor ones some)
 
-module _ (c : List ℕ) (f some sure : ℕ) (size : length c ≡ 256) (small : f < 64) where
+-- the denial of the literal l is the literal m
+denied-twice : (x : Kleene) → denied (denied x) ≡ x
+denied-twice No = refl
+denied-twice Unknown = refl
+denied-twice Yes = refl
+
+pub other-literal : (case : List Kleene) (l m : ℕ) → l < 128 → m ≡ (l + 64) % 128 → valueOf three case (literalOf m) ≡ denied (valueOf three case (literalOf l))
+other-literal case l m small other =
+    elim (decLt l 64) [
+      | yes h ↦ let e : m - 64 ≡ l = omega arith in rw (literal-fact l h, literal-denial m (omega arith), e)
+      | no h ↦ let e : m ≡ l - 64 = omega arith in rw (literal-denial l (omega arith), literal-fact m (omega arith), e) (sym (denied-twice _))
+    ]
+
+module _ (c : List ℕ) (l m some sure : ℕ) (size : length c ≡ 256) (small : l < 128) (other : m ≡ (l + 64) % 128) where
   -- the table after one, two and three stores
   abbrev c1 : List ℕ
-  c1 = set c (2 * f) some
+  c1 = set c (2 * l) some
 
   abbrev c2 : List ℕ
-  c2 = set c1 (2 * f + 1) sure
+  c2 = set c1 (2 * l + 1) sure
 
   abbrev c3 : List ℕ
-  c3 = set c2 (2 * f + 128) (bitXor ones sure)
+  c3 = set c2 (2 * m) (bitXor ones sure)
+
+  abbrev c4 : List ℕ
+  c4 = withLiteral c l m some sure
 
   size-1 : length c1 ≡ 256
-  size-1 = length-set c (2 * f) some ∙ size
+  size-1 = length-set c (2 * l) some ∙ size
 
   size-2 : length c2 ≡ 256
-  size-2 = length-set c1 (2 * f + 1) sure ∙ size-1
+  size-2 = length-set c1 (2 * l + 1) sure ∙ size-1
 
   size-3 : length c3 ≡ 256
-  size-3 = length-set c2 (2 * f + 128) (bitXor ones sure) ∙ size-2
+  size-3 = length-set c2 (2 * m) (bitXor ones sure) ∙ size-2
 
-  pub length-withFact : length (withFact c f some sure) ≡ 256
-  length-withFact = length-set c3 (2 * f + 129) (bitXor ones some) ∙ size-3
+  pub length-withLiteral : length c4 ≡ 256
+  length-withLiteral = length-set c3 (2 * m + 1) (bitXor ones some) ∙ size-3
 
   -- a word at none of the last, the last two, and any of the four places
-  past-3 : (i : ℕ) → (i ≡ 2 * f + 129 → ⊥) → getD (withFact c f some sure) i 0 ≡ getD c3 i 0
-  past-3 i h = getD-set-other c3 (2 * f + 129) i (bitXor ones some) 0 h
+  past-3 : (i : ℕ) → (i ≡ 2 * m + 1 → ⊥) → getD c4 i 0 ≡ getD c3 i 0
+  past-3 i h = getD-set-other c3 (2 * m + 1) i (bitXor ones some) 0 h
 
-  past-2 : (i : ℕ) → (i ≡ 2 * f + 129 → ⊥) → (i ≡ 2 * f + 128 → ⊥) → getD (withFact c f some sure) i 0 ≡ getD c2 i 0
-  past-2 i h k = past-3 i h ∙ getD-set-other c2 (2 * f + 128) i (bitXor ones sure) 0 k
+  past-2 : (i : ℕ) → (i ≡ 2 * m + 1 → ⊥) → (i ≡ 2 * m → ⊥) → getD c4 i 0 ≡ getD c2 i 0
+  past-2 i h k = past-3 i h ∙ getD-set-other c2 (2 * m) i (bitXor ones sure) 0 k
 
-  past-1 : (i : ℕ) → (i ≡ 2 * f + 129 → ⊥) → (i ≡ 2 * f + 128 → ⊥) → (i ≡ 2 * f + 1 → ⊥) → getD (withFact c f some sure) i 0 ≡ getD c1 i 0
-  past-1 i h k l = past-2 i h k ∙ getD-set-other c1 (2 * f + 1) i sure 0 l
+  past-1 : (i : ℕ) → (i ≡ 2 * m + 1 → ⊥) → (i ≡ 2 * m → ⊥) → (i ≡ 2 * l + 1 → ⊥) → getD c4 i 0 ≡ getD c1 i 0
+  past-1 i h k n = past-2 i h k ∙ getD-set-other c1 (2 * l + 1) i sure 0 n
 
-  other-word :
-      (i : ℕ) → (i ≡ 2 * f + 129 → ⊥) → (i ≡ 2 * f + 128 → ⊥) → (i ≡ 2 * f + 1 → ⊥) → (i ≡ 2 * f → ⊥) →
-      getD (withFact c f some sure) i 0 ≡ getD c i 0
-  other-word i h k l m = past-1 i h k l ∙ getD-set-other c (2 * f) i some 0 m
+  other-words : (b : ℕ) → (b ≡ l → ⊥) → (b ≡ m → ⊥) → (getD c4 (2 * b) 0 ≡ getD c (2 * b) 0) × (getD c4 (2 * b + 1) 0 ≡ getD c (2 * b + 1) 0)
+  other-words b n n′ = (
+    past-1 (2 * b) (λ e. omega arith) (λ e. n′ (omega arith)) (λ e. omega arith) ∙ getD-set-other c (2 * l) (2 * b) some 0 (λ e. n (omega arith)),
+    past-1 (2 * b + 1) (λ e. n′ (omega arith)) (λ e. omega arith) (λ e. n (omega arith)) ∙ getD-set-other c (2 * l) (2 * b + 1) some 0 (λ e. omega arith),
+  )
 
-  word-0 : getD (withFact c f some sure) (2 * f) 0 ≡ some
-  word-0 = past-1 (2 * f) (λ e. omega arith) (λ e. omega arith) (λ e. omega arith) ∙ getD-set-same c (2 * f) some 0 (omega arith)
+  apart : l ≡ m → ⊥
+  apart e = elim (decLt l 64) [ yes h ↦ omega arith | no h ↦ omega arith ]
 
-  word-1 : getD (withFact c f some sure) (2 * f + 1) 0 ≡ sure
-  word-1 = past-2 (2 * f + 1) (λ e. omega arith) (λ e. omega arith) ∙ getD-set-same c1 (2 * f + 1) sure 0 (omega (arith, size-1))
+  word-0 : getD c4 (2 * l) 0 ≡ some
+  word-0 = past-1 (2 * l) (λ e. omega arith) (λ e. apart (omega arith)) (λ e. omega arith) ∙ getD-set-same c (2 * l) some 0 (omega arith)
 
-  word-2 : getD (withFact c f some sure) (2 * f + 128) 0 ≡ bitXor ones sure
-  word-2 = past-3 (2 * f + 128) (λ e. omega arith) ∙ getD-set-same c2 (2 * f + 128) (bitXor ones sure) 0 (omega (arith, size-2))
+  word-1 : getD c4 (2 * l + 1) 0 ≡ sure
+  word-1 = past-2 (2 * l + 1) (λ e. apart (omega arith)) (λ e. omega arith) ∙ getD-set-same c1 (2 * l + 1) sure 0 (omega (arith, size-1))
 
-  word-3 : getD (withFact c f some sure) (2 * f + 129) 0 ≡ bitXor ones some
-  word-3 = getD-set-same c3 (2 * f + 129) (bitXor ones some) 0 (omega (arith, size-3))
+  word-2 : getD c4 (2 * m) 0 ≡ bitXor ones sure
+  word-2 = past-3 (2 * m) (λ e. omega arith) ∙ getD-set-same c2 (2 * m) (bitXor ones sure) 0 (omega (arith, size-2))
+
+  word-3 : getD c4 (2 * m + 1) 0 ≡ bitXor ones some
+  word-3 = getD-set-same c3 (2 * m + 1) (bitXor ones some) 0 (omega (arith, size-3))
 
   module _ (case case′ : ℕ → List Kleene) (t : ℕ → Kleene) (old : Table c case) (new : InLanes some sure t)
-      (same : (j g : ℕ) → (g ≡ f → ⊥) → getD (case′ j) g No ≡ getD (case j) g No) (at : (j : ℕ) → j < 64 → getD (case′ j) f No ≡ t j) where
-    by-literal : (b : ℕ) → b < 128 → (j : ℕ) → j < 64 → InLane j (getD (withFact c f some sure) (2 * b) 0) (getD (withFact c f some sure) (2 * b + 1) 0) (valueOf three (case′ j) (literalOf b))
-    by-literal b l j m =
-        elim (ℕ-discrete b f) [
-          | yes e ↦ rw (e, word-0, word-1, literal-fact f small, at j m) (new .lane j m)
+      (same : (j g : ℕ) → (g ≡ l → ⊥) → (g + 64 ≡ l → ⊥) → getD (case′ j) g No ≡ getD (case j) g No)
+      (at : (j : ℕ) → j < 64 → valueOf three (case′ j) (literalOf l) ≡ t j) where
+    same-literal : (b : ℕ) → b < 128 → (j : ℕ) → (b ≡ l → ⊥) → (b ≡ m → ⊥) → valueOf three (case′ j) (literalOf b) ≡ valueOf three (case j) (literalOf b)
+    same-literal b k j n n′ =
+        elim (decLt b 64) [
+          | yes h ↦ rw (literal-fact b h) (same j b n (λ e. n′ (omega arith)))
+          | no h ↦ rw (literal-denial b (omega arith)) (ap denied (same j (b - 64) (λ e. n′ (omega arith)) (λ e. n (omega arith))))
+        ]
+
+    by-literal : (b : ℕ) → b < 128 → (j : ℕ) → j < 64 → InLane j (getD c4 (2 * b) 0) (getD c4 (2 * b + 1) 0) (valueOf three (case′ j) (literalOf b))
+    by-literal b k j i =
+        elim (ℕ-discrete b l) [
+          | yes e ↦ rw (e, word-0, word-1, at j i) (new .lane j i)
           | no n ↦
-              elim (ℕ-discrete b (f + 64)) [
-                | yes e ↦
-                    let i : 2 * b ≡ 2 * f + 128 = omega arith in
-                    let k : 2 * b + 1 ≡ 2 * f + 129 = omega arith in
-                    let g : b - 64 ≡ f = omega arith in
-                    let o : 64 ≤ b = omega arith in
-                    let x : getD (withFact c f some sure) (2 * b) 0 ≡ bitXor ones sure = ap (λ (n : ℕ). getD (withFact c f some sure) n 0) i ∙ word-2 in
-                    let y : getD (withFact c f some sure) (2 * b + 1) 0 ≡ bitXor ones some = ap (λ (n : ℕ). getD (withFact c f some sure) n 0) k ∙ word-3 in
-                    rw (x, y, literal-denial b o, g, at j m) (lane-denied j (new .lane j m) m)
+              elim (ℕ-discrete b m) [
+                | yes e ↦ rw (e, word-2, word-3, other-literal (case′ j) l m small other, at j i) (lane-denied j (new .lane j i) i)
                 | no n′ ↦
-                    rw (
-                      other-word (2 * b) (λ e. omega arith) (λ e. n′ (omega arith)) (λ e. omega arith) (λ e. n (omega arith)),
-                      other-word (2 * b + 1) (λ e. n′ (omega arith)) (λ e. omega arith) (λ e. n (omega arith)) (λ e. omega arith),
-                    )
-                    (subst (λ (x : Kleene). InLane j (getD c (2 * b) 0) (getD c (2 * b + 1) 0) x) (sym (same-literal b l j n n′)) (old .literal b l .lane j m))
+                    let (x, y) = other-words b n n′ in
+                    rw (x, y, same-literal b k j n n′) (old .literal b k .lane j i)
               ]
         ]
-      where
-        same-literal : (b : ℕ) → b < 128 → (j : ℕ) → (b ≡ f → ⊥) → (b ≡ f + 64 → ⊥) → valueOf three (case′ j) (literalOf b) ≡ valueOf three (case j) (literalOf b)
-        same-literal b l j n n′ =
-            elim (decLt b 64) [
-              | yes h ↦ rw (literal-fact b h) (same j b n)
-              | no h ↦ rw (literal-denial b (omega arith)) (ap denied (same j (b - 64) (λ e. n′ (omega arith))))
-            ]
 
-    pub table-with : Table (withFact c f some sure) case′
-    table-with = record { literal = λ b l. record { lane = by-literal b l } }
+    pub table-with : Table c4 case′
+    table-with = record { literal = λ b k. record { lane = by-literal b k } }
 
 -- ---- a table's cases are known by the 64 facts
 

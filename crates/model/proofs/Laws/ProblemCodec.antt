@@ -6,6 +6,7 @@ use native.Mathlib.Omega.{arith}
 use lib.ListN.{length, getD}
 use borrow.Author.Tests.{ltb-true, leb-true, lt-ltb, le-leb}
 use Rattle.model.specs.declared.Limits.{Limits}
+use Rattle.model.specs.Limits.{maxActions, maxSteps, maxProblemBytes}
 use Rattle.model.specs.Action.{Effect, Action}
 use Rattle.model.specs.Read.{got, andThen, _>>=_, _>>_, done, position, require, counted}
 use Rattle.model.specs.FormulaBytes.{literalByte, encodeFormula}
@@ -15,10 +16,10 @@ use Rattle.model.specs.Stands.{Span, nothing, next}
 use Rattle.model.proofs.Laws.Reading.{then-got, needed, empty, first, join, split, carried, span-length, span-end, byte-got, byte-ok, length-block, header-got, header-ok, count-got, count-ok}
 use Rattle.model.proofs.Laws.FormulaCodec.{literal-got, literal-ok, formula-got, formula-ok}
 
-module _ (F : Limits) (s : List ℕ) (facts : ℕ) (most : facts ≤ 64) where
+module _ (s : List ℕ) (facts : ℕ) (most : facts ≤ 64) where
   pub effect-got :
-      (least p : ℕ) (e : Effect) (q : ℕ) → Bytes s → effect F s facts least p ≡ got e q →
-      Declared facts (e .literal) × (least ≤ literalByte (e .literal)) × FormulaOk F facts (e .condition) ×
+      (least p : ℕ) (e : Effect) (q : ℕ) → Bytes s → effect s facts least p ≡ got e q →
+      Declared facts (e .literal) × (least ≤ literalByte (e .literal)) × FormulaOk facts (e .condition) ×
       Span s (length s) p (literalByte (e .literal) ∷ encodeFormula (e .condition)) q
   unfolding effect _>>=_ _>>_ andThen position done
   effect-got least p e q sound h =
@@ -27,38 +28,38 @@ module _ (F : Limits) (s : List ℕ) (facts : ℕ) (most : facts ≤ 64) where
       needed _ _ _ _ _ h₃ λ u h₄.
       then-got h₄ λ f o h₅ h₆.
       let (d, i) = literal-got facts most b t in
-      let (k, v) = formula-got F s facts most m f o sound h₅ in
+      let (k, v) = formula-got s facts most m f o sound h₅ in
       let r : Span s (length s) p (b ∷ []) m = byte-got 14 h₁ in
       carried
       (
       λ e q.
-      Declared facts (e .literal) × (least ≤ literalByte (e .literal)) × FormulaOk F facts (e .condition) ×
+      Declared facts (e .literal) × (least ≤ literalByte (e .literal)) × FormulaOk facts (e .condition) ×
       Span s (length s) p (literalByte (e .literal) ∷ encodeFormula (e .condition)) q
       )
       h₆
       (d, rw i (leb-true least b u), k, rw i (join r v))
 
   pub effects-got :
-      (n least p : ℕ) (es : List Effect) (q : ℕ) → Bytes s → effects F s facts n least p ≡ got es q →
-      EffectsOk F facts least es × Span s (length s) p (effectsBytes es) q × (length es ≡ n)
+      (n least p : ℕ) (es : List Effect) (q : ℕ) → Bytes s → effects s facts n least p ≡ got es q →
+      EffectsOk facts least es × Span s (length s) p (effectsBytes es) q × (length es ≡ n)
   unfolding effects _>>=_ andThen done effectsBytes
   effects-got zero least p es q sound h =
-      carried (λ es q. EffectsOk F facts least es × Span s (length s) p (effectsBytes es) q × (length es ≡ 0)) h
+      carried (λ es q. EffectsOk facts least es × Span s (length s) p (effectsBytes es) q × (length es ≡ 0)) h
       (tt, nothing refl, refl)
   effects-got (suc n) least p es q sound h =
       then-got h λ e m h₁ h₂.
       then-got h₂ λ rest o h₃ h₄.
       let (a, b, c, r) = effect-got least p e m sound h₁ in
       let (d, v, i) = effects-got n (literalByte (e .literal) + 1) m rest o sound h₃ in
-      carried (λ es q. EffectsOk F facts least es × Span s (length s) p (effectsBytes es) q × (length es ≡ suc n)) h₄
+      carried (λ es q. EffectsOk facts least es × Span s (length s) p (effectsBytes es) q × (length es ≡ suc n)) h₄
       ((a, b, c, d), join r v, ap suc i)
 
   pub effects-ok :
-      F .formula < 256 ^ 2 → (es : List Effect) (least p q : ℕ) → EffectsOk F facts least es →
-      Span s (length s) p (effectsBytes es) q → effects F s facts (length es) least p ≡ got es q
+      (es : List Effect) (least p q : ℕ) → EffectsOk facts least es →
+      Span s (length s) p (effectsBytes es) q → effects s facts (length es) least p ≡ got es q
   unfolding effects effect _>>=_ _>>_ andThen position done effectsBytes require
-  effects-ok long [] least p q d r = rw (empty r)
-  effects-ok long (e ∷ es) least p q (d, l, f, k) r =
+  effects-ok [] least p q d r = rw (empty r)
+  effects-ok (e ∷ es) least p q (d, l, f, k) r =
       let (i, j) = literal-ok facts most (e .literal) d in
       let (_, _, v) = first r in
       split (encodeFormula (e .condition)) v λ m a b.
@@ -67,10 +68,11 @@ module _ (F : Limits) (s : List ℕ) (facts : ℕ) (most : facts ≤ 64) where
         i,
         j,
         le-leb least (literalByte (e .literal)) l,
-        formula-ok F s facts most long (p + 1) (e .condition) m f a,
-        effects-ok long es (literalByte (e .literal) + 1) m q k b,
+        formula-ok s facts most (p + 1) (e .condition) m f a,
+        effects-ok es (literalByte (e .literal) + 1) m q k b,
       )
 
+module _ (F : Limits) (s : List ℕ) (facts : ℕ) (most : facts ≤ 64) where
   pub action-got :
       (p : ℕ) (a : Action) (q : ℕ) → Bytes s → action F s facts p ≡ got a q →
       ActionOk F facts a × Span s (length s) p (actionBytes a) q
@@ -79,24 +81,24 @@ module _ (F : Limits) (s : List ℕ) (facts : ℕ) (most : facts ≤ 64) where
       then-got h λ f m h₁ h₂.
       then-got h₂ λ es v h₄ h₆.
       then-got h₄ λ n o h₃ h₅.
-      let (a, b) = formula-got F s facts most p f m sound h₁ in
+      let (a, b) = formula-got s facts most p f m sound h₁ in
       let (_, c, d) = count-got s 22 0 (F .effects) m h₃ in
-      let (e, k, i) = effects-got n 0 o es v sound h₅ in
+      let (e, k, i) = effects-got s facts most n 0 o es v sound h₅ in
       let z : Span s (length s) m (length es ∷ []) o = rw i d in
       carried (λ a q. ActionOk F facts a × Span s (length s) p (actionBytes a) q) h₆
       (record { precondition = a; count = rw i c; effects = e }, join b (join z k))
 
   pub action-ok :
-      F .formula < 256 ^ 2 → (p : ℕ) (a : Action) (q : ℕ) → ActionOk F facts a → Span s (length s) p (actionBytes a) q →
+      (p : ℕ) (a : Action) (q : ℕ) → ActionOk F facts a → Span s (length s) p (actionBytes a) q →
       action F s facts p ≡ got a q
   unfolding action effectList _>>=_ andThen done actionBytes
-  action-ok long p a q k r =
+  action-ok p a q k r =
       split (encodeFormula (a .precondition)) r λ m b c.
       let (_, _, v) = first c in
       rw (
-        formula-ok F s facts most long p (a .precondition) m (k .precondition) b,
+        formula-ok s facts most p (a .precondition) m (k .precondition) b,
         count-ok s 22 0 (F .effects) m (omega arith) (k .count) c,
-        effects-ok long (a .effects) 0 (m + 1) q (k .effects) v,
+        effects-ok s facts most (a .effects) 0 (m + 1) q (k .effects) v,
       )
 
   pub actions-got :
@@ -115,12 +117,12 @@ module _ (F : Limits) (s : List ℕ) (facts : ℕ) (most : facts ≤ 64) where
       ((b, d), join c e, ap suc i)
 
   pub actions-ok :
-      F .formula < 256 ^ 2 → (as′ : List Action) (p q : ℕ) → Each (ActionOk F facts) as′ → Span s (length s) p (actionsBytes as′) q →
+      (as′ : List Action) (p q : ℕ) → Each (ActionOk F facts) as′ → Span s (length s) p (actionsBytes as′) q →
       actions F s facts (length as′) p ≡ got as′ q
   unfolding actions _>>=_ andThen done actionsBytes
-  actions-ok long [] p q k r = rw (empty r)
-  actions-ok long (a ∷ as′) p q (k, l) r =
-      split (actionBytes a) r λ m b c. rw (action-ok long p a m k b, actions-ok long as′ m q l c)
+  actions-ok [] p q k r = rw (empty r)
+  actions-ok (a ∷ as′) p q (k, l) r =
+      split (actionBytes a) r λ m b c. rw (action-ok p a m k b, actions-ok as′ m q l c)
 
 module _ (F : Limits) (sense : Sensible F) (s : List ℕ) where
   pub problem-got :
@@ -128,16 +130,16 @@ module _ (F : Limits) (sense : Sensible F) (s : List ℕ) where
   unfolding problem body parts ending _>>=_ _>>_ andThen position done encodeProblem
   problem-got x q sound h =
       then-got h λ _ m h₁ h₂.
-      let (i, l, z, law) = header-got s 10 (F .problem) (F .version) 0 sound h₁ in
+      let (i, l, z, law) = header-got s 10 maxProblemBytes (F .version) 0 sound h₁ in
       then-got h₂ λ facts m₁ h₃ h₄.
       let (f₀, f₁, rf) = count-got s 15 1 (F .facts) m h₃ in
       then-got h₄ λ n m₂ h₅ h₆.
-      let (_, a₁, ra) = count-got s 16 0 (F .actions) m₁ h₅ in
+      let (_, a₁, ra) = count-got s 16 0 maxActions m₁ h₅ in
       let most : facts ≤ 64 = omega (arith, sense .facts) in
       then-got h₆ λ start m₃ h₇ h₈.
-      let (ks, rs) = formula-got F s facts most m₂ start m₃ sound h₇ in
+      let (ks, rs) = formula-got s facts most m₂ start m₃ sound h₇ in
       then-got h₈ λ goal m₄ h₉ g₁.
-      let (kg, rg) = formula-got F s facts most m₃ goal m₄ sound h₉ in
+      let (kg, rg) = formula-got s facts most m₃ goal m₄ sound h₉ in
       then-got g₁ λ acts m₅ g₂ g₃.
       let (kn, rn, e) = actions-got F s facts most n m₄ acts m₅ sound g₂ in
       needed _ _ _ _ _ g₃ λ t g₄.
@@ -153,7 +155,7 @@ module _ (F : Limits) (sense : Sensible F) (s : List ℕ) where
           initial = ks;
           goal = kg;
           actions = kn;
-          short = subst (λ (xs : List ℕ). length xs ≤ F .problem) whole l;
+          short = subst (λ (xs : List ℕ). length xs ≤ maxProblemBytes) whole l;
         },
         whole,
       )
@@ -163,8 +165,8 @@ module _ (F : Limits) (sense : Sensible F) (s : List ℕ) where
   problem-ok x k e =
       let most : x .facts ≤ 64 = omega (arith, k .facts, sense .facts) in
       let (h, w) =
-      header-ok s 10 (F .problem) (F .version) 0 _ e (subst (λ (xs : List ℕ). length xs ≤ F .problem) (sym e) (k .short))
-      (omega (arith, sense .problem))
+      header-ok s 10 maxProblemBytes (F .version) 0 _ e (subst (λ (xs : List ℕ). length xs ≤ maxProblemBytes) (sym e) (k .short))
+      (omega arith)
       in
       let (_, _, w₁) = first w in
       let (_, _, w₂) = first w₁ in
@@ -173,16 +175,17 @@ module _ (F : Limits) (sense : Sensible F) (s : List ℕ) where
       rw (
         h,
         count-ok s 15 1 (F .facts) 5 (k .some-fact) (k .facts) w,
-        count-ok s 16 0 (F .actions) 6 (omega arith) (k .count) w₁,
-        formula-ok F s (x .facts) most (sense .formula) 7 (x .initial) m (k .initial) a,
-        formula-ok F s (x .facts) most (sense .formula) m (x .goal) o (k .goal) b,
-        actions-ok F s (x .facts) most (sense .formula) (x .actions) o (length s) (k .actions) c,
+        count-ok s 16 0 maxActions 6 (omega arith) (k .count) w₁,
+        formula-ok s (x .facts) most 7 (x .initial) m (k .initial) a,
+        formula-ok s (x .facts) most m (x .goal) o (k .goal) b,
+        actions-ok F s (x .facts) most (x .actions) o (length s) (k .actions) c,
         le-leb (length s) (length s) (omega arith),
       )
 
-  -- plans
+-- plans
+module _ (s : List ℕ) where
   pub steps-got :
-      (m n p : ℕ) (bs : List ℕ) (q : ℕ) → p + n ≤ length s → steps F s m n p ≡ got bs q →
+      (m n p : ℕ) (bs : List ℕ) (q : ℕ) → p + n ≤ length s → steps s m n p ≡ got bs q →
       Each (λ b. b < m) bs × Span s (length s) p bs q × (q ≡ p + n)
   unfolding steps counted _>>=_ _>>_ andThen position done
   steps-got m zero p bs q l h =
@@ -196,28 +199,28 @@ module _ (F : Limits) (sense : Sensible F) (s : List ℕ) where
       ((ltb-true (getD s p 0) m t, a), next d refl b, omega arith)
 
   pub steps-ok :
-      (m : ℕ) (bs : List ℕ) (p q : ℕ) → Each (λ b. b < m) bs → Span s (length s) p bs q → steps F s m (length bs) p ≡ got bs q
+      (m : ℕ) (bs : List ℕ) (p q : ℕ) → Each (λ b. b < m) bs → Span s (length s) p bs q → steps s m (length bs) p ≡ got bs q
   unfolding steps counted _>>=_ _>>_ andThen position done require
   steps-ok m [] p q k r = rw (empty r)
   steps-ok m (b ∷ bs) p q (l, k) r =
       let (_, e, v) = first r in
       rw (e, lt-ltb b m l, steps-ok m bs (p + 1) q k v)
 
-  pub plan-got : (m : ℕ) (bs : List ℕ) (q : ℕ) → Bytes s → plan F s m 0 ≡ got bs q → PlanOk F m bs × (s ≡ encodePlan bs)
+  pub plan-got : (m : ℕ) (bs : List ℕ) (q : ℕ) → Bytes s → plan s m 0 ≡ got bs q → PlanOk m bs × (s ≡ encodePlan bs)
   unfolding plan _>>_ encodePlan
   plan-got m bs q sound h =
       then-got h λ _ o h₁ h₂.
-      let (i, l, z, law) = header-got s 30 (5 + F .steps) 1 0 sound h₁ in
+      let (i, l, z, law) = header-got s 30 (5 + maxSteps) 1 0 sound h₁ in
       let (a, b, c) = steps-got m (length s - 5) o bs q (omega arith) h₂ in
       let e : q ≡ length s = omega arith in
       (record { count = omega (arith, span-length b); actions = a }, law bs (rw (i, e) at b))
 
-  pub plan-ok : (m : ℕ) (bs : List ℕ) → PlanOk F m bs → s ≡ encodePlan bs → plan F s m 0 ≡ got bs (length s)
+  pub plan-ok : (m : ℕ) (bs : List ℕ) → PlanOk m bs → s ≡ encodePlan bs → plan s m 0 ≡ got bs (length s)
   unfolding plan _>>_ encodePlan andThen
   plan-ok m bs k e =
       let (h, w) =
-      header-ok s 30 (5 + F .steps) 1 0 bs e (omega (arith, ap length e ∙ length-block 1 bs, k .count))
-      (omega (arith, sense .steps))
+      header-ok s 30 (5 + maxSteps) 1 0 bs e (omega (arith, ap length e ∙ length-block 1 bs, k .count))
+      (omega arith)
       in
       let n : length s - 5 ≡ length bs = omega (arith, span-length w) in
       rw (h, n, steps-ok m bs 5 (length s) (k .actions) w)

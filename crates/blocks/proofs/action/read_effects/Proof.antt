@@ -3,7 +3,6 @@ use mathlib.Core.Path.{_≡_, refl, sym, ap, _∙_}
 use borrow.Author.Needs.{needs}
 use native.Mathlib.Omega.{arith}
 use Prim.Native.Nat.{ℕ, _+_, _-_}
-use Rattle.model.specs.Limits.{version1}
 use Rattle.model.specs.ProblemBytes.{effects}
 use Rattle.formula.specs.Readings.{nextOf}
 use Rattle.blocks.proofs.Effects.{effects-none, effects-next, answered-refused, answered-next}
@@ -11,7 +10,7 @@ use Rattle.blocks.proofs.action.read_effects.Statement.{statement}
 use Rattle.blocks.proofs.action.read_effects.Tie as tie
 
 abbrev Inv-loop : tie.InvT-loop
-Inv-loop s at facts n p₀ k₀ least₀ p k least = nextOf (effects version1 s facts n 0 at) ≡ nextOf (effects version1 s facts k least p)
+Inv-loop s at facts n p₀ k₀ least₀ p k least = nextOf (effects s facts n 0 at) ≡ nextOf (effects s facts k least p)
 
 abbrev μ-loop : tie.MeasureT-loop
 μ-loop s at facts n p₀ k₀ least₀ p k least = k
@@ -47,7 +46,7 @@ loop-less : tie.Need-loop-less Inv-loop μ-loop
 loop-less c = omega arith
 
 loop-again : tie.Need-loop-again Inv-loop μ-loop
-loop-again c = c .before .before .before .before .before .before .before .loop .inv ∙ effects-next _ _ _ _ _ _ (omega arith) (answered-next _ _ _ _ _ (c .before .before .before .before .before .read-effect .ensures) _ (c .before .before .before .next .given .1)) ∙ ap (λ (x : ℕ). nextOf (effects version1 (c .before .before .before .before .before .before .before .before .before .args .s .now) (c .before .before .before .before .before .before .before .before .before .args .facts) (c .before .before .before .before .before .before .before .loop .k - 1) (x + 1) (c .before .before .before .next .given .0 .0))) (sym (c .wide .ensures .0))
+loop-again c = c .before .before .before .before .before .before .before .loop .inv ∙ effects-next _ _ _ _ _ _ (omega arith) (answered-next _ _ _ _ _ (c .before .before .before .before .before .read-effect .ensures) _ (c .before .before .before .next .given .1)) ∙ ap (λ (x : ℕ). nextOf (effects (c .before .before .before .before .before .before .before .before .before .args .s .now) (c .before .before .before .before .before .before .before .before .before .args .facts) (c .before .before .before .before .before .before .before .loop .k - 1) (x + 1) (c .before .before .before .next .given .0 .0))) (sym (c .wide .ensures .0))
 
 returns-2 : tie.Need-returns-2 Inv-loop μ-loop
 returns-2 c = sym (c .before .loop .inv ∙ sym (effects-none _ _ _ _ _ (omega arith)))

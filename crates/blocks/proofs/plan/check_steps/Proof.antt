@@ -3,7 +3,6 @@ use mathlib.Core.Path.{_≡_, refl, sym, _∙_}
 use Prim.Native.Nat.{_-_}
 use native.Mathlib.Omega.{arith}
 use lib.ListN.{length}
-use Rattle.model.specs.Limits.{version1}
 use Rattle.model.specs.ProblemBytes.{steps}
 use Rattle.formula.specs.Readings.{nextOf}
 use Rattle.blocks.proofs.Steps.{steps-none, steps-refused, steps-next}
@@ -11,7 +10,7 @@ use Rattle.blocks.proofs.plan.check_steps.Statement.{statement}
 use Rattle.blocks.proofs.plan.check_steps.Tie as tie
 
 abbrev Inv-loop : tie.InvT-loop
-Inv-loop s at actions p₀ p = nextOf (steps version1 s actions (length s - at) at) ≡ nextOf (steps version1 s actions (length s - p) p)
+Inv-loop s at actions p₀ p = nextOf (steps s actions (length s - at) at) ≡ nextOf (steps s actions (length s - p) p)
 
 abbrev μ-loop : tie.MeasureT-loop
 μ-loop s at actions p₀ p = length s - p

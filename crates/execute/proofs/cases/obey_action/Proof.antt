@@ -8,13 +8,13 @@ formula-planes-requires : tie.Need-formula-planes-requires
 formula-planes-requires c κs = search needs
 
 returns : tie.Need-returns
-returns c = let s = c .before .before .before .before .before .pre in (obeys-none _ _ _ _ (c .before .before .formula-planes .ensures) (s .0) (c .if1 .taken), s .1, s .2)
+returns c = let s = c .before .before .before .before .before .pre in (obeys-none _ _ _ _ _ (c .before .before .formula-planes .ensures) (s .0) (c .if1 .taken), s .1, s .2)
 
 apply-effects-requires : tie.Need-apply-effects-requires
 apply-effects-requires c κs = search needs
 
 returns-2 : tie.Need-returns-2
-returns-2 c = (obeys-some _ _ _ _ (c .before .before .before .before .before .before .formula-planes .ensures) _ (c .apply-effects .ensures .0), c .apply-effects .ensures .1, c .apply-effects .ensures .2)
+returns-2 c = (obeys-some _ _ _ _ _ (c .before .before .before .before .before .before .formula-planes .ensures) _ (c .apply-effects .ensures .0), c .apply-effects .ensures .1, c .apply-effects .ensures .2)
 
 pub obey-action-spec : {M : Type 1} → statement M
 obey-action-spec =

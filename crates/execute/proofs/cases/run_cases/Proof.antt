@@ -6,61 +6,37 @@ use native.Mathlib.Omega.{arith}
 use borrow.Author.Needs.{needs}
 use mathlib.Core.Path.{_≡_, refl}
 use lib.ListN.{length}
-use Rattle.execute.proofs.Lanes.{Running, running-begins, running-short, running-stops, running-next, running-ends}
+use Rattle.execute.proofs.Lanes.{Running, running-begins, running-stops, running-next, running-ends}
 
 abbrev Inv-loop : tie.InvT-loop
-Inv-loop problem steps actions goal lanes c current₀ found₀ literals₀ alive₀ i₀ current found literals alive i = Running problem steps actions goal lanes c i alive current × (length found ≡ 512) × (length literals ≡ 256)
+Inv-loop problem steps actions goal lanes c current₀ found₀ literals₀ alive₀ i₀ current found literals alive i =
+    Running problem steps actions goal lanes c i alive current × (length found ≡ 256) × (length literals ≡ 128)
 
 abbrev μ-loop : tie.MeasureT-loop
-μ-loop problem steps actions goal lanes c current₀ found₀ literals₀ alive₀ i₀ current found literals alive i = length steps - i
-
-loop-holds : tie.Need-loop-holds Inv-loop μ-loop
-loop-holds c = (running-begins _ _ _ _ _ _ (c .before .before .before .pre), refl, refl)
-
-shared-slice-read-wide : tie.Need-shared-slice-read-wide Inv-loop μ-loop
-shared-slice-read-wide c = search needs
-
-wide-requires : tie.Need-wide-requires Inv-loop μ-loop
-wide-requires c κs = search needs
-
-mul-from : tie.Need-mul-from Inv-loop μ-loop
-mul-from c = search needs
-
-element-copy-out-from : tie.Need-element-copy-out-from Inv-loop μ-loop
-element-copy-out-from c = search needs
+μ-loop problem steps actions goal lanes c current₀ found₀ literals₀ alive₀ i₀ current found literals alive i =
+    length steps - i
 
 returns : tie.Need-returns Inv-loop μ-loop
-returns c = running-short _ _ _ _ _ _ _ _ _ (c .before .before .before .before .before .loop .inv .0) (omega arith) _ (c .before .before .wide .ensures .0) (c .if1 .taken) _
+returns c = running-ends _ _ _ _ _ _ _ _ _ (running-begins _ _ _ _ _ _ (c .before .before .before .before .before .pre)) (omega arith) _ (c .before .formula-planes .ensures)
 
-sub-obey-action : tie.Need-sub-obey-action Inv-loop μ-loop
-sub-obey-action c = search needs
-
-part-obey-action-start : tie.Need-part-obey-action-start Inv-loop μ-loop
-part-obey-action-start c = search needs
-
-part-obey-action-end : tie.Need-part-obey-action-end Inv-loop μ-loop
-part-obey-action-end c = search needs
+loop-holds : tie.Need-loop-holds Inv-loop μ-loop
+loop-holds c = (running-begins _ _ _ _ _ _ (c .before .before .before .before .pre), refl, refl)
 
 obey-action-requires : tie.Need-obey-action-requires Inv-loop μ-loop
-obey-action-requires c κs = let i = c .before .before .before .before .before .before .before .before .before .loop .inv in (i .0 .size, i .1, i .2)
+obey-action-requires c κs = let i = c .before .before .before .before .before .before .before .loop .inv in
+    (i .0 .size, i .1, i .2)
 
 returns-2 : tie.Need-returns-2 Inv-loop μ-loop
-returns-2 c = let k = c .before .before .before .before .before .before .before in running-stops _ _ _ _ _ _ _ _ _ (k .before .before .before .before .loop .inv .0) (omega arith) _ (k .before .wide .ensures .0) _ refl _ _ (c .before .obey-action .ensures .0) (c .if2 .taken)
-
-add-i : tie.Need-add-i Inv-loop μ-loop
-add-i c = search needs
-
-loop-less : tie.Need-loop-less Inv-loop μ-loop
-loop-less c = search needs
+returns-2 c = let w = c .before .before .before .before .before .before in
+    running-stops _ _ _ _ _ _ _ _ _ (w .before .before .before .loop .inv .0) (omega arith) _ (w .wide .ensures .0) _ _ (c .before .obey-action .ensures .0) (c .if2 .taken)
 
 loop-again : tie.Need-loop-again Inv-loop μ-loop
-loop-again c = let k = c .before .before .before .before .before .before .before in (running-next _ _ _ _ _ _ _ _ _ (k .before .before .before .before .loop .inv .0) (omega arith) _ (k .before .wide .ensures .0) _ refl _ _ (c .before .obey-action .ensures .0) (c .if2 .left), c .before .obey-action .ensures .1, c .before .obey-action .ensures .2)
-
-formula-planes-requires : tie.Need-formula-planes-requires Inv-loop μ-loop
-formula-planes-requires c κs = search needs
+loop-again c = let w = c .before .before .before .before .before .before in
+    let o = c .before .obey-action .ensures in
+    (running-next _ _ _ _ _ _ _ _ _ (w .before .before .before .loop .inv .0) (omega arith) _ (w .wide .ensures .0) _ _ (o .0) (c .if2 .left), o .1, o .2)
 
 returns-3 : tie.Need-returns-3 Inv-loop μ-loop
-returns-3 c = running-ends _ _ _ _ _ _ _ _ _ (c .before .before .before .before .loop .inv .0) (omega arith) _ (c .before .formula-planes .ensures)
+returns-3 c = running-ends _ _ _ _ _ _ _ _ _ (c .before .before .before .before .loop .inv .0) (omega arith) _ (c .before .formula-planes2 .ensures)
 
 pub run-cases-spec : {M : Type 1} → statement M
 run-cases-spec =
@@ -68,19 +44,17 @@ run-cases-spec =
     (tie.spec
     Inv-loop
     μ-loop
-    loop-holds
-    shared-slice-read-wide
-    wide-requires
-    mul-from
-    element-copy-out-from
+    (λ c κs. search needs)
     returns
-    sub-obey-action
-    part-obey-action-start
-    part-obey-action-end
+    loop-holds
+    (λ c. search needs)
+    (λ c κs. search needs)
+    (λ c. search needs)
+    (λ c. search needs)
     obey-action-requires
     returns-2
-    add-i
-    loop-less
+    (λ c. search needs)
+    (λ c. search needs)
     loop-again
-    formula-planes-requires
+    (λ c κs. search needs)
     returns-3)

@@ -3,7 +3,11 @@ ghost use mathlib.Core.Path.{_≡_};
 ghost use mathlib.Core.Bool.{true, false};
 ghost use Prim.Native.Nat.{_+_, _<_};
 ghost use Rattle.model.specs.FormulaBytes.{conjunction, disjunction};
-ghost use Rattle.formula.specs.Planes.{LiteralPlanes, GroupPlanes, OutermostPlanes, FormulaPlanes};
+ghost use Rattle.evaluate.specs.Planes.{LiteralPlanes, GroupPlanes, EmptyPlanes, FormulaPlanes};
+use numbers::wide;
+
+// The mark that begins an "all".
+const ALL: u8 = 0x80;
 
 // Every lane.
 pub const ONES: u64 = 0xffff_ffff_ffff_ffff;
@@ -25,11 +29,32 @@ fn literal_planes(b: u8, c: &[u64; 256]) -> Literal
     requires { ⌜ b < 128 ⌝ }
     ensures { λ r. ⌜ LiteralPlanes (now (c .entry)) b r ⌝ }
 {
-    let i = 2 * crate::wide(b);
+    let i = 2 * wide(b);
     Literal {
         some: c[i],
         sure: c[i + 1],
     }
+}
+
+// A value that is known, and the same in every lane.
+fn known(word: u64, next: usize) -> Planes
+    ensures { λ r. ⌜ (r .some ≡ word) × (r .sure ≡ word) × (r .next ≡ next) ⌝ }
+{
+    Planes {
+        some: word,
+        next,
+        sure: word,
+    }
+}
+
+// The empty group with this mark: an "all" is true, an "any" false.
+fn empty_planes(mark: u8, next: usize) -> Planes
+    ensures { λ r. ⌜ EmptyPlanes mark next r ⌝ }
+{
+    if mark == ALL {
+        return known(ONES, next);
+    }
+    known(0, next)
 }
 
 // The members of an "all", n of them from `at` on. Unless the position after the whole group is asked for, no in every lane decides it.
@@ -56,7 +81,7 @@ fn all_planes(s: &[u8], at: usize, n: u8, c: &[u64; 256], whole: bool) -> Planes
             };
         }
         let b = s[p];
-        if b < crate::ALL {
+        if b < ALL {
             let l = literal_planes(b, c);
             some = some & l.some;
             sure = sure & l.sure;
@@ -107,7 +132,7 @@ fn any_planes(s: &[u8], at: usize, n: u8, c: &[u64; 256], whole: bool) -> Planes
             };
         }
         let b = s[p];
-        if b < crate::ALL {
+        if b < ALL {
             let l = literal_planes(b, c);
             some = some | l.some;
             sure = sure | l.sure;
@@ -134,54 +159,21 @@ fn any_planes(s: &[u8], at: usize, n: u8, c: &[u64; 256], whole: bool) -> Planes
     }
 }
 
-// The group at `at`, from its mark on.
-fn group_planes(s: &[u8], at: usize, c: &[u64; 256]) -> Planes
-    ensures { λ r. ⌜ OutermostPlanes (now (s .entry)) (now (c .entry)) at r ⌝ }
-{
-    if s.len() <= at {
-        return Planes {
-            some: 0,
-            next: at,
-            sure: 0,
-        };
-    }
-    if s.len() - at < 2 {
-        return Planes {
-            some: 0,
-            next: at,
-            sure: 0,
-        };
-    }
-    if s[at] == crate::ALL {
-        all_planes(s, at + 2, s[at + 1], c, false)
-    } else {
-        any_planes(s, at + 2, s[at + 1], c, false)
-    }
-}
-
-// The formula whose length field stands at `at`, and the position after it.
+// The formula whose length field stands at `at`, and the position after it. Most are one literal or an empty group, and take no call.
 pub fn formula_planes(s: &[u8], at: usize, c: &[u64; 256]) -> Planes
     ensures { λ r. ⌜ FormulaPlanes (now (s .entry)) (now (c .entry)) at r ⌝ }
 {
     let len = s.len();
     if len <= at {
-        return Planes {
-            some: 0,
-            next: at,
-            sure: 0,
-        };
+        return known(0, at);
     }
     if len - at < 3 {
-        return Planes {
-            some: 0,
-            next: at,
-            sure: 0,
-        };
+        return known(0, at);
     }
     let begin = at + 2;
-    let next = begin + (crate::wide(s[at]) * 256 + crate::wide(s[at + 1]));
+    let next = begin + (wide(s[at]) * 256 + wide(s[at + 1]));
     let b = s[begin];
-    if b < crate::ALL {
+    if b < ALL {
         let l = literal_planes(b, c);
         return Planes {
             some: l.some,
@@ -189,7 +181,22 @@ pub fn formula_planes(s: &[u8], at: usize, c: &[u64; 256]) -> Planes
             sure: l.sure,
         };
     }
-    let r = group_planes(s, begin, c);
+    if len - at < 4 {
+        return known(0, at);
+    }
+    let n = s[begin + 1];
+    if n == 0 {
+        return empty_planes(b, next);
+    }
+    if b == ALL {
+        let r = all_planes(s, begin + 2, n, c, false);
+        return Planes {
+            some: r.some,
+            next,
+            sure: r.sure,
+        };
+    }
+    let r = any_planes(s, begin + 2, n, c, false);
     Planes {
         some: r.some,
         next,

@@ -1,16 +1,16 @@
 -- What evaluating answers, in the 64 cases of a table.
 use mathlib.Core.Path.{_≡_}
 use mathlib.Core.Bool.{Bool, true}
-use mathlib.Core.List.{List, _∷_}
+use mathlib.Core.List.{List}
 use Prim.Native.Nat.{ℕ, _+_, _*_, _≤_, _<_}
 use lib.ListN.{length, getD}
-use Rattle.model.specs.Kleene.{Kleene, both, either, three}
+use Rattle.model.specs.Kleene.{Kleene, No, Yes, three}
 use Rattle.model.specs.Formula.{Formula, Formulas, eval, evalAll, evalAny}
 use Rattle.model.specs.FormulaBytes.{Group, conjunction, disjunction, mark, memberCount, memberBytes}
 use Rattle.model.specs.Planes.{InLanes, Table}
 use Rattle.model.specs.Stands.{Span, FormulaAt, Members}
-use Rattle.formula.specs.declared.planes.Planes.{Planes}
-use Rattle.formula.specs.declared.planes.Literal.{Literal}
+use Rattle.evaluate.specs.declared.Planes.{Planes}
+use Rattle.evaluate.specs.declared.Literal.{Literal}
 
 -- the value of a group of this kind with these members
 abbrev pub evalGroup : Group → List Kleene → Formulas → Kleene
@@ -30,12 +30,11 @@ pub record GroupPlanes (s c : List ℕ) (g : Group) (n p : ℕ) (whole : Bool) (
       (whole ≡ true → r .next ≡ q) ×
       ((case : ℕ → List Kleene) → Table c case → InLanes (r .some) (r .sure) (λ j. evalGroup g (case j) ms))
 
--- the group whose mark stands at p: its value in each lane
-pub record OutermostPlanes (s c : List ℕ) (p : ℕ) (r : Planes) : Type 0 where
-  pub is :
-      (facts : ℕ) (g : Group) (ms : Formulas) (q : ℕ) → facts ≤ 64 → Members facts g ms →
-      Span s (length s) p (mark g ∷ memberCount ms ∷ memberBytes ms) q →
-      (case : ℕ → List Kleene) → Table c case → InLanes (r .some) (r .sure) (λ j. evalGroup g (case j) ms)
+-- the empty group with the mark b: "The empty "all" is true, the empty "any" false."
+pub record EmptyPlanes (b next : ℕ) (r : Planes) : Type 0 where
+  pub after : r .next ≡ next
+  pub all-true : b ≡ mark conjunction → InLanes (r .some) (r .sure) (λ j. Yes)
+  pub any-false : (b ≡ mark conjunction → ⊥) → InLanes (r .some) (r .sure) (λ j. No)
 
 -- the formula that stands at p, its length field first: its value in each lane, and the position after it
 pub record FormulaPlanes (s c : List ℕ) (p : ℕ) (r : Planes) : Type 0 where

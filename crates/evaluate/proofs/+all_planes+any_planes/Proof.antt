@@ -2,15 +2,15 @@
 use Prim.Native.Nat.{ℕ, _<_}
 use borrow.Fn.Kinds.{In}
 use borrow.Fn.PlainCycle.{Measures, is, falls, and}
-use Rattle.formula.proofs.planes.all_planes.Reads as all-planes
-use Rattle.formula.proofs.planes.all_planes.Kinds as all-planes-kinds
-use Rattle.formula.proofs.planes.+all_planes+any_planes.Lts-all_planes as all-planes-lts
-use Rattle.formula.proofs.planes.any_planes.Reads as any-planes
-use Rattle.formula.proofs.planes.any_planes.Kinds as any-planes-kinds
-use Rattle.formula.proofs.planes.+all_planes+any_planes.Lts-any_planes as any-planes-lts
-use Rattle.formula.proofs.planes.literal_planes.Reads as literal-planes-reads
-use Rattle.formula.proofs.planes.+all_planes+any_planes.{statement}
-use Rattle.formula.proofs.planes.+all_planes+any_planes.Tie.{close}
+use Rattle.evaluate.proofs.all_planes.Reads as all-planes
+use Rattle.evaluate.proofs.all_planes.Kinds as all-planes-kinds
+use Rattle.evaluate.proofs.+all_planes+any_planes.Lts-all_planes as all-planes-lts
+use Rattle.evaluate.proofs.any_planes.Reads as any-planes
+use Rattle.evaluate.proofs.any_planes.Kinds as any-planes-kinds
+use Rattle.evaluate.proofs.+all_planes+any_planes.Lts-any_planes as any-planes-lts
+use Rattle.evaluate.proofs.literal_planes.Reads as literal-planes-reads
+use Rattle.evaluate.proofs.+all_planes+any_planes.{statement}
+use Rattle.evaluate.proofs.+all_planes+any_planes.Tie.{close}
 use Prim.Native.Nat.{_-_}
 use mathlib.Core.Path.{refl}
 use mathlib.Core.Logic.{⊎-elim}
@@ -20,7 +20,7 @@ use borrow.Author.Tests.{not-true, eqb-true}
 use lib.ListN.{length}
 use Rattle.model.specs.FormulaBytes.{conjunction, disjunction}
 use Rattle.model.proofs.Laws.Reading.{both-true}
-use Rattle.formula.proofs.Evaluating.{Held, held-begins, held-short, held-cut, held-literal, held-group, held-ends, held-as, held-no, held-yes}
+use Rattle.evaluate.proofs.Evaluating.{Held, held-begins, held-short, held-cut, held-literal, held-group, held-ends, held-as, held-no, held-yes}
 
 abbrev μ-all-planes : Measures 2 all-planes-kinds.ps ℕ
 μ-all-planes κs a = length (a .0 .now) - a .1 .0

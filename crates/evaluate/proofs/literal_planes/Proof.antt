@@ -1,7 +1,7 @@
 -- `literal_planes` meets its contract. Assumes nothing.
 use borrow.Author.Needs.{needs}
-use Rattle.formula.proofs.planes.literal_planes.Statement.{statement}
-use Rattle.formula.proofs.planes.literal_planes.Tie as tie
+use Rattle.evaluate.proofs.literal_planes.Statement.{statement}
+use Rattle.evaluate.proofs.literal_planes.Tie as tie
 use Prim.Native.Nat.{ℕ, _*_, _+_}
 use mathlib.Core.Path.{ap}
 use lib.ListN.{getD}

@@ -6,7 +6,7 @@ use Prim.Native.Nat.{ℕ, zero, suc, _+_, _*_, _-_, _/_, _%_, _^_, _≤_, _<_}
 use native.Mathlib.Omega.{arith}
 use lib.ListN.{length, getD}
 use lib.Bits.{bitAnd, bitOr}
-use Rattle.model.specs.Limits.{version1}
+use Rattle.model.specs.Limits.{maxDepth}
 use Rattle.model.specs.Kleene.{Kleene, No, Unknown, Yes, both, either, three}
 use Rattle.model.specs.Formula.{Literal, fact, denial, Formula, Formulas, lit, all, any, none, more, valueOf, eval, evalAll, evalAny}
 use Rattle.model.specs.Read.{bytesOf}
@@ -17,9 +17,9 @@ use Rattle.model.specs.Stands.{Span, FormulaAt, Member, Members}
 use Rattle.model.proofs.Laws.Reading.{empty, first, split, span-length, span-end}
 use Rattle.model.proofs.Laws.FormulaCodec.{literal-ok}
 use Rattle.model.proofs.Laws.Planes.{ones, bit-ones, bit-zero, lane-both, lane-either, all-no, all-yes}
-use Rattle.formula.specs.declared.planes.Planes.{Planes}
-use Rattle.formula.specs.declared.planes.Literal as declared
-use Rattle.formula.specs.Planes.{evalGroup, LiteralPlanes, GroupPlanes, OutermostPlanes, FormulaPlanes}
+use Rattle.evaluate.specs.declared.Planes.{Planes}
+use Rattle.evaluate.specs.declared.Literal as declared
+use Rattle.evaluate.specs.Planes.{evalGroup, LiteralPlanes, GroupPlanes, EmptyPlanes, FormulaPlanes}
 
 -- ---- one kind of group
 
@@ -407,8 +407,12 @@ mutual
 
 -- ---- the group at p, from its mark on
 
-pub outermost-short : (s c : List ℕ) (p : ℕ) (r : Planes) → length s < p + 2 → OutermostPlanes s c p r
-outermost-short s c p r h = record { is = λ facts g ms q l m v case t. absurd (omega (arith, first (first v .2) .0)) }
+-- the group whose mark stands at p: its value in each lane
+pub record OutermostPlanes (s c : List ℕ) (p : ℕ) (r : Planes) : Type 0 where
+  pub is :
+      (facts : ℕ) (g : Group) (ms : Formulas) (q : ℕ) → facts ≤ 64 → Members facts g ms →
+      Span s (length s) p (mark g ∷ memberCount ms ∷ memberBytes ms) q →
+      (case : ℕ → List Kleene) → Table c case → InLanes (r .some) (r .sure) (λ j. evalGroup g (case j) ms)
 
 mark-tells : (g h : Group) → mark g ≡ mark h → g ≡ h
 mark-tells conjunction conjunction e = refl
@@ -439,13 +443,35 @@ outermost-any s c p e r x = outermost s c p disjunction tells r x
     tells conjunction i = absurd (e i)
     tells disjunction i = refl
 
+pub empty-all : (b next : ℕ) (r : Planes) → b ≡ 0x80 → r .some ≡ ones → r .sure ≡ ones → r .next ≡ next → EmptyPlanes b next r
+empty-all b next r e s u n = record { after = n; all-true = λ h. rw (s, u) (record { lane = λ j l. all-yes l }); any-false = λ h. absurd (h e) }
+
+pub empty-any : (b next : ℕ) (r : Planes) → (b ≡ 0x80 → ⊥) → r .some ≡ 0 → r .sure ≡ 0 → r .next ≡ next → EmptyPlanes b next r
+empty-any b next r e s u n = record { after = n; all-true = λ h. absurd (e h); any-false = λ h. rw (s, u) (record { lane = λ j l. all-no }) }
+
+pub outermost-empty :
+    (s c : List ℕ) (p b next : ℕ) (r : Planes) → b ≡ getD s p 0 → getD s (p + 1) 0 ≡ 0 → EmptyPlanes b next r → OutermostPlanes s c p r
+unfolding eval
+outermost-empty s c p b next r e z x =
+    record {
+      is =
+          λ facts g ms q l m v case t.
+          let a = first v in
+          go case g ms (e ∙ a .1) (sym (first (a .2) .1) ∙ z);
+    }
+  where
+    go : (case : ℕ → List Kleene) (g : Group) (ms : Formulas) → b ≡ mark g → memberCount ms ≡ 0 → InLanes (r .some) (r .sure) (λ j. evalGroup g (case j) ms)
+    go case conjunction none k h = x .all-true k
+    go case disjunction none k h = x .any-false (λ i. omega arith)
+    go case g (more m ms) k h = absurd (omega arith)
+
 -- ---- the formula at p, its length field first
 
 -- what stands there: the length field, and the bytes after it
 record Stated (s : List ℕ) (facts p : ℕ) (f : Formula) (q : ℕ) : Type 0 where
   pub end : q ≡ p + 2 + (getD s p 0 * 256 + getD s (p + 1) 0)
   pub stands : Span s (length s) (p + 2) (formulaBytes f) q
-  pub formed : Formed facts (version1 .depth) 0 f
+  pub formed : Formed facts maxDepth 0 f
   pub some : p + 2 < q
   pub inside : q ≤ length s
 
@@ -486,10 +512,22 @@ formula-literal s c p b e small x lp r es eu en =
   where
     go :
         (facts : ℕ) → facts ≤ 64 → (case : ℕ → List Kleene) → Table c case → (j : ℕ) → j < 64 →
-        (f : Formula) (q : ℕ) → Span s (length s) (p + 2) (formulaBytes f) q → Formed facts (version1 .depth) 0 f → InLane j (x .some) (x .sure) (eval three (case j) f)
+        (f : Formula) (q : ℕ) → Span s (length s) (p + 2) (formulaBytes f) q → Formed facts maxDepth 0 f → InLane j (x .some) (x .sure) (eval three (case j) f)
     go facts l case t j m (lit y) q v d = literal-value facts l c case t y d b (e ∙ first v .1) x lp j m
     go facts l case t j m (all ms) q v d = absurd (omega (arith, first v .1))
     go facts l case t j m (any ms) q v d = absurd (omega (arith, first v .1))
+
+-- a group has a count
+pub formula-cut :
+    (s c : List ℕ) (p b : ℕ) (r : Planes) → b ≡ getD s (p + 2) 0 → 128 ≤ b → length s < p + 4 → FormulaPlanes s c p r
+unfolding formulaBytes Formed
+formula-cut s c p b r e big short =
+    record { is = λ facts f q l at. let z = stated s facts p f q at in absurd (go facts l f q (z .stands) (z .formed)) }
+  where
+    go : (facts : ℕ) → facts ≤ 64 → (f : Formula) (q : ℕ) → Span s (length s) (p + 2) (formulaBytes f) q → Formed facts maxDepth 0 f → ⊥
+    go facts l (lit y) q v d = omega (arith, first v .1, literal-small facts y l d)
+    go facts l (all ms) q v d = omega (arith, first (first v .2) .0)
+    go facts l (any ms) q v d = omega (arith, first (first v .2) .0)
 
 pub formula-group :
     (s c : List ℕ) (p b : ℕ) → b ≡ getD s (p + 2) 0 → 128 ≤ b → (x : Planes) → OutermostPlanes s c (p + 2) x →
@@ -500,7 +538,7 @@ formula-group s c p b e big x o r es eu en =
   where
     go :
         (facts : ℕ) → facts ≤ 64 → (case : ℕ → List Kleene) → Table c case → (j : ℕ) → j < 64 →
-        (f : Formula) (q : ℕ) → Span s (length s) (p + 2) (formulaBytes f) q → Formed facts (version1 .depth) 0 f → InLane j (x .some) (x .sure) (eval three (case j) f)
+        (f : Formula) (q : ℕ) → Span s (length s) (p + 2) (formulaBytes f) q → Formed facts maxDepth 0 f → InLane j (x .some) (x .sure) (eval three (case j) f)
     go facts l case t j m (lit y) q v d = absurd (omega (arith, first v .1, literal-small facts y l d))
-    go facts l case t j m (all ms) q v d = o .is facts conjunction ms q l (members-formed ms conjunction facts (version1 .depth - 1) (d .3)) v case t .lane j m
-    go facts l case t j m (any ms) q v d = o .is facts disjunction ms q l (members-formed ms disjunction facts (version1 .depth - 1) (d .3)) v case t .lane j m
+    go facts l case t j m (all ms) q v d = o .is facts conjunction ms q l (members-formed ms conjunction facts (maxDepth - 1) (d .3)) v case t .lane j m
+    go facts l case t j m (any ms) q v d = o .is facts disjunction ms q l (members-formed ms disjunction facts (maxDepth - 1) (d .3)) v case t .lane j m

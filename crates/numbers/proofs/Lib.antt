@@ -1,0 +1,2 @@
+-- Laws for several functions' proofs.
+pub mod Bytes
