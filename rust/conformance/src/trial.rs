@@ -2,6 +2,7 @@
 
 use crate::encode;
 use crate::harness::Case;
+use crate::version::VERSION_1;
 
 /// The bytes of hex digits, with any spaces between.
 pub fn hex(digits: &str) -> Vec<u8> {
@@ -32,7 +33,7 @@ pub fn with_plan(steps: &[u8]) -> Case {
         problem: problem(),
         plan: encode::plan(steps),
         grant: u64::MAX,
-        room: 65_533,
+        room: VERSION_1.most_bytes(),
         ..Case::default()
     }
 }

@@ -5,6 +5,7 @@ use conformance::gen::formula_of_size;
 use conformance::model::{Action, Formula, Kind, Problem};
 use conformance::oracle;
 use conformance::trial;
+use conformance::version::VERSION_1;
 
 /// The bytes of both files, and the first line of the print, worked out by hand.
 pub struct Case {
@@ -31,6 +32,7 @@ fn sound(name: &str, problem: &Problem, steps: &[u8], says: &str) -> Case {
 /// Every state is a start, nothing can be done, and this is the goal.
 fn goal_only(facts: u8, goal: Formula) -> Problem {
     Problem {
+        version: VERSION_1,
         facts,
         initial: Formula::always(),
         goal,
@@ -185,11 +187,12 @@ fn many_lines() -> Vec<Case> {
 
 /// One action with these effect bytes, their count before them.
 fn with_effects(effects: &[u8]) -> Vec<u8> {
-    encode::block(&[&[1, 1, 0, 1, 0, 0, 1, 0, 0, 1, 0], effects].concat())
+    let body = [&[1, 1, 0, 1, 0, 0, 1, 0, 0, 1, 0], effects].concat();
+    encode::block(&VERSION_1, &body)
 }
 
 fn refused_problems() -> Vec<Case> {
-    let block = encode::block;
+    let block = |body: &[u8]| encode::block(&VERSION_1, body);
     let p = trial::problem();
     let mut version = p.clone();
     version[0] = 2;
@@ -273,6 +276,7 @@ fn sizes() -> Vec<Case> {
             effects: Vec::new(),
         });
         Problem {
+            version: VERSION_1,
             facts: 1,
             initial: Formula::fact(0),
             goal: Formula::fact(0),

@@ -6,6 +6,7 @@ use conformance::harness::Case;
 use conformance::harness::Operation::FollowList;
 use conformance::model::{Formula, Line};
 use conformance::trial::{self, with_plan};
+use conformance::version::VERSION_1;
 use larkhammock::raw;
 
 use crate::problems::{of_8191_lines, plain};
@@ -60,21 +61,25 @@ fn lists_of_8191_and_8192_lines() {
     assert_eq!(length, Ok(65_533));
     follows(&case, list.clone(), &[1, 8_191]);
     // The last line but one, and none.
-    follows(&case, encode::block(&list[5..65_525]), &[0, 70, 8_190]);
+    follows(
+        &case,
+        encode::block(&VERSION_1, &list[5..65_525]),
+        &[0, 70, 8_190],
+    );
     // One byte and one line too many.
     let mut more = list.clone();
     more.push(0);
     follows(&case, more, &[0, 60, 65_533]);
     let mut split = list[5..].to_vec();
     split.splice(..8, [0, 13, 0, 0, 0, 0, 0, 0, 0, 13, 0, 8, 0, 0, 0, 0]);
-    follows(&case, encode::block(&split), &[0, 60, 65_533]);
+    follows(&case, encode::block(&VERSION_1, &split), &[0, 60, 65_533]);
 }
 
 #[test]
 fn what_comes_first_in_a_line() {
     let line = |kind, k, value| Line { kind, k, value };
     let follow = |second: Line, named: &[u64]| {
-        let list = encode::list(&[line(0, 2, 0), second]);
+        let list = encode::list(&VERSION_1, &[line(0, 2, 0), second]);
         follows(&with_plan(&[0, 1]), list, named);
     };
     follow(line(2, 49, 1), &[0, 65, 1]);
@@ -97,7 +102,11 @@ fn a_line_that_carries_is_not_empty() {
     problem.initial = Formula::fact(0);
     let follow = |[low, high]: [u8; 2], named: &[u64]| {
         let lines = [(low, 0), (high, 1 << 47)].map(|(kind, value)| Line { kind, k: 1, value });
-        follows(&case_of(&problem, &[]), encode::list(&lines), named);
+        follows(
+            &case_of(&problem, &[]),
+            encode::list(&VERSION_1, &lines),
+            named,
+        );
     };
     follow([0, 1], &[1, 2]);
     follow([1, 1], &[0, 69, 0]);

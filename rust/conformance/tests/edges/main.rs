@@ -15,6 +15,7 @@ use conformance::harness::Operation::*;
 use conformance::harness::{self, Case, Operation};
 use conformance::model::Problem;
 use conformance::trial;
+use conformance::version::{HEADER, VERSION_1};
 use support::Library;
 
 #[track_caller]
@@ -28,7 +29,7 @@ fn case_of(problem: &Problem, steps: &[u8]) -> Case {
         problem: encode::problem(problem),
         plan: encode::plan(steps),
         grant: u64::MAX,
-        room: 65_533,
+        room: VERSION_1.most_bytes(),
         ..Case::default()
     }
 }
@@ -36,7 +37,7 @@ fn case_of(problem: &Problem, steps: &[u8]) -> Case {
 /// The block made to end at each length from its header on, in buffers whose
 /// bytes go on as if they belonged to it.
 fn ended_early(block: &[u8]) -> impl Iterator<Item = (usize, Vec<u8>)> + '_ {
-    (5..block.len()).map(|length| {
+    (HEADER..block.len()).map(|length| {
         let mut bytes = block.to_vec();
         encode::mend(&mut bytes[..length]);
         (length, bytes)

@@ -3,6 +3,7 @@
 use conformance::encode;
 use conformance::gen::formula_of_size;
 use conformance::model::{Action, Effect, Formula, Kind, Problem};
+use conformance::version::VERSION_1;
 
 fn idle() -> Action {
     Action {
@@ -14,6 +15,7 @@ fn idle() -> Action {
 /// A problem with nothing in it but these counts.
 pub fn plain(facts: u8, actions: usize) -> Problem {
     Problem {
+        version: VERSION_1,
         facts,
         initial: Formula::always(),
         goal: Formula::always(),

@@ -7,6 +7,7 @@ use conformance::harness::Case;
 use conformance::harness::Operation::ReadProblem;
 use conformance::model::Problem;
 use conformance::trial;
+use conformance::version::VERSION_1;
 use larkhammock::raw;
 
 use crate::problems::{clearing_all, longest, nested, plain, problem_of_size};
@@ -57,7 +58,7 @@ fn effect_literals_are_declared_and_rise() {
         for literal in literals {
             body.extend([*literal, 0, 1, 0]);
         }
-        encode::block(&body)
+        encode::block(&VERSION_1, &body)
     };
     reads_bytes(with(&[0, 1, 2, 64, 65, 66]), &[1, 3, 1]);
     reads_bytes(with(&[2, 64]), &[1, 3, 1]);
@@ -76,7 +77,7 @@ fn formula_lengths_0_1_1024_1025() {
         let mut body = vec![1, 0];
         body.extend(length.to_be_bytes());
         body.extend(vec![0; bytes]);
-        encode::block(&body)
+        encode::block(&VERSION_1, &body)
     };
     reads_bytes(with(0, 0), &[0, 17, 7]);
     reads_bytes(with(1_025, 1_025), &[0, 17, 7]);
@@ -111,7 +112,7 @@ fn what_comes_first_at_a_group_mark() {
         bytes.extend(tail);
         let mut body = vec![1, 0, 0, bytes.len() as u8];
         body.extend(bytes);
-        encode::block(&body)
+        encode::block(&VERSION_1, &body)
     };
     // A repeated kind is 18 also where it is too deep; too deep is 19 also
     // where its count is missing; and 20 is the first byte after them all.
@@ -130,7 +131,7 @@ fn formula_bytes_that_are_not_allowed() {
         let mut body = vec![3, 0, 0, bytes.len() as u8];
         body.extend(bytes);
         body.extend([0, 1, 0]);
-        encode::block(&body)
+        encode::block(&VERSION_1, &body)
     };
     for byte in 0..=255 {
         let named: &[u64] = match byte {
@@ -161,7 +162,10 @@ fn a_problem_cut_anywhere_ends_inside_a_field() {
         ];
         reads_bytes(cut.clone(), &named);
         if length >= 5 {
-            reads_bytes(encode::block(&cut[5..]), &[0, 14, length as u64]);
+            reads_bytes(
+                encode::block(&VERSION_1, &cut[5..]),
+                &[0, 14, length as u64],
+            );
         }
     }
     let mut more = whole;
