@@ -81,13 +81,7 @@ fn agrees(name: &str, problem: &[u8], plan: &[u8]) {
 #[test]
 fn the_print_of_document_01() {
     let text = printed(&trial::problem(), &trial::with_plan(&[0, 1]).plan);
-    let expected = "\
-right lines 3 visited 5
-no-start 00?
-carries 01?
-carries 1??
-";
-    assert_eq!(String::from_utf8_lossy(&text), expected);
+    assert_eq!(String::from_utf8_lossy(&text), trial::PRINT);
 }
 
 #[test]
