@@ -5,6 +5,7 @@ use std::hint::black_box;
 use conformance::encode;
 use conformance::families::bombs;
 use conformance::model::{Action, Effect, Formula, Line, Problem};
+use conformance::version::VERSION_1;
 use larkhammock::Refusal;
 
 use crate::page::{nanoseconds, whole, Table};
@@ -34,6 +35,7 @@ fn carrying(lines: usize, k: u8, value: u64) -> Vec<Line> {
 /// Every case carries the empty plan.
 fn idle() -> Measured {
     let problem = Problem {
+        version: VERSION_1,
         facts: 13,
         initial: Formula::always(),
         goal: Formula::always(),
@@ -53,6 +55,7 @@ pub fn longest() -> Vec<u8> {
     let formula = |members: usize| Formula::any((0..members).map(|i| Formula::fact(i as u8 % 48)));
     let effects = |count: u8| (0..count).map(|f| Effect::sets(f, formula(3))).collect();
     let mut tree = Problem {
+        version: VERSION_1,
         facts: 48,
         initial: formula(200),
         goal: formula(200),
@@ -90,10 +93,10 @@ pub fn section() -> String {
         let Measured { problem, plan, .. } = &measured;
         let mut cells = vec![measured.name.clone(), measured.steps.len().to_string()];
         let whole = carrying(MOST_LINES, 0, 0);
-        let passes = larkhammock::follow_list(problem, plan, &encode::list(&whole));
+        let passes = larkhammock::follow_list(problem, plan, &encode::list(&VERSION_1, &whole));
         assert_eq!(passes, Ok(MOST_LINES as u64));
         for lines in LINES {
-            let list = encode::list(&whole[..lines]);
+            let list = encode::list(&VERSION_1, &whole[..lines]);
             let ends_short = Refusal {
                 number: 70,
                 place: lines as u64,

@@ -2,6 +2,7 @@
 
 use conformance::families::sorting;
 use conformance::model::{Action, Effect, Formula, Problem};
+use conformance::version::VERSION_1;
 
 use crate::judge::{judge, visits};
 use crate::page::{nanoseconds, time, whole, Table};
@@ -15,6 +16,7 @@ const DECIDING: u8 = 8;
 /// is unknown as long as one of them is. Its one action sets a fact that is true.
 fn deciding(facts: u8, steps: usize) -> Measured {
     let problem = Problem {
+        version: VERSION_1,
         facts,
         initial: Formula::always(),
         goal: Formula::all((0..DECIDING).map(Formula::either)),

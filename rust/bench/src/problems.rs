@@ -4,6 +4,7 @@ use conformance::encode;
 use conformance::families::store::Store;
 use conformance::families::{bombs, grid, sorting};
 use conformance::model::{Action, Effect, Formula, Literal, Problem};
+use conformance::version::VERSION_1;
 
 pub struct Measured {
     pub name: String,
@@ -82,6 +83,7 @@ pub fn for_solvers() -> Vec<Measured> {
 /// What is known is the goal, and there is nothing to do.
 fn trivial() -> Measured {
     let tree = Problem {
+        version: VERSION_1,
         facts: 1,
         initial: Formula::fact(0),
         goal: Formula::fact(0),
@@ -115,6 +117,7 @@ fn renamed(problem: &Problem, to: &dyn Fn(u8) -> u8) -> Problem {
         }
     };
     Problem {
+        version: problem.version,
         facts: problem.facts,
         initial: formula(&problem.initial, &literal),
         goal: formula(&problem.goal, &literal),

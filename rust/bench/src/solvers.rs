@@ -8,7 +8,7 @@ use std::path::Path;
 use std::process::{self, Command};
 use std::time::{Duration, Instant};
 
-use conformance::model::number;
+use conformance::version::VERSION_1;
 use larkhammock::{Outcome, Verdict};
 
 use crate::judge::judge;
@@ -82,7 +82,7 @@ fn solve(solver: &Solver, measured: &Measured) -> Option<(f64, Option<u64>)> {
 fn state(start: &[Lit], assignment: &str) -> u64 {
     let literals: BTreeSet<Lit> = assignment.split_whitespace().flat_map(str::parse).collect();
     let values: Vec<bool> = start.iter().map(|v| literals.contains(v)).collect();
-    number(&values)
+    VERSION_1.number(&values)
 }
 
 /// The best time of a solver, which must agree with the judge.

@@ -4,8 +4,8 @@ use bench::plain;
 use bench::problems;
 use bench::sat::{self, Cnf, Lit};
 use conformance::gen::{damaged_case, sound_case, Rng};
-use conformance::model::values;
 use conformance::oracle;
+use conformance::version::VERSION_1;
 use larkhammock::{Outcome, Verdict};
 
 type Judge = fn(&[u8], &[u8], u64) -> plain::Verdict;
@@ -54,8 +54,8 @@ fn plain_judges_judge_and_refuse_alike() {
     let mut rng = Rng::new(0xbe7c);
     for round in 0..20_000 {
         let case = match round % 2 {
-            0 => sound_case(&mut rng),
-            _ => damaged_case(&mut rng),
+            0 => sound_case(&mut rng, &VERSION_1),
+            _ => damaged_case(&mut rng, &VERSION_1),
         };
         for grant in [case.grant.min(2_000), 2_000] {
             agree(&case.problem, &case.plan, grant, &format!("round {round}"));
@@ -108,12 +108,13 @@ fn satisfying_assignments_are_counterexamples() {
     let mut rng = Rng::new(0x5a7);
     let (mut some, mut none) = (0, 0);
     for _ in 0..300 {
-        let case = sound_case(&mut rng);
+        let case = sound_case(&mut rng, &VERSION_1);
         let problem = oracle::read_problem(&case.problem).expect("the case is sound");
         let steps = &case.plan[5..];
         let sat::Encoded { cnf, start } = sat::encode(&problem, steps);
-        for state in (0..1u64 << problem.facts.min(6)).map(|n| n << (48 - problem.facts)) {
-            let facts = values(state, problem.facts);
+        let unused = problem.version.width - u32::from(problem.facts);
+        for state in (0..1u64 << problem.facts.min(6)).map(|n| n << unused) {
+            let facts = problem.version.values(state, problem.facts);
             let fails = oracle::holds(&problem.initial, &facts)
                 && larkhammock::run(&case.problem, &case.plan, state) != Ok(Outcome::Reached);
             assert_eq!(holds(&cnf, &start, &facts), fails);

@@ -2,8 +2,8 @@
 
 use std::iter::repeat_n;
 
-use crate::model::{values, Line};
-use crate::oracle::{self, Outcome, Refusal, Task, Verdict, MOST_LINES};
+use crate::model::{Line, Problem};
+use crate::oracle::{self, Outcome, Refusal, Task, Verdict};
 
 /// The desk program's grant is fixed.
 pub const GRANT: u64 = 1_000_000;
@@ -27,7 +27,7 @@ fn lines(problem: &[u8], plan: &[u8]) -> Vec<String> {
         Err(refusal) => return vec![refused("plan", refusal)],
         Ok(task) => task,
     };
-    let facts = task.problem.facts;
+    let tree = &task.problem;
     match oracle::judge(problem, plan, GRANT).expect("both blocks are sound") {
         Verdict::Undecided { visits } => vec![format!("undecided visited {visits}")],
         Verdict::Wrong {
@@ -35,7 +35,7 @@ fn lines(problem: &[u8], plan: &[u8]) -> Vec<String> {
             outcome,
             visits,
         } => {
-            let state = marks(state, facts, facts);
+            let state = marks(tree, state, tree.facts);
             let end = match outcome {
                 Outcome::Blocked { step } => format!("step {step}"),
                 Outcome::Missed => "end".into(),
@@ -45,11 +45,11 @@ fn lines(problem: &[u8], plan: &[u8]) -> Vec<String> {
         }
         Verdict::Right { lines, visits } => {
             let mut text = vec![format!("right lines {lines} visited {visits}")];
-            if lines > MOST_LINES as u64 {
+            if lines > tree.version.most_lines as u64 {
                 text.push("list too long".into());
             } else {
                 let closed = oracle::walk(&task, GRANT).lines;
-                text.extend(closed.iter().map(|line| closed_case(line, facts)));
+                text.extend(closed.iter().map(|line| closed_case(tree, line)));
             }
             text
         }
@@ -61,16 +61,16 @@ fn refused(block: &str, refusal: Refusal) -> String {
     format!("refused {block} {number} at {place}")
 }
 
-fn closed_case(line: &Line, facts: u8) -> String {
+fn closed_case(problem: &Problem, line: &Line) -> String {
     let kind = ["no-start", "carries"][usize::from(line.kind)];
-    format!("{kind} {}", marks(line.value, line.k, facts))
+    format!("{kind} {}", marks(problem, line.value, line.k))
 }
 
 /// One mark for each fact; past the first `k` the value is not fixed.
-fn marks(value: u64, k: u8, facts: u8) -> String {
-    let fixed = values(value, k).into_iter();
+fn marks(problem: &Problem, value: u64, k: u8) -> String {
+    let fixed = problem.version.values(value, k).into_iter();
     fixed
         .map(|yes| if yes { '1' } else { '0' })
-        .chain(repeat_n('?', usize::from(facts - k)))
+        .chain(repeat_n('?', usize::from(problem.facts - k)))
         .collect()
 }

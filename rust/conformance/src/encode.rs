@@ -1,10 +1,11 @@
 //! Trees to blocks. Nothing is checked, so that unsound blocks can be made too.
 
 use crate::model::{Action, Formula, Kind, Line, Literal, Problem};
+use crate::version::{Version, DENIAL, HEADER, PLAN_VERSION};
 
 /// A block around a body: version, length, body.
-pub fn block(body: &[u8]) -> Vec<u8> {
-    let mut bytes = vec![1];
+pub fn block(version: &Version, body: &[u8]) -> Vec<u8> {
+    let mut bytes = vec![version.byte];
     bytes.extend((body.len() as u32).to_be_bytes());
     bytes.extend(body);
     bytes
@@ -12,14 +13,14 @@ pub fn block(body: &[u8]) -> Vec<u8> {
 
 /// Makes the length field agree with the bytes that follow, where there is one.
 pub fn mend(block: &mut [u8]) {
-    if block.len() >= 5 {
-        let length = (block.len() - 5) as u32;
-        block[1..5].copy_from_slice(&length.to_be_bytes());
+    if block.len() >= HEADER {
+        let length = (block.len() - HEADER) as u32;
+        block[1..HEADER].copy_from_slice(&length.to_be_bytes());
     }
 }
 
 pub fn literal(literal: Literal) -> u8 {
-    literal.fact + if literal.denied { 64 } else { 0 }
+    literal.fact + if literal.denied { DENIAL } else { 0 }
 }
 
 /// A formula's bytes without its length.
@@ -61,18 +62,19 @@ pub fn problem(problem: &Problem) -> Vec<u8> {
     body.extend(formula(&problem.initial));
     body.extend(formula(&problem.goal));
     body.extend(problem.actions.iter().flat_map(action));
-    block(&body)
+    block(&problem.version, &body)
 }
 
 pub fn plan(steps: &[u8]) -> Vec<u8> {
-    block(steps)
+    block(&PLAN_VERSION, steps)
 }
 
-pub fn list(lines: &[Line]) -> Vec<u8> {
+pub fn list(version: &Version, lines: &[Line]) -> Vec<u8> {
     let mut body = Vec::new();
     for line in lines {
         body.extend([line.kind, line.k]);
-        body.extend(&line.value.to_be_bytes()[2..]);
+        let value = line.value.to_be_bytes();
+        body.extend(&value[value.len() - version.value_bytes()..]);
     }
-    block(&body)
+    block(version, &body)
 }

@@ -6,6 +6,7 @@
 //! compares a library's whole answers and buffers with the oracle's. [`desk`] is
 //! what the desk program prints. [`families`] are problems of any size with right
 //! plans, and [`examples`] the files of the folder of that name, made of them.
+//! [`version`] has the numbers that all of them go by.
 
 pub mod answer;
 pub mod desk;
@@ -17,3 +18,4 @@ pub mod harness;
 pub mod model;
 pub mod oracle;
 pub mod trial;
+pub mod version;

@@ -1,5 +1,7 @@
 //! Problems and lists as trees, with nothing said about bytes.
 
+use crate::version::Version;
+
 /// A fact or its denial.
 #[derive(Clone, Copy, Debug, PartialEq, Eq)]
 pub struct Literal {
@@ -93,6 +95,7 @@ pub struct Action {
 
 #[derive(Clone, Debug, PartialEq, Eq)]
 pub struct Problem {
+    pub version: Version,
     pub facts: u8,
     pub initial: Formula,
     pub goal: Formula,
@@ -105,21 +108,4 @@ pub struct Line {
     pub kind: u8,
     pub k: u8,
     pub value: u64,
-}
-
-/// The state in which exactly these facts are true: fact 0 is bit 47.
-pub fn number(values: &[bool]) -> u64 {
-    values
-        .iter()
-        .enumerate()
-        .filter(|(_, value)| **value)
-        .map(|(fact, _)| 1 << (47 - fact))
-        .sum()
-}
-
-/// The values of the first `facts` facts in a state.
-pub fn values(state: u64, facts: u8) -> Vec<bool> {
-    (0..facts)
-        .map(|fact| state & (1 << (47 - fact)) != 0)
-        .collect()
 }

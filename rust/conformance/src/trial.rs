@@ -1,7 +1,8 @@
-//! Problem P of document 01, by its bytes.
+//! Problem P of document 01, by its bytes, and what the desk program prints.
 
 use crate::encode;
 use crate::harness::Case;
+use crate::version::VERSION_1;
 
 /// The bytes of hex digits, with any spaces between.
 pub fn hex(digits: &str) -> Vec<u8> {
@@ -26,13 +27,21 @@ pub fn list() -> Vec<u8> {
     hex("01 00000018 00 02 000000000000 01 02 400000000000 01 01 800000000000")
 }
 
+/// The print for P and its plan 0, 1. A test holds the real program to it.
+pub const PRINT: &str = "\
+right lines 3 visited 5
+no-start 00?
+carries 01?
+carries 1??
+";
+
 /// P with this plan, all the grant there is and room for any list.
 pub fn with_plan(steps: &[u8]) -> Case {
     Case {
         problem: problem(),
         plan: encode::plan(steps),
         grant: u64::MAX,
-        room: 65_533,
+        room: VERSION_1.most_bytes(),
         ..Case::default()
     }
 }

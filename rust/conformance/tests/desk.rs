@@ -109,13 +109,7 @@ fn the_print_of_document_01() {
     let folder = folder("document-01");
     let problem = file(&folder, "problem", &trial::problem());
     let plan = file(&folder, "plan", &encode::plan(&[0, 1]));
-    let expected = "\
-right lines 3 visited 5
-no-start 00?
-carries 01?
-carries 1??
-";
-    prints("P", &[problem, plan], expected.as_bytes());
+    prints("P", &[problem, plan], trial::PRINT.as_bytes());
 }
 
 #[test]

@@ -6,9 +6,10 @@ use conformance::answer::{words, Answer};
 use conformance::encode;
 use conformance::gen::{case_of_round, sound_case, Rng};
 use conformance::harness::{check, expected, Arena, Case, Operation, Subject};
-use conformance::model::{number, values, Formula};
+use conformance::model::Formula;
 use conformance::oracle::{self, holds};
 use conformance::trial;
+use conformance::version::{HEADER, VERSION_1};
 use support::Library;
 
 /// The library with one word of one operation's answer changed.
@@ -61,7 +62,7 @@ impl Subject for Tampered {
 fn each_word_of_each_answer_is_compared() {
     let mut rng = Rng::new(0x307d);
     for round in 0..60 {
-        let case = case_of_round(&mut rng, round);
+        let case = case_of_round(&mut rng, &VERSION_1, round);
         for operation in Operation::ALL {
             check(&Library, operation, &case).expect("the library is as it should be");
             for word in 0..8 {
@@ -205,15 +206,18 @@ impl Subject for Fault {
             (Fault::RunIsNeverMissed, 2) => words(&[1]),
             (Fault::GoalReadAtTheStart, 1 | 2) => {
                 let problem = oracle::read_problem(problem).expect("it is sound");
-                reached(holds(&problem.goal, &values(state, problem.facts)))
+                reached(holds(
+                    &problem.goal,
+                    &problem.version.values(state, problem.facts),
+                ))
             }
-            (Fault::OnlyStep0IsObeyed, _) if plan.len() > 5 => {
-                Oracle.run(problem, &encode::plan(&plan[5..6]), state)
+            (Fault::OnlyStep0IsObeyed, _) if plan.len() > HEADER => {
+                Oracle.run(problem, &encode::plan(&plan[HEADER..=HEADER]), state)
             }
             (Fault::EffectsStoredOneByOne | Fault::ClearWinsOverSet, 1 | 2) => {
                 let problem = oracle::read_problem(problem).expect("it is sound");
-                let mut now = values(state, problem.facts);
-                for step in &plan[5..] {
+                let mut now = problem.version.values(state, problem.facts);
+                for step in &plan[HEADER..] {
                     let before = now.clone();
                     // Later entries win here, and the clears come last.
                     for effect in &problem.actions[usize::from(*step)].effects {
@@ -235,7 +239,7 @@ impl Subject for Fault {
         match (self, answer) {
             (Fault::AllPlansWrong, [1, visits, ..]) => words(&[2, visits, 0, 2]),
             (Fault::AlwaysTheSameState, [2, visits, _, outcome, step, ..]) => {
-                words(&[2, visits, 1 << 47, outcome, step])
+                words(&[2, visits, VERSION_1.bit(0), outcome, step])
             }
             (Fault::VisitsMadeUp, [1, visits, lines, ..]) => words(&[1, visits + lines - 1, lines]),
             (Fault::FailingStateNeedNotBeAStart, [2, ..]) => {
@@ -270,7 +274,7 @@ impl Subject for Fault {
 
     fn follow_list(&self, problem: &[u8], plan: &[u8], list: &[u8]) -> Answer {
         let answer = Oracle.follow_list(problem, plan, list);
-        let passes = words(&[1, list.len() as u64 / 8]);
+        let passes = words(&[1, (list.len() / VERSION_1.line_bytes) as u64]);
         match (self, answer) {
             (Fault::NoListPasses, [1, ..]) => words(&[0, 69, 0]),
             (Fault::EveryListPasses, [0, 65..=70, ..]) => passes,
@@ -279,7 +283,7 @@ impl Subject for Fault {
             (Fault::EmptyCarriesToo, [0, 69, line, ..]) => {
                 // The line claims that it carries, and is empty.
                 let mut empty = list.to_vec();
-                let kind = std::mem::take(&mut empty[5 + 8 * line as usize]);
+                let kind = std::mem::take(&mut empty[VERSION_1.list_bytes(line as usize)]);
                 match Oracle.follow_list(problem, plan, &empty) {
                     [0, 69, again, ..] if again == line => answer,
                     _ if kind == 1 => passes,
@@ -296,7 +300,7 @@ fn each_wrong_idea_is_found_out() {
     for fault in WRONG_IDEAS {
         let mut rng = Rng::new(0xfa17);
         let found = (0..2_000).any(|_| {
-            let case = sound_case(&mut rng);
+            let case = sound_case(&mut rng, &VERSION_1);
             let wrong = |operation: &Operation| check(&fault, *operation, &case).is_err();
             Operation::ALL.iter().any(wrong)
         });
@@ -327,13 +331,13 @@ fn each_byte_of_the_buffer_and_its_guards_is_compared() {
 fn the_oracle_without_a_fault_is_not_found_out() {
     let mut rng = Rng::new(0xfa17);
     for _ in 0..500 {
-        let case = sound_case(&mut rng);
+        let case = sound_case(&mut rng, &VERSION_1);
         for operation in Operation::ALL {
             check(&Oracle, operation, &case).expect("the same twice");
         }
     }
     let list = trial::list();
-    let state = number(&[false, true, true]);
+    let state = VERSION_1.number(&[false, true, true]);
     let case = Case {
         list,
         state,

@@ -7,9 +7,10 @@ use std::collections::BTreeSet;
 use conformance::gen::{arbitrary_case, case_of_round, damaged_case, sound_case, wide_case, Rng};
 use conformance::harness::{check_all, Case, Operation};
 use conformance::oracle;
+use conformance::version::{Version, VERSION_1};
 use support::Library;
 
-type Maker = fn(&mut Rng) -> Case;
+type Maker = fn(&mut Rng, &Version) -> Case;
 
 const SWEEPS: [(u64, usize, Maker); 4] = [
     (0x1a51, 20_000, sound_case),
@@ -31,7 +32,7 @@ fn every_operation_answers_as_the_oracle_and_every_refusal_is_met() {
     for (seed, count, make) in SWEEPS {
         let mut rng = Rng::new(seed);
         for round in 0..count {
-            let case = make(&mut rng);
+            let case = make(&mut rng, &VERSION_1);
             let answers = match check_all(&Library, &case) {
                 Ok(answers) => answers,
                 Err(difference) => panic!("seed {seed:x}, round {round}: {difference:?}"),
@@ -106,7 +107,7 @@ fn verdict(verdict: oracle::Verdict) -> larkhammock::Verdict {
 fn the_safe_crate_says_the_same() {
     let mut rng = Rng::new(0x5afe);
     for round in 0..4_000 {
-        let case = case_of_round(&mut rng, round);
+        let case = case_of_round(&mut rng, &VERSION_1, round);
         let Case {
             problem,
             plan,

@@ -8,6 +8,7 @@ use conformance::gen::{altered, cover, every_cover, refined, right_task, task, A
 use conformance::harness::{check, Case, Operation};
 use conformance::model::Line;
 use conformance::oracle::{lowest_failing, Task, ENUMERABLE};
+use conformance::version::VERSION_1;
 use support::Library;
 
 /// The blocks of a task, with all the grant there is.
@@ -18,6 +19,11 @@ fn case_of(task: &Task) -> Case {
         grant: u64::MAX,
         ..Case::default()
     }
+}
+
+/// The list block of these lines.
+fn block(task: &Task, lines: &[Line]) -> Vec<u8> {
+    encode::list(&task.problem.version, lines)
 }
 
 /// Follows a list as the oracle does: its lines, if it passes.
@@ -42,7 +48,7 @@ fn written(case: &Case) -> Option<Vec<u8>> {
         Ok(larkhammock::Verdict::Wrong { .. }) => return None,
         other => panic!("{other:?}"),
     };
-    let room = 5 + 8 * lines + 3;
+    let room = VERSION_1.list_bytes(lines) + 3;
     let case = Case {
         room,
         ..case.clone()
@@ -60,7 +66,11 @@ fn written(case: &Case) -> Option<Vec<u8>> {
 /// A task whose states can be enumerated.
 fn small_task(rng: &mut Rng, right: bool) -> Task {
     loop {
-        let task = if right { right_task(rng) } else { task(rng) };
+        let task = if right {
+            right_task(rng, &VERSION_1)
+        } else {
+            task(rng, &VERSION_1)
+        };
         if task.problem.facts <= ENUMERABLE && lowest_failing(&task).is_none() == right {
             return task;
         }
@@ -77,13 +87,13 @@ fn what_is_written_passes_and_nothing_shorter_does() {
         let case = case_of(&task);
         let list = written(&case).expect("no state fails");
         let lines: Vec<Line> = cover(&task);
-        assert_eq!(list, encode::list(&lines), "the walk's closed cases");
+        assert_eq!(list, block(&task, &lines), "the walk's closed cases");
         assert_eq!(follow(&case, list), Some(lines.len() as u64));
 
         for (i, alteration) in Alteration::ALL.into_iter().enumerate() {
             let mut other = lines.clone();
             alteration.apply(&mut rng, &task, &mut other);
-            match follow(&case, encode::list(&other)) {
+            match follow(&case, block(&task, &other)) {
                 Some(count) => {
                     assert_eq!(count, other.len() as u64);
                     assert!(other.len() >= lines.len());
@@ -96,12 +106,12 @@ fn what_is_written_passes_and_nothing_shorter_does() {
         // Many alterations of a list with more lines than it needs.
         let mut other = refined(&mut rng, &task, &lines);
         assert_eq!(
-            follow(&case, encode::list(&other)),
+            follow(&case, block(&task, &other)),
             Some(other.len() as u64)
         );
         for _ in 0..4 {
             other = altered(&mut rng, &task, &other);
-            if follow(&case, encode::list(&other)).is_some() {
+            if follow(&case, block(&task, &other)).is_some() {
                 assert!(other.len() >= lines.len());
             }
         }
@@ -125,12 +135,12 @@ fn no_list_passes_for_a_wrong_plan() {
         assert_eq!(written(&case), None);
         // Every claim that can be so is so: only the failing states' are not.
         let mut lines = cover(&task);
-        assert_eq!(follow(&case, encode::list(&lines)), None);
+        assert_eq!(follow(&case, block(&task, &lines)), None);
         let finer = refined(&mut rng, &task, &lines);
-        assert_eq!(follow(&case, encode::list(&finer)), None);
+        assert_eq!(follow(&case, block(&task, &finer)), None);
         for _ in 0..6 {
             lines = altered(&mut rng, &task, &lines);
-            assert_eq!(follow(&case, encode::list(&lines)), None);
+            assert_eq!(follow(&case, block(&task, &lines)), None);
         }
     }
 }
@@ -139,12 +149,14 @@ fn no_list_passes_for_a_wrong_plan() {
 #[test]
 fn every_cover_of_three_facts() {
     let mut rng = Rng::new(0xc03e5);
-    let covers: Vec<_> = (0..=3).map(every_cover).collect();
+    let covers: Vec<_> = (0..=3)
+        .map(|facts| every_cover(&VERSION_1, facts))
+        .collect();
     assert_eq!(covers[3].len(), 1_446);
     let mut right = 0;
     for _ in 0..250 {
         let task = loop {
-            let task = right_task(&mut rng);
+            let task = right_task(&mut rng, &VERSION_1);
             if task.problem.facts <= 3 {
                 break task;
             }
@@ -152,7 +164,7 @@ fn every_cover_of_three_facts() {
         let case = case_of(&task);
         let passing = covers[usize::from(task.problem.facts)]
             .iter()
-            .map(|lines| encode::list(lines))
+            .map(|lines| block(&task, lines))
             .filter(|list| follow(&case, list.clone()).is_some());
         let shortest = passing.map(|list| list.len()).min();
         // The written list is among them, and is the shortest; without it none.

@@ -2,8 +2,9 @@
 
 use conformance::encode;
 use conformance::gen::{right_task, task, Rng};
-use conformance::model::{number, Line};
+use conformance::model::Line;
 use conformance::oracle::{self, closes, lowest_failing, walk, End, Task, Verdict};
+use conformance::version::{Version, VERSION_1};
 
 /// Every case, each before the ones that it splits into, no before yes.
 fn every_case(facts: usize) -> Vec<Vec<bool>> {
@@ -21,6 +22,7 @@ fn every_case(facts: usize) -> Vec<Vec<bool>> {
 /// The cases whose parents are all open, up to the lowest failing state.
 fn visited(task: &Task) -> Vec<Vec<bool>> {
     let failing = lowest_failing(task).map(|(state, _)| state);
+    let version = &task.problem.version;
     let facts = task.problem.facts.into();
     let open_above = |case: &[bool]| (0..case.len()).all(|k| closes(task, &case[..k]).is_none());
     let mut visited: Vec<Vec<bool>> = every_case(facts)
@@ -29,7 +31,7 @@ fn visited(task: &Task) -> Vec<Vec<bool>> {
         .collect();
     let last = visited
         .iter()
-        .position(|case| case.len() == facts && Some(number(case)) == failing);
+        .position(|case| case.len() == facts && Some(version.number(case)) == failing);
     if let Some(last) = last {
         visited.truncate(last + 1);
     }
@@ -42,9 +44,9 @@ fn the_walk_visits_the_cases_whose_parents_are_open() {
     let mut rights = 0;
     for round in 0..2_000 {
         let task = if round % 2 == 0 {
-            right_task(&mut rng)
+            right_task(&mut rng, &VERSION_1)
         } else {
-            task(&mut rng)
+            task(&mut rng, &VERSION_1)
         };
         if task.problem.facts > 8 || task.plan.len() > 20 {
             continue;
@@ -58,7 +60,7 @@ fn the_walk_visits_the_cases_whose_parents_are_open() {
                 Some(Line {
                     kind: closes(&task, case)?,
                     k: case.len() as u8,
-                    value: number(case),
+                    value: task.problem.version.number(case),
                 })
             })
             .collect();
@@ -75,7 +77,7 @@ fn the_walk_visits_the_cases_whose_parents_are_open() {
 fn sound_blocks_are_read_back() {
     let mut rng = Rng::new(0xbac4);
     for _ in 0..2_000 {
-        let task = task(&mut rng);
+        let task = task(&mut rng, &VERSION_1);
         let (problem, plan) = (encode::problem(&task.problem), encode::plan(&task.plan));
         assert_eq!(oracle::read_problem(&problem), Ok(task.problem));
         assert_eq!(
@@ -87,4 +89,21 @@ fn sound_blocks_are_read_back() {
             Ok(Verdict::Undecided { visits: 0 })
         );
     }
+}
+
+/// Where a state is a whole word, the end of a full cover is no word, and no
+/// shift or sum may lose it.
+#[test]
+fn a_state_can_be_a_whole_word() {
+    let wide = Version {
+        most_facts: 64,
+        width: 64,
+        ..VERSION_1
+    };
+    assert_eq!(wide.numbers(), u128::from(u64::MAX) + 1);
+    assert_eq!(wide.covered(0), wide.numbers());
+    assert_eq!(wide.covered(64), 1);
+    assert_eq!((wide.bit(0), wide.bit(63)), (1 << 63, 1));
+    assert_eq!(wide.number(&[true; 64]), u64::MAX);
+    assert_eq!(wide.values(u64::MAX, 64), [true; 64]);
 }

@@ -7,6 +7,7 @@ use conformance::harness::Operation::*;
 use conformance::harness::{self, Case, Operation};
 use conformance::model::{Action, Effect, Formula, Line, Problem};
 use conformance::trial::{self, hex, with_plan};
+use conformance::version::VERSION_1;
 use support::Library;
 
 const S010: u64 = 0x4000_0000_0000;
@@ -24,6 +25,7 @@ fn p_tree() -> Problem {
         effects: vec![Effect::sets(2, Formula::fact(fact))],
     };
     Problem {
+        version: VERSION_1,
         facts: 3,
         initial: Formula::all([
             Formula::any([Formula::fact(0), Formula::fact(1)]),
@@ -153,7 +155,11 @@ fn lists_that_are_like_the_written_one() {
         ..last
     };
     let follows = |lines: &[Line], named: &[u64]| {
-        expect(FollowList, &with_list(encode::list(lines)), named);
+        expect(
+            FollowList,
+            &with_list(encode::list(&VERSION_1, lines)),
+            named,
+        );
     };
     follows(&[first, second, last], &[1, 3]);
     follows(&[first, second, split(0), split(S010)], &[1, 4]);
@@ -218,6 +224,7 @@ fn set_wins_over_clear() {
 /// A problem of two facts with one action, and a state to run it from.
 fn small(action: Action, initial: Formula, goal: Formula, steps: &[u8]) -> Case {
     let problem = Problem {
+        version: VERSION_1,
         facts: 2,
         initial,
         goal,

@@ -3,6 +3,7 @@
 
 use super::action;
 use crate::model::{Action, Effect, Formula, Problem};
+use crate::version::VERSION_1;
 
 /// Fact i: package i holds a bomb. The last fact: the toilet is clogged.
 pub fn problem(packages: u8) -> Problem {
@@ -17,6 +18,7 @@ pub fn problem(packages: u8) -> Problem {
     let mut actions: Vec<Action> = (0..packages).map(dunk).collect();
     actions.push(action(vec![Effect::clears(clogged, Formula::always())]));
     Problem {
+        version: VERSION_1,
         facts: packages + 1,
         initial: Formula::any((0..packages).map(Formula::fact)),
         goal: Formula::all((0..packages).map(Formula::not)),

@@ -3,6 +3,7 @@
 
 use super::{action, exactly_one, shift, shift_back, times};
 use crate::model::{Formula, Problem};
+use crate::version::VERSION_1;
 
 const NORTH: u8 = 0;
 const SOUTH: u8 = 1;
@@ -16,6 +17,7 @@ pub fn problem(side: u8) -> Problem {
     let mut somewhere = exactly_one(&rows);
     somewhere.extend(exactly_one(&columns));
     Problem {
+        version: VERSION_1,
         facts: 2 * side,
         initial: Formula::all(somewhere),
         goal: Formula::all([Formula::fact(side / 2), Formula::fact(side + side / 2)]),

@@ -3,6 +3,7 @@
 
 use super::action;
 use crate::model::{Action, Effect, Formula, Problem};
+use crate::version::VERSION_1;
 
 /// Batcher's odd-even merge sort, each comparator as its two channels.
 pub fn comparators(channels: u8) -> Vec<(u8, u8)> {
@@ -36,6 +37,7 @@ fn comparator((upper, lower): (u8, u8)) -> Action {
 pub fn problem(channels: u8) -> Problem {
     let in_order = |i: u8| Formula::any([Formula::not(i), Formula::fact(i + 1)]);
     Problem {
+        version: VERSION_1,
         facts: channels,
         initial: Formula::always(),
         goal: Formula::all((0..channels - 1).map(in_order)),

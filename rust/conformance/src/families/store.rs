@@ -4,6 +4,7 @@
 
 use super::{action, exactly_one, shift, shift_back, times};
 use crate::model::{Action, Effect, Formula, Problem};
+use crate::version::VERSION_1;
 
 #[derive(Clone, Copy)]
 pub struct Store {
@@ -71,6 +72,7 @@ impl Store {
         actions.extend(each().map(|c| self.moves(c, shift(&self.places(c)))));
         actions.extend(each().map(|c| self.unloads(c)));
         Problem {
+            version: VERSION_1,
             facts: self.carriages * (self.aisles + 1),
             initial: Formula::all(each().flat_map(|c| exactly_one(&self.places(c)))),
             goal: Formula::all(each().flat_map(|c| self.is_home(c))),

@@ -4,10 +4,11 @@ use super::formulas::formula;
 use super::Rng;
 use crate::encode;
 use crate::model::{Action, Effect, Formula, Kind, Literal, Problem};
+use crate::version::{Version, DEEPEST, DENIAL, HEADER};
 
 /// A block with bytes changed, lost or added, and its length mended or not.
 /// Now and then it grows past `longest`.
-pub fn damaged(rng: &mut Rng, block: &[u8], longest: usize) -> Vec<u8> {
+pub fn damaged(rng: &mut Rng, version: &Version, block: &[u8], longest: usize) -> Vec<u8> {
     let mut bytes = block.to_vec();
     for _ in 0..rng.between(1, 2) {
         // Most blocks are short and their beginning says most.
@@ -19,9 +20,9 @@ pub fn damaged(rng: &mut Rng, block: &[u8], longest: usize) -> Vec<u8> {
             1 if !bytes.is_empty() => {
                 bytes.remove(at);
             }
-            2 => bytes.insert(at.min(bytes.len()), telling(rng)),
-            3 => bytes.push(telling(rng)),
-            4 if !bytes.is_empty() => bytes[at] = telling(rng),
+            2 => bytes.insert(at.min(bytes.len()), telling(rng, version)),
+            3 => bytes.push(telling(rng, version)),
+            4 if !bytes.is_empty() => bytes[at] = telling(rng, version),
             5 if !bytes.is_empty() => bytes[at] ^= 1 << rng.below(8),
             6 if !bytes.is_empty() => bytes[at] = bytes[at].wrapping_add(1),
             _ if !bytes.is_empty() => bytes[at] = bytes[at].wrapping_sub(1),
@@ -35,19 +36,26 @@ pub fn damaged(rng: &mut Rng, block: &[u8], longest: usize) -> Vec<u8> {
 }
 
 /// A byte that means something in some place, more often than not.
-fn telling(rng: &mut Rng) -> u8 {
+fn telling(rng: &mut Rng, version: &Version) -> u8 {
+    let (facts, effects) = (version.most_facts, version.most_effects);
     match rng.below(4) {
         0 => rng.pick(&[0x80, 0x81]),
-        1 => rng.pick(&[
-            0, 1, 2, 4, 47, 48, 63, 64, 65, 96, 97, 111, 112, 127, 0x82, 255,
-        ]),
+        1 => {
+            let edges = [
+                [0, 1, 2, 4],
+                [facts - 1, facts, DENIAL - 1, DENIAL],
+                [DENIAL + 1, effects, effects + 1, DENIAL + facts - 1],
+                [DENIAL + facts, 127, 0x82, 255],
+            ];
+            rng.pick(edges.as_flattened())
+        }
         2 => rng.below(9) as u8,
         _ => rng.byte(),
     }
 }
 
 /// Bytes that nobody meant: of any length, or with a sound header.
-pub fn arbitrary(rng: &mut Rng) -> Vec<u8> {
+pub fn arbitrary(rng: &mut Rng, version: &Version) -> Vec<u8> {
     let length = match rng.below(20) {
         0 => rng.below(70_000),
         1..=4 => rng.below(8),
@@ -55,10 +63,16 @@ pub fn arbitrary(rng: &mut Rng) -> Vec<u8> {
     };
     let wild = rng.chance(1, 3);
     let mut bytes: Vec<u8> = (0..length)
-        .map(|_| if wild { rng.byte() } else { telling(rng) })
+        .map(|_| {
+            if wild {
+                rng.byte()
+            } else {
+                telling(rng, version)
+            }
+        })
         .collect();
-    if rng.chance(3, 4) && length >= 5 {
-        bytes[0] = 1;
+    if rng.chance(3, 4) && length >= HEADER {
+        bytes[0] = version.byte;
         encode::mend(&mut bytes);
     }
     bytes
@@ -66,7 +80,7 @@ pub fn arbitrary(rng: &mut Rng) -> Vec<u8> {
 
 /// A problem block with sound counts and lengths around formulas of bytes that
 /// nobody meant.
-pub fn scribbled(rng: &mut Rng) -> Vec<u8> {
+pub fn scribbled(rng: &mut Rng, version: &Version) -> Vec<u8> {
     let facts = rng.between(1, 8);
     let actions = rng.below(3);
     let mut body = vec![facts as u8, actions as u8];
@@ -75,8 +89,8 @@ pub fn scribbled(rng: &mut Rng) -> Vec<u8> {
         body.extend([0, length as u8]);
         let bytes = (0..length).map(|_| match rng.below(8) {
             0..=2 => rng.pick(&[0x80, 0x81]),
-            3 => 64 + rng.below(facts) as u8,
-            4 if rng.chance(1, 4) => telling(rng),
+            3 => DENIAL + rng.below(facts) as u8,
+            4 if rng.chance(1, 4) => telling(rng, version),
             _ => rng.below(facts) as u8,
         });
         body.extend(bytes);
@@ -88,12 +102,12 @@ pub fn scribbled(rng: &mut Rng) -> Vec<u8> {
         body.extend([1, 0]);
         scribble(&mut body);
     }
-    encode::block(&body)
+    encode::block(version, &body)
 }
 
 /// Puts one fault into a problem that no change of single bytes makes often.
 pub fn unsound(rng: &mut Rng, problem: &mut Problem) {
-    let facts = problem.facts;
+    let Problem { version, facts, .. } = *problem;
     let wrong = wrong_formula(rng, facts);
     match rng.below(6) {
         0 => problem.initial = wrong,
@@ -122,12 +136,15 @@ pub fn unsound(rng: &mut Rng, problem: &mut Problem) {
         }
         _ => problem.actions.push(Action {
             precondition: Formula::always(),
-            effects: vec![Effect::clears(0, Formula::never()); rng.between(97, 255)],
+            effects: vec![
+                Effect::clears(0, Formula::never());
+                rng.between(usize::from(version.most_effects) + 1, 255)
+            ],
         }),
     }
     // Two kinds of fault in one block: the first met decides.
     if rng.chance(1, 8) {
-        problem.facts = rng.pick(&[0, 1, 49, 255]);
+        problem.facts = rng.pick(&[0, 1, version.most_facts + 1, 255]);
     }
 }
 
@@ -137,7 +154,7 @@ fn wrong_formula(rng: &mut Rng, facts: u8) -> Formula {
     match rng.below(4) {
         // Groups that go too deep, by one or by many.
         0 | 1 => {
-            for _ in 0..rng.between(8, 12) {
+            for _ in 0..rng.between(DEEPEST, DEEPEST + 4) {
                 inner = Formula::Group(kind, vec![inner]);
                 kind = kind.other();
             }

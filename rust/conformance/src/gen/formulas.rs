@@ -2,8 +2,7 @@
 
 use super::Rng;
 use crate::model::{Formula, Kind};
-
-const DEEPEST: usize = 8;
+use crate::version::{DEEPEST, MOST_FORMULA_BYTES};
 
 pub fn formula(rng: &mut Rng, facts: u8) -> Formula {
     match rng.below(12) {
@@ -52,7 +51,9 @@ fn chain(rng: &mut Rng, facts: u8) -> Formula {
 /// An "all" of "any", or the reverse, as wide as a formula may be or less.
 fn clauses(rng: &mut Rng, facts: u8) -> Formula {
     let outer = kind(rng);
-    let most = if rng.chance(1, 20) { 170 } else { 6 };
+    // A clause of four literals, the most it has, is six bytes.
+    let widest = (MOST_FORMULA_BYTES - 2) / 6;
+    let most = if rng.chance(1, 20) { widest } else { 6 };
     let clauses = (0..rng.between(1, most)).map(|_| {
         let literals = (0..rng.below(5)).map(|_| literal(rng, facts)).collect();
         Formula::Group(outer.other(), literals)

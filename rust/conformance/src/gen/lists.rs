@@ -1,8 +1,9 @@
 //! Case lists made from a walk's lines.
 
 use super::Rng;
-use crate::model::{values, Line};
+use crate::model::Line;
 use crate::oracle::{closes, Task};
+use crate::version::Version;
 
 /// A change to one line of a list, or to two.
 #[derive(Clone, Copy, Debug, PartialEq, Eq)]
@@ -37,6 +38,7 @@ impl Alteration {
         if lines.is_empty() {
             return;
         }
+        let version = &task.problem.version;
         let at = rng.below(lines.len());
         let line = lines[at];
         match self {
@@ -50,19 +52,21 @@ impl Alteration {
             }
             Alteration::Split if line.k < task.problem.facts => {
                 let claimed = |half: Line| Line {
-                    kind: closes(task, &values(half.value, half.k)).unwrap_or(half.kind),
+                    kind: closes(task, &version.values(half.value, half.k)).unwrap_or(half.kind),
                     ..half
                 };
-                lines.splice(at..=at, halves(line).map(claimed));
+                lines.splice(at..=at, halves(version, line).map(claimed));
             }
-            Alteration::Joined if (1..=48).contains(&line.k) && at + 1 < lines.len() => {
+            Alteration::Joined
+                if (1..=version.most_facts).contains(&line.k) && at + 1 < lines.len() =>
+            {
                 lines[at].k -= 1;
-                lines[at].value &= !(1 << (48 - line.k));
+                lines[at].value &= !version.bit(line.k - 1);
                 lines.remove(at + 1);
             }
             Alteration::Split | Alteration::Joined => {}
             Alteration::Edited => edit(rng, task, &mut lines[at]),
-            Alteration::Scrambled => scramble(rng, &mut lines[at]),
+            Alteration::Scrambled => scramble(rng, version, &mut lines[at]),
         }
     }
 }
@@ -72,15 +76,15 @@ fn edit(rng: &mut Rng, task: &Task, line: &mut Line) {
     match rng.below(3) {
         0 => line.kind ^= 1,
         1 => line.k = rng.below(facts + 2) as u8,
-        _ => line.value ^= 1 << (47 - rng.below(facts)),
+        _ => line.value ^= task.problem.version.bit(rng.below(facts) as u8),
     }
 }
 
-fn scramble(rng: &mut Rng, line: &mut Line) {
+fn scramble(rng: &mut Rng, version: &Version, line: &mut Line) {
     match rng.below(3) {
         0 => line.kind = rng.byte(),
         1 => line.k = rng.byte(),
-        _ => line.value = rng.word() >> 16,
+        _ => line.value = rng.word() >> (u64::BITS - version.width),
     }
 }
 
@@ -107,6 +111,7 @@ pub fn refined(rng: &mut Rng, task: &Task, lines: &[Line]) -> Vec<Line> {
 /// It is the walk's list, but does not stop at a failing state: there it claims
 /// what is not so.
 pub fn cover(task: &Task) -> Vec<Line> {
+    let version = &task.problem.version;
     let mut done = Vec::new();
     let mut open = vec![Line {
         kind: 1,
@@ -114,8 +119,8 @@ pub fn cover(task: &Task) -> Vec<Line> {
         value: 0,
     }];
     while let Some(line) = open.pop() {
-        match closes(task, &values(line.value, line.k)) {
-            None if line.k < task.problem.facts => open.extend(halves(line).iter().rev()),
+        match closes(task, &version.values(line.value, line.k)) {
+            None if line.k < task.problem.facts => open.extend(halves(version, line).iter().rev()),
             claim => done.push(Line {
                 kind: claim.unwrap_or(1),
                 ..line
@@ -126,11 +131,11 @@ pub fn cover(task: &Task) -> Vec<Line> {
 }
 
 /// Every cover of all states by cases of so many facts, with every claim.
-pub fn every_cover(facts: u8) -> Vec<Vec<Line>> {
-    fn below(line: Line, facts: u8) -> Vec<Vec<Line>> {
+pub fn every_cover(version: &Version, facts: u8) -> Vec<Vec<Line>> {
+    fn below(version: &Version, line: Line, facts: u8) -> Vec<Vec<Line>> {
         let mut covers: Vec<Vec<Line>> = [0, 1].map(|kind| vec![Line { kind, ..line }]).into();
         if line.k < facts {
-            let [left, right] = halves(line).map(|half| below(half, facts));
+            let [left, right] = halves(version, line).map(|half| below(version, half, facts));
             for left in &left {
                 covers.extend(right.iter().map(|right| [&left[..], right].concat()));
             }
@@ -142,14 +147,13 @@ pub fn every_cover(facts: u8) -> Vec<Vec<Line>> {
         k: 0,
         value: 0,
     };
-    below(whole, facts)
+    below(version, whole, facts)
 }
 
 /// A case in two on its next fact, with the same claim.
-fn halves(line: Line) -> [Line; 2] {
-    let k = line.k + 1;
-    [0, 1 << (48 - k)].map(|bit| Line {
-        k,
+fn halves(version: &Version, line: Line) -> [Line; 2] {
+    [0, version.bit(line.k)].map(|bit| Line {
+        k: line.k + 1,
         value: line.value | bit,
         ..line
     })

@@ -8,8 +8,8 @@ mod rng;
 
 use crate::encode;
 use crate::harness::Case;
-use crate::model::number;
 use crate::oracle::{walk, End, Task};
+use crate::version::{Version, MOST_PLAN_BYTES, MOST_PROBLEM_BYTES, PLAN_VERSION};
 
 use damage::{arbitrary, damaged, scribbled, unsound};
 pub use formulas::formula_of_size;
@@ -22,64 +22,64 @@ pub use rng::Rng;
 const PATIENCE: u64 = 1_500;
 
 /// Arguments for all six operations, all of them sound.
-pub fn sound_case(rng: &mut Rng) -> Case {
+pub fn sound_case(rng: &mut Rng, version: &Version) -> Case {
     let task = if rng.chance(1, 2) {
-        right_task(rng)
+        right_task(rng, version)
     } else {
-        task(rng)
+        task(rng, version)
     };
     case_of(rng, &task)
 }
 
 /// A sound case whose plan is right with so many lines that no block holds
 /// them, or nearly.
-pub fn wide_case(rng: &mut Rng) -> Case {
-    let task = wide_task(rng);
+pub fn wide_case(rng: &mut Rng, version: &Version) -> Case {
+    let task = wide_task(rng, version);
     let mut case = case_of(rng, &task);
     settle(rng, &mut case, 40_000);
     case
 }
 
 /// A case of which one or more blocks are damaged.
-pub fn damaged_case(rng: &mut Rng) -> Case {
-    let mut case = sound_case(rng);
+pub fn damaged_case(rng: &mut Rng, version: &Version) -> Case {
+    let mut case = sound_case(rng, version);
     match rng.below(8) {
         0 | 1 => {
-            let mut task = task(rng);
+            let mut task = task(rng, version);
             unsound(rng, &mut task.problem);
             case.problem = encode::problem(&task.problem);
         }
-        2..=4 => case.problem = damaged(rng, &case.problem, 32_768),
-        5 => case.plan = damaged(rng, &case.plan, 261),
-        _ => case.list = damaged(rng, &case.list, 65_533),
+        2..=4 => case.problem = damaged(rng, version, &case.problem, MOST_PROBLEM_BYTES),
+        5 => case.plan = damaged(rng, version, &case.plan, MOST_PLAN_BYTES),
+        _ => case.list = damaged(rng, version, &case.list, version.most_bytes()),
     }
     if rng.chance(1, 8) {
-        case.plan = damaged(rng, &case.plan, 261);
+        case.plan = damaged(rng, version, &case.plan, MOST_PLAN_BYTES);
     }
     settle(rng, &mut case, PATIENCE);
     case
 }
 
 /// Sound in even rounds, damaged in odd ones.
-pub fn case_of_round(rng: &mut Rng, round: usize) -> Case {
+pub fn case_of_round(rng: &mut Rng, version: &Version, round: usize) -> Case {
     if round.is_multiple_of(2) {
-        sound_case(rng)
+        sound_case(rng, version)
     } else {
-        damaged_case(rng)
+        damaged_case(rng, version)
     }
 }
 
 /// A case of which some blocks are arbitrary bytes.
-pub fn arbitrary_case(rng: &mut Rng) -> Case {
-    let mut case = sound_case(rng);
+pub fn arbitrary_case(rng: &mut Rng, version: &Version) -> Case {
+    let mut case = sound_case(rng, version);
     match rng.below(4) {
-        0 => case.problem = arbitrary(rng),
-        1 => case.problem = scribbled(rng),
-        2 => case.plan = arbitrary(rng),
-        _ => case.list = arbitrary(rng),
+        0 => case.problem = arbitrary(rng, version),
+        1 => case.problem = scribbled(rng, version),
+        2 => case.plan = arbitrary(rng, &PLAN_VERSION),
+        _ => case.list = arbitrary(rng, version),
     }
     if rng.chance(1, 4) {
-        case.list = arbitrary(rng);
+        case.list = arbitrary(rng, version);
     }
     case.state = rng.word();
     settle(rng, &mut case, PATIENCE);
@@ -88,6 +88,7 @@ pub fn arbitrary_case(rng: &mut Rng) -> Case {
 
 /// A sound case for this problem and plan, its list sometimes altered.
 fn case_of(rng: &mut Rng, task: &Task) -> Case {
+    let version = &task.problem.version;
     let walk = walk(task, PATIENCE);
     let mut lines = walk.lines;
     if rng.chance(1, 2) {
@@ -107,8 +108,8 @@ fn case_of(rng: &mut Rng, task: &Task) -> Case {
     let mut case = Case {
         problem: encode::problem(&task.problem),
         plan: encode::plan(&task.plan),
-        list: encode::list(&lines),
-        state: number(&values) | stray,
+        list: encode::list(version, &lines),
+        state: version.number(&values) | stray,
         ..Case::default()
     };
     settle(rng, &mut case, PATIENCE);
@@ -135,7 +136,7 @@ fn settle(rng: &mut Rng, case: &mut Case, patience: u64) {
         3 => walk.visits + rng.word() % 9,
         _ => u64::MAX - rng.word() % 2,
     };
-    let exact = 5 + 8 * walk.lines.len();
+    let exact = task.problem.version.list_bytes(walk.lines.len());
     case.room = match rng.below(4) {
         0 => exact - 1,
         1 => rng.below(exact),

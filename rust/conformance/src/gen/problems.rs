@@ -7,12 +7,13 @@ use super::Rng;
 use crate::encode;
 use crate::model::{Action, Effect, Formula, Literal, Problem};
 use crate::oracle::{after, holds, Task};
+use crate::version::{Version, MOST_ACTIONS, MOST_PROBLEM_BYTES, MOST_STEPS};
 
 /// A plan with steps among the actions; empty where there are none.
 pub fn plan(rng: &mut Rng, actions: usize) -> Vec<u8> {
     let steps = match rng.below(60) {
         _ if actions == 0 => 0,
-        0 => 256,
+        0 => MOST_STEPS,
         n if n < 50 => rng.below(5),
         _ => rng.below(9),
     };
@@ -20,27 +21,28 @@ pub fn plan(rng: &mut Rng, actions: usize) -> Vec<u8> {
 }
 
 /// Any problem and plan: mostly few facts, sometimes as many as there can be.
-pub fn task(rng: &mut Rng) -> Task {
+pub fn task(rng: &mut Rng, version: &Version) -> Task {
     loop {
-        let task = task_of_any_size(rng);
-        if encode::problem(&task.problem).len() <= 32_768 {
+        let task = task_of_any_size(rng, version);
+        if encode::problem(&task.problem).len() <= MOST_PROBLEM_BYTES {
             return task;
         }
     }
 }
 
-fn task_of_any_size(rng: &mut Rng) -> Task {
+fn task_of_any_size(rng: &mut Rng, version: &Version) -> Task {
     let facts = match rng.below(16) {
-        0 => rng.between(9, 48),
+        0 => rng.between(9, version.most_facts.into()),
         1 => rng.between(9, 12),
         _ => rng.between(1, 8),
     } as u8;
-    let most = if rng.chance(1, 40) { 64 } else { 5 };
+    let most = if rng.chance(1, 40) { MOST_ACTIONS } else { 5 };
     let actions: Vec<Action> = (0..rng.between(0, most))
-        .map(|_| action(rng, facts))
+        .map(|_| action(rng, version, facts))
         .collect();
     let plan = plan(rng, actions.len());
     let problem = Problem {
+        version: *version,
         facts,
         initial: formula(rng, facts),
         goal: formula(rng, facts),
@@ -49,7 +51,7 @@ fn task_of_any_size(rng: &mut Rng) -> Task {
     Task { problem, plan }
 }
 
-fn action(rng: &mut Rng, facts: u8) -> Action {
+fn action(rng: &mut Rng, version: &Version, facts: u8) -> Action {
     let precondition = if rng.chance(2, 3) {
         Formula::always()
     } else {
@@ -57,14 +59,18 @@ fn action(rng: &mut Rng, facts: u8) -> Action {
     };
     Action {
         precondition,
-        effects: effects(rng, facts),
+        effects: effects(rng, version, facts),
     }
 }
 
 /// Effects with literals that rise: sets first, then clears.
-fn effects(rng: &mut Rng, facts: u8) -> Vec<Effect> {
+fn effects(rng: &mut Rng, version: &Version, facts: u8) -> Vec<Effect> {
     let likely = rng.pick(&[1, 2, 4]);
-    let most = if rng.chance(1, 40) { 96 } else { 12 };
+    let most = if rng.chance(1, 40) {
+        version.most_effects.into()
+    } else {
+        12
+    };
     let mut effects = Vec::new();
     for denied in [false, true] {
         for fact in 0..facts {
@@ -82,13 +88,13 @@ fn effects(rng: &mut Rng, facts: u8) -> Vec<Effect> {
 /// A problem whose plan is right, mostly: what the plan brings about is worked
 /// out first, and preconditions and goal are chosen to be true of it. One in
 /// four is then spoilt in one formula.
-pub fn right_task(rng: &mut Rng) -> Task {
+pub fn right_task(rng: &mut Rng, version: &Version) -> Task {
     let facts = rng.between(1, 8) as u8;
     let initial = formula(rng, facts);
     let mut actions: Vec<Action> = (0..rng.between(1, 4))
         .map(|_| Action {
             precondition: Formula::always(),
-            effects: effects(rng, facts),
+            effects: effects(rng, version, facts),
         })
         .collect();
     let plan = plan(rng, actions.len());
@@ -113,6 +119,7 @@ pub fn right_task(rng: &mut Rng) -> Task {
     }
     let goal = formula_true_of(rng, facts, &belief);
     let mut problem = Problem {
+        version: *version,
         facts,
         initial,
         goal,
@@ -165,7 +172,7 @@ fn spoil(rng: &mut Rng, problem: &mut Problem) {
 }
 
 /// A right plan whose walk must fix 12 facts or more in nearly every case.
-pub fn wide_task(rng: &mut Rng) -> Task {
+pub fn wide_task(rng: &mut Rng, version: &Version) -> Task {
     let facts = rng.between(12, 14) as u8;
     let goal = Formula::all((0..facts).map(Formula::either));
     let initial = match rng.below(3) {
@@ -174,6 +181,7 @@ pub fn wide_task(rng: &mut Rng) -> Task {
         _ => formula(rng, facts),
     };
     let problem = Problem {
+        version: *version,
         facts,
         initial,
         goal,

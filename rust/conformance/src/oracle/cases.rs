@@ -1,7 +1,7 @@
 //! Three values: one case at a time, and the walk over cases.
 
 use super::Task;
-use crate::model::{number, Action, Formula, Kind, Line};
+use crate::model::{Action, Formula, Kind, Line};
 
 /// A value that may be partly known: which of yes and no it can still be.
 /// Unknown can be both; nothing can be neither.
@@ -126,6 +126,7 @@ pub struct Walk {
 /// The walk, as an odometer over the fixed facts: an open case gets one more
 /// fact, a closed one moves on to the next case on the right.
 pub fn walk(task: &Task, grant: u64) -> Walk {
+    let version = &task.problem.version;
     let mut fixed: Vec<bool> = Vec::new();
     let mut visits = 0;
     let mut lines = Vec::new();
@@ -137,7 +138,7 @@ pub fn walk(task: &Task, grant: u64) -> Walk {
         match closes(task, &fixed) {
             Some(kind) => {
                 let k = fixed.len() as u8;
-                let value = number(&fixed);
+                let value = version.number(&fixed);
                 lines.push(Line { kind, k, value });
                 while fixed.pop_if(|last| *last).is_some() {}
                 match fixed.last_mut() {
@@ -146,7 +147,7 @@ pub fn walk(task: &Task, grant: u64) -> Walk {
                 }
             }
             None if fixed.len() < usize::from(task.problem.facts) => fixed.push(false),
-            None => break End::Failing(number(&fixed)),
+            None => break End::Failing(version.number(&fixed)),
         }
     };
     Walk { visits, lines, end }

@@ -1,37 +1,37 @@
 //! Following a list.
 
 use super::{closes, Refusal, Task};
-use crate::model::{number, values, Line};
-
-const END: u64 = 1 << 48;
+use crate::model::Line;
 
 pub fn follow(task: &Task, lines: &[Line]) -> Result<(), Refusal> {
+    let version = &task.problem.version;
     let mut reached = 0;
     for (place, line) in lines.iter().enumerate() {
         if let Some(number) = fault(task, line, reached) {
             return Refusal::at(number, place);
         }
-        reached = line.value + (END >> line.k);
+        reached = u128::from(line.value) + version.covered(line.k);
     }
-    if reached != END {
+    if reached != version.numbers() {
         return Refusal::at(70, lines.len());
     }
     Ok(())
 }
 
 /// The first fault of a line that should begin at `start`.
-fn fault(task: &Task, line: &Line, start: u64) -> Option<u64> {
+fn fault(task: &Task, line: &Line, start: u128) -> Option<u64> {
     if line.kind > 1 {
         return Some(65);
     }
     if line.k > task.problem.facts {
         return Some(66);
     }
-    let fixed = values(line.value, line.k);
-    if number(&fixed) != line.value {
+    let version = &task.problem.version;
+    let fixed = version.values(line.value, line.k);
+    if version.number(&fixed) != line.value {
         return Some(67);
     }
-    if line.value != start {
+    if u128::from(line.value) != start {
         return Some(68);
     }
     if closes(task, &fixed) != Some(line.kind) {

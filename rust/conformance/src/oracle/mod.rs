@@ -9,16 +9,13 @@ mod parse;
 mod states;
 
 use crate::encode;
-use crate::model::{number, values, Action, Line, Problem};
+use crate::model::{Action, Line, Problem};
 
 pub use cases::{closes, walk, End, Walk};
 pub use states::{after, holds, lowest_failing, outcome};
 
 /// Up to this many facts the judge's verdict comes from every state in turn.
 pub const ENUMERABLE: u8 = 10;
-
-/// A list block has no more lines than this.
-pub const MOST_LINES: usize = 8_191;
 
 #[derive(Clone, Copy, Debug, PartialEq, Eq)]
 pub struct Refusal {
@@ -88,8 +85,9 @@ pub fn read_plan(problem: &[u8], plan: &[u8]) -> Result<u64, Refusal> {
 
 pub fn run(problem: &[u8], plan: &[u8], state: u64) -> Result<Outcome, Refusal> {
     let task = Task::parse(problem, plan)?;
-    let start = values(state, task.problem.facts);
-    if number(&start) != state {
+    let Problem { version, facts, .. } = task.problem;
+    let start = version.values(state, facts);
+    if version.number(&start) != state {
         return Refusal::at(40, 0);
     }
     Ok(outcome(&task, &start))
@@ -113,11 +111,12 @@ pub fn write_list(
         Verdict::Undecided { visits } => Refusal::at(50, visits as usize),
         Verdict::Wrong { visits, .. } => Refusal::at(51, visits as usize),
         Verdict::Right { .. } => {
+            let version = &task.problem.version;
             let lines = walk.lines.len();
-            if lines > MOST_LINES {
+            if lines > version.most_lines {
                 return Refusal::at(52, lines);
             }
-            let block = encode::list(&walk.lines);
+            let block = encode::list(version, &walk.lines);
             if room < block.len() {
                 return Refusal::at(53, lines);
             }
@@ -128,7 +127,7 @@ pub fn write_list(
 
 pub fn follow_list(problem: &[u8], plan: &[u8], list: &[u8]) -> Result<u64, Refusal> {
     let task = Task::parse(problem, plan)?;
-    let lines: Vec<Line> = parse::list(list)?;
+    let lines: Vec<Line> = parse::list(list, &task.problem.version)?;
     follow::follow(&task, &lines)?;
     Ok(lines.len() as u64)
 }
@@ -142,10 +141,11 @@ fn verdict(task: &Task, walk: &Walk) -> Verdict {
         End::Covered => None,
         End::Failing(state) => Some(state),
     };
-    let failing = if task.problem.facts <= ENUMERABLE {
+    let Problem { version, facts, .. } = task.problem;
+    let failing = if facts <= ENUMERABLE {
         lowest_failing(task)
     } else {
-        state.map(|state| (state, outcome(task, &values(state, task.problem.facts))))
+        state.map(|state| (state, outcome(task, &version.values(state, facts))))
     };
     assert_eq!(
         failing.map(|f| f.0),

@@ -2,23 +2,26 @@
 
 use super::Refusal;
 use crate::model::{Action, Effect, Formula, Kind, Line, Literal, Problem};
-
-const DEEPEST: usize = 8;
+use crate::version::{
+    Version, DEEPEST, DENIAL, HEADER, MOST_ACTIONS, MOST_FORMULA_BYTES, MOST_PLAN_BYTES,
+    MOST_PROBLEM_BYTES, PLAN_VERSION, VERSIONS,
+};
 
 pub fn problem(block: &[u8]) -> Result<Problem, Refusal> {
-    header(block, 32_768, 10)?;
+    let (version, _) = header(block, MOST_PROBLEM_BYTES, 10, &VERSIONS)?;
     let mut reader = Reader {
         block,
-        at: 5,
+        at: HEADER,
+        version,
         facts: 0,
     };
     let facts = reader.byte()?;
-    if !(1..=48).contains(&facts) {
+    if !(1..=version.most_facts).contains(&facts) {
         return Refusal::at(15, reader.at - 1);
     }
     reader.facts = facts;
     let count = reader.byte()?;
-    if count > 64 {
+    if usize::from(count) > MOST_ACTIONS {
         return Refusal::at(16, reader.at - 1);
     }
     let initial = reader.formula()?;
@@ -30,6 +33,7 @@ pub fn problem(block: &[u8]) -> Result<Problem, Refusal> {
         return Refusal::at(25, reader.at);
     }
     Ok(Problem {
+        version,
         facts,
         initial,
         goal,
@@ -38,48 +42,63 @@ pub fn problem(block: &[u8]) -> Result<Problem, Refusal> {
 }
 
 pub fn plan(block: &[u8], problem: &Problem) -> Result<Vec<u8>, Refusal> {
-    let steps = header(block, 261, 30)?;
+    let (_, steps) = header(block, MOST_PLAN_BYTES, 30, &[PLAN_VERSION])?;
     let strange = |step: &u8| usize::from(*step) >= problem.actions.len();
     match steps.iter().position(strange) {
-        Some(step) => Refusal::at(34, 5 + step),
+        Some(step) => Refusal::at(34, HEADER + step),
         None => Ok(steps.to_vec()),
     }
 }
 
-pub fn list(block: &[u8]) -> Result<Vec<Line>, Refusal> {
-    let body = header(block, 65_533, 60)?;
-    if body.len() % 8 != 0 {
+pub fn list(block: &[u8], version: &Version) -> Result<Vec<Line>, Refusal> {
+    let (_, body) = header(block, version.most_bytes(), 60, &[*version])?;
+    if body.len() % version.line_bytes != 0 {
         return Refusal::at(64, block.len());
     }
     let line = |line: &[u8]| Line {
         kind: line[0],
         k: line[1],
-        value: u64::from_be_bytes([0, 0, line[2], line[3], line[4], line[5], line[6], line[7]]),
+        value: big_endian(&line[2..]),
     };
-    Ok(body.chunks(8).map(line).collect())
+    Ok(body.chunks(version.line_bytes).map(line).collect())
 }
 
-/// The body of a block. The four faults of a header are numbered in a row.
-fn header(block: &[u8], longest: usize, first: u64) -> Result<&[u8], Refusal> {
+/// The number of eight bytes or fewer.
+fn big_endian(bytes: &[u8]) -> u64 {
+    let mut word = 0u64.to_be_bytes();
+    let unused = word.len() - bytes.len();
+    word[unused..].copy_from_slice(bytes);
+    u64::from_be_bytes(word)
+}
+
+/// The version of a block, which must be one of these, and its body. The four
+/// faults of a header are numbered in a row.
+fn header<'a>(
+    block: &'a [u8],
+    longest: usize,
+    first: u64,
+    versions: &[Version],
+) -> Result<(Version, &'a [u8]), Refusal> {
     if block.len() > longest {
         return Refusal::at(first, longest);
     }
-    let Some((head, body)) = block.split_first_chunk::<5>() else {
+    let Some((head, body)) = block.split_first_chunk::<HEADER>() else {
         return Refusal::at(first + 1, block.len());
     };
-    let [version, length @ ..] = *head;
-    if version != 1 {
+    let [byte, length @ ..] = *head;
+    let Some(version) = versions.iter().find(|version| version.byte == byte) else {
         return Refusal::at(first + 2, 0);
-    }
+    };
     if u32::from_be_bytes(length) as usize != body.len() {
         return Refusal::at(first + 3, 1);
     }
-    Ok(body)
+    Ok((*version, body))
 }
 
 struct Reader<'a> {
     block: &'a [u8],
     at: usize,
+    version: Version,
     facts: u8,
 }
 
@@ -105,18 +124,15 @@ impl Reader<'_> {
     }
 
     fn literal(&self, byte: u8) -> Option<Literal> {
-        let (fact, denied) = match byte {
-            0..=47 => (byte, false),
-            64..=111 => (byte - 64, true),
-            _ => return None,
-        };
+        let denied = byte >= DENIAL;
+        let fact = if denied { byte - DENIAL } else { byte };
         (fact < self.facts).then_some(Literal { fact, denied })
     }
 
     fn action(&mut self) -> Result<Action, Refusal> {
         let precondition = self.formula()?;
         let count = self.byte()?;
-        if count > 96 {
+        if count > self.version.most_effects {
             return Refusal::at(22, self.at - 1);
         }
         let mut effects = Vec::new();
@@ -142,7 +158,7 @@ impl Reader<'_> {
     fn formula(&mut self) -> Result<Formula, Refusal> {
         let start = self.at;
         let length = usize::from(self.byte()?) * 256 + usize::from(self.byte()?);
-        if length == 0 || length > 1_024 {
+        if length == 0 || length > MOST_FORMULA_BYTES {
             return Refusal::at(17, start);
         }
         let end = self.at + length;

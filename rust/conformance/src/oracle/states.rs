@@ -1,7 +1,7 @@
 //! Two values: one state at a time, and all of them in turn.
 
 use super::{Outcome, Task};
-use crate::model::{number, Action, Formula, Kind};
+use crate::model::{Action, Formula, Kind};
 
 pub fn holds(formula: &Formula, state: &[bool]) -> bool {
     match formula {
@@ -56,7 +56,7 @@ pub fn lowest_failing(task: &Task) -> Option<(u64, Outcome)> {
         }
         match outcome(task, &state) {
             Outcome::Reached => None,
-            other => Some((number(&state), other)),
+            other => Some((task.problem.version.number(&state), other)),
         }
     })
 }
