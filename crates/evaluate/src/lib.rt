@@ -188,15 +188,11 @@ pub fn formula_planes(s: &[u8], at: usize, c: &[u64; 256]) -> Planes
     if n == 0 {
         return empty_planes(b, next);
     }
-    if b == ALL {
-        let r = all_planes(s, begin + 2, n, c, false);
-        return Planes {
-            some: r.some,
-            next,
-            sure: r.sure,
-        };
-    }
-    let r = any_planes(s, begin + 2, n, c, false);
+    let r = if b == ALL {
+        all_planes(s, begin + 2, n, c, false)
+    } else {
+        any_planes(s, begin + 2, n, c, false)
+    };
     Planes {
         some: r.some,
         next,

@@ -71,7 +71,7 @@ formula-planes-spec =
     returns-5
     (λ c. search needs)
     (λ c κs. search needs)
-    returns-6
     (λ c. search needs)
     (λ c κs. search needs)
+    returns-6
     returns-7)
