@@ -1,4 +1,3 @@
-pub mod Lines
-pub mod Following
+-- Laws of the definitions, for several functions' proofs.
 pub mod Lists
 pub mod Promise

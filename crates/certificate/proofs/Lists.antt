@@ -36,15 +36,6 @@ use Rattle.certificate.specs.Writing.{headOf, WritesTask}
 
 -- ---- the block
 
--- the five stores of a header
-pub header-stored :
-    (l : List ℕ) (n a b c d : ℕ) → a ≡ (n / 16777216) % 256 → b ≡ (n / 65536) % 256 → c ≡ (n / 256) % 256 → d ≡ n % 256 →
-    set (set (set (set (set l 0 1) 1 a) 2 b) 3 c) 4 d ≡ sets l 0 (headOf n)
-unfolding bytesOf
-header-stored l n a b c d p q r s =
-    let z : d ≡ (n / 1) % 256 = omega arith in
-    λ i. set (set (set (set (set l 0 1) 1 (p i)) 2 (q i)) 3 (r i)) 4 (z i)
-
 -- a header and the lines after it are the block, and the rest is as it was
 block-written :
     (before after : List ℕ) (ls : List Line) (n : ℕ) → n ≡ 8 * length ls → 5 + n ≤ length before →

@@ -1,26 +1,20 @@
--- Demand 3 of the code, and demand 1 for lists: from the contracts' equations and the theorem about the definitions. Assumes nothing.
-use mathlib.Core.Path.{_≡_, refl, sym, ap, _∙_, subst}
+-- Demand 3 of the code: from the contracts' equations and the theorem about the definitions. Assumes nothing.
+use mathlib.Core.Path.{_≡_, sym, ap, _∙_, subst}
 use mathlib.Core.List.{List}
 use Prim.Native.Nat.{ℕ, _≤_}
 use lib.ListN.{length, take}
 use Rattle.model.specs.Limits.{version1}
-use Rattle.model.specs.Answer.{Answer, refused, answered}
+use Rattle.model.specs.Answer.{answered}
 use Rattle.model.specs.Case.{Task}
 use Rattle.model.specs.Operations.{readTask, listBytes, listFor, writeList, followList}
-use Rattle.model.specs.WellFormed.{Bytes}
 use Rattle.model.specs.Demands.{linesIn}
 use Rattle.model.proofs.Laws.Tasks.{answer-then}
 use Rattle.model.proofs.Laws.Lists.{written-answered}
 use Rattle.model.proofs.Demands.{version1-holds}
-use Rattle.blocks.proofs.Promise.{not-refused}
-use Rattle.certificate.specs.Promise.{FollowPromised, Promised}
+use Rattle.follow.proofs.Promise.{followed-task}
+use Rattle.certificate.specs.Promise.{Promised}
 
 module _ (problem plan : List ℕ) where
-  -- what is answered was read
-  followed-task : (list : List ℕ) (m : ℕ) → followList version1 problem plan list ≡ answered m → (T : Task) × (readTask version1 problem plan ≡ answered T)
-  unfolding followList
-  followed-task list m e = answer-then e λ T h k. (T, h)
-
   written-task :
       (grant : ℕ) (out : List ℕ) (n : ℕ) → writeList version1 problem plan grant out .answer ≡ answered n →
       (T : Task) × (readTask version1 problem plan ≡ answered T)
@@ -29,22 +23,13 @@ module _ (problem plan : List ℕ) where
       let x = written-answered version1 out n (listFor version1 problem plan grant (length out)) e in
       answer-then (x .1) λ T h k. (T, h)
 
-  pub follow-promised : (list : List ℕ) → Bytes list → (r : Answer ℕ) → r ≡ followList version1 problem plan list → FollowPromised problem plan list r
-  follow-promised list b (refused n q) e =
-      λ T h lines p.
-      not-refused (version1-holds .demand3 problem plan T h .passes-exactly list b (length lines) .1 (lines, p, refl)) (sym e)
-  follow-promised list b (answered m) e =
-      let (T, h) = followed-task list m (sym e) in
-      let (lines, p, count) = version1-holds .demand3 problem plan T h .passes-exactly list b m .0 (sym e) in
-      (T, h, lines, p, count)
-
   pub promised : Promised problem plan
   promised =
       record {
         passes-only-right =
             λ list r m c e.
             let f = sym c ∙ e in
-            let (T, h) = followed-task list m f in
+            let (T, h) = followed-task problem plan list m f in
             let p = version1-holds .demand3 problem plan T h .passes-only-right list m f in
             (T, h, p .0, p .1);
         writes-walk =

@@ -1,5 +1,3 @@
 -- What the functions of this crate answer, in the words of model/specs.
-pub mod Lines
-pub mod Follows
 pub mod Writing
 pub mod Promise

@@ -5,24 +5,15 @@ use mathlib.Core.List.{List}
 use Prim.Native.Nat.{ℕ, _≤_}
 use lib.ListN.{length, take}
 use Rattle.model.specs.Limits.{version1}
-use Rattle.model.specs.Answer.{Answer, refused, answered}
+use Rattle.model.specs.Answer.{answered}
 use Rattle.model.specs.Case.{Task, Right}
 use Rattle.model.specs.Walk.{Line, covered, visits, walked}
 use Rattle.model.specs.ListBytes.{encodeList}
 use Rattle.model.specs.Operations.{readTask, listBytes, writeList, followList}
-use Rattle.model.specs.Demands.{linesIn, Passing}
+use Rattle.model.specs.Demands.{linesIn}
 use Rattle.model.specs.Answers.{writeAnswer, followAnswer}
 use Rattle.model.specs.declared.WriteAnswer.{WriteAnswer}
 use Rattle.model.specs.declared.FollowAnswer.{FollowAnswer}
-
--- Demand 1 of the code: a list passes exactly if it is `Passing`. It is an `ensures` of `follow_list`, so that every element is a byte by
--- the slice's type, and by no hypothesis.
-abbrev pub FollowPromised : List ℕ → List ℕ → List ℕ → Answer ℕ → Type 0
-FollowPromised problem plan list (refused n q) =
-    (T : Task) → readTask version1 problem plan ≡ answered T → (lines : List Line) → Passing version1 T list lines → ⊥
-FollowPromised problem plan list (answered m) =
-    (T : Task) × (readTask version1 problem plan ≡ answered T) ×
-    (lines : List Line) × Passing version1 T list lines × (m ≡ length lines)
 
 -- the equation of `follow_list`, for a call that answered r
 abbrev pub FollowCall : List ℕ → List ℕ → List ℕ → FollowAnswer → Type 0

@@ -13,12 +13,12 @@ ghost use Rattle.certificate.specs.Writing.{headOf, WritesTask};
 use blocks::find_task;
 use judge::Ending;
 use judge::walk_task;
-use lines::low_byte;
 use model::CaseList;
 use model::Limits;
 use model::Problem;
 use model::Refusal;
 use model::WriteAnswer;
+use numbers::put_number;
 
 // A block's version and the length of its body.
 fn put_header(out: &mut [u8], body: u64)
@@ -26,10 +26,7 @@ fn put_header(out: &mut [u8], body: u64)
     ensures { λ _. ⌜ now (out .exit) ≡ sets (now (out .entry)) 0 (headOf body) ⌝ }
 {
     out[0] = Limits::VERSION;
-    out[1] = low_byte(body / 16777216);
-    out[2] = low_byte(body / 65536);
-    out[3] = low_byte(body / 256);
-    out[4] = low_byte(body);
+    put_number(out, 1, Limits::HEAD_BYTES - 1, body);
 }
 
 // The block of a right plan's list, whose length is known.

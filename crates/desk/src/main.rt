@@ -2,6 +2,7 @@
 use libc::STDOUT_FILENO;
 use model::Plan;
 use model::Problem;
+use report::Page;
 use report::Rest;
 ghost use Prim.Native.Nat.{_+_, _*_, _≤_};
 ghost use lib.ListN.{length};
@@ -42,6 +43,13 @@ fn load(i: usize, buf: &mut [u8]) -> usize
     got
 }
 
+// The first n bytes of a text, to standard output.
+fn print(text: &[u8], n: usize)
+    requires { ⌜ n ≤ length (now text) ⌝ }
+{
+    io::write_all(STDOUT_FILENO, &text[..n]);
+}
+
 // So many lines of a list block.
 fn print_list(list: &[u8], count: usize, facts: u8)
     requires { ⌜ (5 + 8 * count ≤ length (now list)) × (facts ≤ 48) ⌝ }
@@ -50,22 +58,24 @@ fn print_list(list: &[u8], count: usize, facts: u8)
     let mut i: usize = 0;
     while i < count {
         let n = report::list_line(list, i, facts, &mut text);
-        io::write_all(STDOUT_FILENO, &text[..n]);
+        print(&text, n);
         i = i + 1;
     }
 }
 
 // What follows the first line: a right plan's list, or that it is too long.
-fn print_rest(problem: &[u8], plan: &[u8]) {
-    let mut list = io::large_buffer();
-    match report::write_rest(problem, plan, &mut list) {
+fn print_rest(page: Page, list: &[u8])
+    requires { ⌜ (page .facts ≤ 48) × (65533 ≤ length (now list)) ⌝ }
+{
+    match report::what_follows(page) {
         Rest::Nothing => {}
         Rest::TooLong => {
-            io::write_all(STDOUT_FILENO, b"list too long\n");
+            let mut text = [0u8; 64];
+            let n = report::too_long(&mut text);
+            print(&text, n);
         }
         Rest::Lines { count } => {
-            let facts = report::facts_of(problem, plan);
-            print_list(&list, count, facts);
+            print_list(list, count, page.facts);
         }
     }
 }
@@ -75,8 +85,10 @@ fn main() {
     let mut plan = [0u8; PLAN_ROOM];
     let p = load(1, &mut problem);
     let q = load(2, &mut plan);
+    let mut list = io::large_buffer();
+    let page = report::page_of(&problem[..p], &plan[..q], &mut list);
     let mut line = [0u8; 128];
-    let n = report::first_line(&problem[..p], &plan[..q], &mut line);
-    io::write_all(STDOUT_FILENO, &line[..n]);
-    print_rest(&problem[..p], &plan[..q]);
+    let n = report::first_line(page, &mut line);
+    print(&line, n);
+    print_rest(page, &list);
 }

@@ -1,5 +1,5 @@
 -- The walk of a whole problem, and the judge's verdict. Assumes nothing.
-use mathlib.Core.Path.{_≡_, sym, ap, ap₂, _∙_, subst}
+use mathlib.Core.Path.{_≡_, refl, sym, ap, ap₂, _∙_, subst}
 use mathlib.Core.Bool.{true, false, _&&_, true≢false}
 use mathlib.Core.List.{List}
 use Prim.Native.Nat.{ℕ, _-_, _%_, _^_, _≤_}
@@ -13,13 +13,15 @@ use Rattle.model.specs.Kleene.{Kleene, Unknown}
 use Rattle.model.specs.Answer as Answer
 use Rattle.model.specs.Answer.{refused, answered}
 use Rattle.model.specs.Case.{caseOf, Task, runOf, IsState}
-use Rattle.model.specs.Walk.{Walked, covered, failed, visits, walkFrom, walk, lookAt, walked, right, wrong, undecided, found}
-use Rattle.model.specs.Operations.{lineCount, judge}
+use Rattle.model.specs.Walk.{Line, covered, failed, visits, walkFrom, walk, lookAt, walked, Verdict, right, wrong, undecided, judged}
+use Rattle.model.specs.Operations.{judge}
 use Rattle.model.specs.Read.{headBytes}
-use Rattle.model.specs.Answers.{outcome}
+use Rattle.model.specs.Answers.{judgeAnswer}
 use Rattle.model.specs.Planes.{Table}
 use Rattle.model.specs.declared.Problem.{Problem}
 use Rattle.model.specs.declared.Outcome.{Outcome}
+use Rattle.model.specs.declared.JudgeAnswer.{JudgeAnswer}
+use Rattle.model.specs.declared.JudgeAnswer.the-variants.{Right, Wrong, Undecided}
 use Rattle.model.proofs.Laws.Splitting.{case-first, length-case}
 use Rattle.model.proofs.Laws.Verdicts.{run-full, walk-fails-first}
 use Rattle.model.proofs.Laws.Judging.{judged-in, judged-out}
@@ -27,6 +29,7 @@ use Rattle.model.proofs.Laws.Tasks.{judge-is}
 use Rattle.blocks.specs.declared.plan.Task as blocks
 use Rattle.blocks.specs.Parts.{FindsTask}
 use Rattle.blocks.specs.Standing.{StandsFound}
+use Rattle.lines.specs.Putting.{Puts}
 use Rattle.table.specs.Tables.{NoneFixed}
 use Rattle.table.specs.Blocks.{blockCase, FixesLevels}
 use Rattle.blocks.proofs.Standing.{part-from}
@@ -37,8 +40,8 @@ use Rattle.judge.specs.declared.walk.Places.{Places}
 use Rattle.judge.specs.declared.walk.Case.{Case}
 use Rattle.judge.specs.declared.walk.Ending.{Ending}
 use Rattle.judge.specs.declared.walk.Ending.the-variants.{Out, Failed, Closed}
-use Rattle.judge.specs.Walks.{cut, endingOf, Ended, LevelsOf, BlockFits, WalksBlock}
-use Rattle.judge.specs.Verdicts.{PartsOf, WalksTask, OutcomeOf}
+use Rattle.judge.specs.Walks.{cut, endingOf, Lays, Ended, LevelsOf, BlockFits, WalksBlock}
+use Rattle.judge.specs.Verdicts.{PartsOf, WalksTask, OutcomeOf, Judges, JudgesTask}
 use Rattle.judge.proofs.Walking.{closed-cut, stopped-cut, out-cut}
 
 -- ---- the whole walk
@@ -103,42 +106,72 @@ module _ (problem steps : List ℕ) (parts : Problem) (x n : ℕ) (e : n ≡ par
 
 -- ---- the verdict
 
+module _ (problem steps : List ℕ) (parts : Problem) (g : ℕ) (w : Ending) (before : List ℕ) (to : ℕ) (after : List ℕ)
+    (W : WalksTask problem steps parts g w before to after) where
+  abbrev Task-judged : JudgeAnswer → Type 0
+  Task-judged r = JudgesTask problem steps parts g r before to after
+
+  n≤w : (T : Task) → PartsOf problem steps parts T → T .facts ≤ T .width
+  n≤w T p = omega (arith, p .stands .most, p .stands .width)
+
+  ended : (T : Task) → PartsOf problem steps parts T → (x : Ending) → w ≡ x → cut g (walked T) ≡ endingOf x
+  ended T p x e = sym (W .is T p .ending) ∙ ap endingOf e
+
+  -- an answer by the verdict of each task
+  judged-so :
+      (r : JudgeAnswer) →
+      ((T : Task) → PartsOf problem steps parts T → (v : Verdict (List Line)) × (judged T g ≡ v) × Judges v r before to after) →
+      Task-judged r
+  judged-so r h =
+      record {
+        size = W .size;
+        is = λ T p. let (v, e, j) = h T p in subst (λ (x : Verdict (List Line)). Judges x r before to after) (sym e) j;
+      }
+
+  pub judges-undecided : w ≡ Out → Task-judged (Undecided g)
+  judges-undecided e =
+      judged-so (Undecided g) λ T p. (
+        undecided g,
+        judged-out T (n≤w T p) g (out-cut g (walked T) (ended T p Out e)),
+        record { answer = refl; lays = tt },
+      )
+
+  pub judges-right : (n a next : ℕ) → w ≡ Closed n a next → Task-judged (Right n a)
+  judges-right n a next e =
+      judged-so (Right n a) λ T p.
+      let (ls, i, j, k) = closed-cut g (walked T) n a (ended T p (Closed n a next) e) in
+      let l : Puts before to ls next after = subst (λ (x : Ending). Lays (walked T) x before to after) e (W .is T p .lays) ls a i in (
+        right ls a,
+        judged-in T (n≤w T p) g (covered ls a) i (omega (arith, ap visits i)),
+        record { answer = ap (λ (m : ℕ). answered (right m a)) (sym j); lays = λ room. record { end = refl; bytes = l room .bytes } },
+      )
+
+  pub judges-wrong : (x a : ℕ) → w ≡ Failed x a → (u : Outcome) → OutcomeOf problem steps parts x u → Task-judged (Wrong x u a)
+  judges-wrong x a e u U =
+      judged-so (Wrong x u a) λ T p.
+      let (i, k) = stopped-cut g (walked T) x a (ended T p (Failed x a) e) in (
+        wrong x (runOf T x) a,
+        judged-in T (n≤w T p) g (failed x a) i (omega (arith, ap visits i)),
+        record { answer = ap (λ o. answered (wrong x o a)) (U .is T p (walk-fails-first T (n≤w T p) x a i .start .state)); lays = tt },
+      )
+
+-- ---- the blocks
+
 pub judge-refused :
     (s t : List ℕ) (r : blocks.Task) → FindsTask s t r → r .refused ≡ true → (g : ℕ) → refused (r .number) (r .place) ≡ judge version1 s t g
 unfolding judge Answer._>>=_
 judge-refused s t r f h g = rw (f .refusal h)
 
 module _ (s t : List ℕ) (r : blocks.Task) (F : StandsFound s t r) where
-  abbrev T : Task
-  T = F .task
-
-  n≤w : T .facts ≤ T .width
-  n≤w = omega (arith, F .stands .most, F .stands .width)
-
   pub few-facts : r .problem .facts ≤ 48
   few-facts = omega (arith, F .facts, F .stands .most)
 
-  pub parts-of : (steps : List ℕ) → steps ≡ take (length t - headBytes) (drop headBytes t) → PartsOf s steps (r .problem) T
+  pub parts-of : (steps : List ℕ) → steps ≡ take (length t - headBytes) (drop headBytes t) → PartsOf s steps (r .problem) (F .task)
   parts-of steps e = record { facts = F .facts; stands = rw (e, part-from) (F .stands) }
 
-  module _ (g : ℕ) (steps : List ℕ) (own : steps ≡ take (length t - headBytes) (drop headBytes t)) (w : Ending) (before : List ℕ) (to : ℕ) (after : List ℕ) (W : WalksTask s steps (r .problem) g w before to after) where
-    ended : endingOf w ≡ cut g (walked T)
-    ended = W .is T (parts-of steps own) .ending
-
-    judge-found : (x : Walked) → walked T ≡ x → visits (walked T) ≤ g → judge version1 s t g ≡ answered (lineCount (found T x))
-    judge-found x e h = judge-is version1 s t T (F .read) g ∙ ap (λ v. answered (lineCount v)) (judged-in T n≤w g x e h)
-
-    pub judge-undecided : w ≡ Out → answered (undecided g) ≡ judge version1 s t g
-    judge-undecided e =
-        sym (judge-is version1 s t T (F .read) g ∙ ap (λ v. answered (lineCount v)) (judged-out T n≤w g (out-cut g (walked T) (sym ended ∙ ap endingOf e))))
-
-    pub judge-right : (lines a next : ℕ) → w ≡ Closed lines a next → answered (right lines a) ≡ judge version1 s t g
-    judge-right lines a next e =
-        let (ls, i, j, k) = closed-cut g (walked T) lines a (sym ended ∙ ap endingOf e) in
-        ap (λ (n : ℕ). answered (right n a)) (sym j) ∙ sym (judge-found (covered ls a) i (omega (arith, ap visits i)))
-
-    pub judge-wrong : (x a : ℕ) → w ≡ Failed x a → (u : Outcome) → OutcomeOf s steps (r .problem) x u → answered (wrong x (outcome u) a) ≡ judge version1 s t g
-    judge-wrong x a e u U =
-        let (i, k) = stopped-cut g (walked T) x a (sym ended ∙ ap endingOf e) in
-        let q : outcome u ≡ runOf T x = U .is T (parts-of steps own) (walk-fails-first T n≤w x a i .start .state) in
-        ap (λ o. answered (wrong x o a)) q ∙ sym (judge-found (failed x a) i (omega (arith, ap visits i)))
+  pub judge-found :
+      (g : ℕ) (steps : List ℕ) → steps ≡ take (length t - headBytes) (drop headBytes t) →
+      (a : JudgeAnswer) (before : List ℕ) (to : ℕ) (after : List ℕ) → JudgesTask s steps (r .problem) g a before to after →
+      judgeAnswer a ≡ judge version1 s t g
+  judge-found g steps own a before to after J =
+      J .is (F .task) (parts-of steps own) .answer ∙ sym (judge-is version1 s t (F .task) (F .read) g)

@@ -1,14 +1,19 @@
--- What the walk of a whole problem answers.
+-- What the walk of a whole problem answers, and the verdict by it.
 use mathlib.Core.Path.{_≡_}
-use mathlib.Core.Bool.{true}
 use mathlib.Core.List.{List}
-use Prim.Native.Nat.{ℕ}
+use Prim.Native.Nat.{ℕ, _+_, _*_}
+use lib.ListN.{length}
+use Rattle.model.specs.Limits.{version1}
+use Rattle.model.specs.Answer.{answered}
 use Rattle.model.specs.Case.{Task, runOf, IsState}
-use Rattle.model.specs.Walk.{walked}
-use Rattle.model.specs.Answers.{outcome}
+use Rattle.model.specs.Walk.{Line, walked, Verdict, right, wrong, undecided, judged}
+use Rattle.model.specs.Operations.{lineCount}
+use Rattle.model.specs.Answers.{outcome, judgeAnswer}
 use Rattle.model.specs.declared.Problem.{Problem}
 use Rattle.model.specs.declared.Outcome.{Outcome}
+use Rattle.model.specs.declared.JudgeAnswer.{JudgeAnswer}
 use Rattle.blocks.specs.Standing.{TaskStands}
+use Rattle.lines.specs.Putting.{Puts}
 use Rattle.judge.specs.declared.walk.Ending.{Ending}
 use Rattle.judge.specs.Walks.{Walks}
 
@@ -22,3 +27,19 @@ WalksTask problem steps parts g r before to after = Walks (PartsOf problem steps
 
 pub record OutcomeOf (problem steps : List ℕ) (parts : Problem) (x : ℕ) (r : Outcome) : Type 0 where
   pub is : (T : Task) → PartsOf problem steps parts T → IsState T x → outcome r ≡ runOf T x
+
+-- the lines of a right verdict stand in the buffer from `to` on, if they fit
+abbrev pub LaysLines : Verdict (List Line) → List ℕ → ℕ → List ℕ → Type 0
+LaysLines (right ls a) before to after = Puts before to ls (to + version1 .line * length ls) after
+LaysLines (wrong s o a) before to after = Unit {0}
+LaysLines (undecided a) before to after = Unit {0}
+
+-- the verdict v is answered, with its lines in the buffer
+pub record Judges (v : Verdict (List Line)) (r : JudgeAnswer) (before : List ℕ) (to : ℕ) (after : List ℕ) : Type 0 where
+  pub answer : judgeAnswer r ≡ answered (lineCount v)
+  pub lays : LaysLines v before to after
+
+-- so it is with every task that stands in the blocks
+pub record JudgesTask (problem steps : List ℕ) (parts : Problem) (g : ℕ) (r : JudgeAnswer) (before : List ℕ) (to : ℕ) (after : List ℕ) : Type 0 where
+  pub size : length after ≡ length before
+  pub is : (T : Task) → PartsOf problem steps parts T → Judges (judged T g) r before to after

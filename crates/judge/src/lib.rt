@@ -5,5 +5,6 @@ pub mod walk;
 
 use numbers::wide;
 pub use operation::judge;
+pub use operation::judge_task;
 pub use operation::walk_task;
 pub use walk::Ending;

@@ -5,7 +5,7 @@ ghost use Rattle.model.specs.Limits.{version1};
 ghost use Rattle.model.specs.Operations as operations;
 ghost use Rattle.model.specs.Answers.{judgeAnswer};
 ghost use Rattle.judge.specs.Walks.{LevelsOf};
-ghost use Rattle.judge.specs.Verdicts.{WalksTask, OutcomeOf};
+ghost use Rattle.judge.specs.Verdicts.{WalksTask, OutcomeOf, JudgesTask};
 ghost use Rattle.judge.specs.Promise.{JudgePromised};
 use crate::walk::Case;
 use crate::walk::Ending;
@@ -83,6 +83,36 @@ fn outcome_of(problem: &[u8], steps: &[u8], parts: Problem, state: u64) -> Outco
     run_state(problem, steps, &actions, parts.goal, table)
 }
 
+// The verdict on a problem and a plan that were read, by one walk, with the lines of a right plan from `to` on.
+pub fn judge_task(
+    problem: &[u8],
+    steps: &[u8],
+    parts: Problem,
+    grant: u64,
+    out: &mut [u8],
+    to: usize,
+) -> JudgeAnswer
+    requires { ⌜ parts .facts ≤ version1 .facts ⌝ }
+    ensures { λ r. ⌜ JudgesTask (now (problem .entry)) (now (steps .entry)) parts grant r (now (out .entry)) to (now (out .exit)) ⌝ }
+{
+    match walk_task(problem, steps, parts, grant, out, to) {
+        Ending::Out => JudgeAnswer::Undecided { visits: grant },
+        Ending::Failed { state, visits } => {
+            let outcome = outcome_of(problem, steps, parts, state);
+            JudgeAnswer::Wrong {
+                state,
+                outcome,
+                visits,
+            }
+        }
+        Ending::Closed {
+            lines,
+            visits,
+            next: _,
+        } => JudgeAnswer::Right { lines, visits },
+    }
+}
+
 // Judge with a grant: the refusals of problem and plan; right with lines and visits; wrong with the lowest failing start state, its
 // outcome and visits; or undecided with visits equal to the grant. The walk has no room for a line, so it counts them.
 pub fn judge(problem: &[u8], plan: &[u8], grant: u64) -> JudgeAnswer
@@ -99,20 +129,5 @@ pub fn judge(problem: &[u8], plan: &[u8], grant: u64) -> JudgeAnswer
     let parts = task.problem;
     let head = Limits::HEAD_BYTES;
     let mut room = [0u8; 1];
-    match walk_task(problem, &plan[head..], parts, grant, &mut room, 0) {
-        Ending::Out => JudgeAnswer::Undecided { visits: grant },
-        Ending::Failed { state, visits } => {
-            let outcome = outcome_of(problem, &plan[head..], parts, state);
-            JudgeAnswer::Wrong {
-                state,
-                outcome,
-                visits,
-            }
-        }
-        Ending::Closed {
-            lines,
-            visits,
-            next: _,
-        } => JudgeAnswer::Right { lines, visits },
-    }
+    judge_task(problem, &plan[head..], parts, grant, &mut room, 0)
 }

@@ -115,7 +115,7 @@ pub extern "C" fn larkhammock_write_list(
 pub extern "C" fn larkhammock_follow_list(problem: &[u8], plan: &[u8], list: &[u8]) -> Answer
     ensures { λ r. ⌜ r .word ≡ countWords (followList version1 (now (problem .entry)) (now (plan .entry)) (now (list .entry))) ⌝ }
 {
-    match certificate::follow_list(problem, plan, list) {
+    match follow::follow_list(problem, plan, list) {
         FollowAnswer::Refused(r) => refused(r),
         FollowAnswer::Passes { lines } => row(1, lines as u64, 0, 0, 0),
     }

@@ -22,23 +22,14 @@ sets-append (v ∷ vs) ws l i =
     sets-append vs ws (set l i v) (suc i) ∙
     ap (λ (j : ℕ). sets (sets (set l i v) (suc i) vs) j ws) (suc-add i (length vs) ∙ sym (add-suc i (length vs)))
 
--- the eight stores of a line
+-- the stores of a line: its kind, k and its value
 pub line-stored :
-    (l : List ℕ) (at kind k n a b c d e f : ℕ) →
-    a ≡ (n / 1099511627776) % 256 → b ≡ (n / 4294967296) % 256 → c ≡ (n / 16777216) % 256 → d ≡ (n / 65536) % 256 → e ≡ (n / 256) % 256 → f ≡ n % 256 →
-    set (set (set (set (set (set (set (set l at kind) (at + 1) k) (at + 2) a) (at + 3) b) (at + 4) c) (at + 5) d) (at + 6) e) (at + 7) f ≡
-    sets l at (lineBytes version1 (lineOf kind k n))
-unfolding lineBytes bytesOf
-line-stored l at kind k n a b c d e f pa pb pc pd pe pf =
-    let z : f ≡ (n / 1) % 256 = omega arith in
+    (l : List ℕ) (at kind k n : ℕ) → sets (set (set l at kind) (at + 1) k) (at + 2) (bytesOf 6 n) ≡ sets l at (lineBytes version1 (lineOf kind k n))
+unfolding lineBytes
+line-stored l at kind k n =
     let i₁ : at + 1 ≡ suc at = omega arith in
     let i₂ : at + 2 ≡ suc (suc at) = omega arith in
-    let i₃ : at + 3 ≡ suc (suc (suc at)) = omega arith in
-    let i₄ : at + 4 ≡ suc (suc (suc (suc at))) = omega arith in
-    let i₅ : at + 5 ≡ suc (suc (suc (suc (suc at)))) = omega arith in
-    let i₆ : at + 6 ≡ suc (suc (suc (suc (suc (suc at))))) = omega arith in
-    let i₇ : at + 7 ≡ suc (suc (suc (suc (suc (suc (suc at)))))) = omega arith in
-    λ i. set (set (set (set (set (set (set (set l at kind) (i₁ i) k) (i₂ i) (pa i)) (i₃ i) (pb i)) (i₄ i) (pc i)) (i₅ i) (pd i)) (i₆ i) (pe i)) (i₇ i) (z i)
+    λ i. sets (set (set l at kind) (i₁ i) k) (i₂ i) (bytesOf 6 n)
 
 -- ---- lines
 

@@ -1,46 +1,13 @@
-// Lines of a case list, as they are written.
-ghost use mathlib.Core.Path.{_≡_};
-ghost use Prim.Native.Nat.{_+_, _%_, _≤_, _<_};
-ghost use lib.ListN.{length};
-ghost use lib.Seq.{sets};
-ghost use Rattle.model.specs.Limits.{version1};
-ghost use Rattle.model.specs.ListBytes.{lineBytes};
-ghost use Rattle.lines.specs.Putting.{lineOf, AddsLine};
-use model::CaseList;
+// Lines of a case list: reading one, checking its form, writing one. A checker needs this crate and no walk.
 
-pub fn low_byte(x: u64) -> u8
-    ensures { λ r. ⌜ r ≡ x % 256 ⌝ }
-{
-    (x % 256) as u8
-}
+pub mod form;
+pub mod put;
+pub mod reader;
 
-// The line (kind, k, value): the value's six bytes, the highest first.
-fn put_line(out: &mut [u8], at: usize, kind: u8, k: u8, value: u64)
-    requires { ⌜ at + version1 .line ≤ length (now out) ⌝ }
-    ensures { λ _. ⌜ now (out .exit) ≡ sets (now (out .entry)) at (lineBytes version1 (lineOf kind k value)) ⌝ }
-{
-    out[at] = kind;
-    out[at + 1] = k;
-    out[at + 2] = low_byte(value / 1099511627776);
-    out[at + 3] = low_byte(value / 4294967296);
-    out[at + 4] = low_byte(value / 16777216);
-    out[at + 5] = low_byte(value / 65536);
-    out[at + 6] = low_byte(value / 256);
-    out[at + 7] = low_byte(value);
-}
-
-// The line of a closed case, and the position after it. Where it has no room, nothing is written: so a walk over no buffer counts.
-pub fn add_line(out: &mut [u8], to: usize, kind: u8, k: usize, value: u64) -> usize
-    requires { ⌜ k < 256 ⌝ }
-    ensures { λ r. ⌜ AddsLine (now (out .entry)) to kind k value r (now (out .exit)) ⌝ }
-{
-    let room = out.len();
-    if room < CaseList::LINE_BYTES {
-        return to;
-    }
-    if room - CaseList::LINE_BYTES < to {
-        return to;
-    }
-    put_line(out, to, kind, k as u8, value);
-    to + CaseList::LINE_BYTES
-}
+pub use form::Checked;
+pub use form::Line;
+pub use form::check_form;
+pub use form::read_line;
+pub use put::add_line;
+pub use reader::ListReader;
+pub use reader::check_at;

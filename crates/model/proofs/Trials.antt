@@ -1,11 +1,12 @@
 -- The definitions give every row of the two tables, by computation; and the two statements beside them, by the laws. Assumes nothing.
 use mathlib.Core.Path.{_≡_, refl, ap}
-use mathlib.Core.List.{List, map}
-use Prim.Native.Nat.{_≤_}
+use mathlib.Core.List.{List, map, _++_}
+use Prim.Native.Nat.{ℕ, _≤_}
 use native.Mathlib.Omega.{arith}
 use Rattle.model.specs.Limits.{version1}
-use Rattle.model.specs.Walk.{walked}
-use Rattle.model.specs.DeskText.{verdictText}
+use Rattle.model.specs.Walk.{Line, Verdict, walked}
+use Rattle.model.specs.DeskText.{verdictLine, verdictRest}
+use Rattle.model.specs.Operations.{lineCount}
 use Rattle.model.specs.Trials.{Row, reply, P-no-start, starred, NoStart, edges, DeskGrant}
 use Rattle.model.proofs.Laws.Tasks.{task-fits}
 use Rattle.model.proofs.Laws.Judging.{judged-in, judged-out}
@@ -31,7 +32,7 @@ unfolding reply
 desk-grant-holds problem plan T given =
     let f = task-fits version1 problem plan T given in
     let l : T .facts ≤ T .width = omega arith in
-    rw given (
-      (λ h. ap (verdictText version1 T) (judged-out T l 1000000 h)),
-      (λ h. ap (verdictText version1 T) (judged-in T l 1000000 (walked T) refl h)),
-    )
+    rw given ((λ h. ap whole (judged-out T l 1000000 h)), (λ h. ap whole (judged-in T l 1000000 (walked T) refl h)))
+  where
+    whole : Verdict (List Line) → List ℕ
+    whole v = verdictLine version1 (T .facts) (lineCount v) ++ verdictRest version1 (T .facts) v

@@ -20,8 +20,8 @@ use Rattle.model.specs.FormulaBytes.{isLiteral, literalOf, groupHead, he
 use Rattle.model.specs.ProblemBytes.{effect, effects, effectList, action, actions, ending, parts, body, problem, problemOf, steps, plan, planOf, actionAt}
 use Rattle.model.specs.ListBytes.{lineAt, linesFrom, caseList, listOf, lineBytes, linesBytes, encodeList}
 use Rattle.model.specs.Text.{ascii, hex}
-use Rattle.model.specs.DeskText.{digits, decimal, sentence, marks, linesText, listText, verdictText, answerText, deskText}
-use Rattle.model.specs.Operations.{Counts, Written, isState, readProblem, readPlan, taskOf, readTask, runState, judge, listBytes, linesFor, written, listFor, writeList, followList}
+use Rattle.model.specs.DeskText.{digits, decimal, sentence, marks, refusalLine, rightLine, wrongLine, undecidedLine, verdictLine, lineText, linesText, listText, verdictRest, answerLine, answerRest, firstLine, laterLines, deskText}
+use Rattle.model.specs.Operations.{Counts, Written, isState, lineCount, readProblem, readPlan, taskOf, readTask, runState, judge, listBytes, linesFor, written, listFor, writeList, followList}
 
 pub data Call : Type 0 where
   read-problem : List ℕ → Call
@@ -42,7 +42,7 @@ pub data Reply : Type 0 where
 
 -- what the definitions give; a proof that unfolds this computes with all of them
 unfoldable pub reply : Call → Reply
-unfolding eval conditionIn applicable next step goesOn run bit stateOf caseOf runOf walkFrom walk lookAt walked judged Answer._>>=_ first refuseAt ends fault follow andThen _>>=_ _>>_ done position require answerOf bigEndianFrom bytesOf block byte counted header count isLiteral literalOf groupHead headFrom head members whole item stated formula effect effects effectList action actions ending parts body problem problemOf steps plan planOf actionAt lineAt linesFrom caseList listOf lineBytes linesBytes encodeList isState readProblem readPlan taskOf readTask runState judge listBytes linesFor written listFor writeList followList ascii hex digits decimal sentence marks linesText listText verdictText answerText deskText
+unfolding eval conditionIn applicable next step goesOn run bit stateOf caseOf runOf walkFrom walk lookAt walked judged Answer._>>=_ first refuseAt ends fault follow andThen _>>=_ _>>_ done position require answerOf bigEndianFrom bytesOf block byte counted header count isLiteral literalOf groupHead headFrom head members whole item stated formula effect effects effectList action actions ending parts body problem problemOf steps plan planOf actionAt lineAt linesFrom caseList listOf lineBytes linesBytes encodeList isState readProblem readPlan taskOf readTask runState judge listBytes linesFor written listFor writeList followList ascii hex digits decimal sentence marks refusalLine rightLine wrongLine undecidedLine verdictLine lineText linesText listText verdictRest answerLine answerRest firstLine laterLines deskText
 reply (read-problem p) = counts (readProblem version1 p)
 reply (read-plan p q) = number (readPlan version1 p q)
 reply (run-state p q s) = outcome (runState version1 p q s)
@@ -364,4 +364,6 @@ abbrev pub DeskGrant : Type 0
 DeskGrant =
     (problem plan : List ℕ) (T : Task) → readTask version1 problem plan ≡ answered T →
     (1000000 < visits (walked T) → deskText version1 problem plan ≡ ascii "undecided visited 1000000\n") ×
-    (visits (walked T) ≤ 1000000 → deskText version1 problem plan ≡ verdictText version1 T (found T (walked T)))
+    (visits (walked T) ≤ 1000000 →
+    let v = found T (walked T) in
+    deskText version1 problem plan ≡ verdictLine version1 (T .facts) (lineCount v) ++ verdictRest version1 (T .facts) v)

@@ -6,6 +6,7 @@ use Prim.Native.Nat.{ℕ, zero, suc, _+_, _-_, _*_, _/_, _%_, _^_, _≤_, _<_}
 use native.Mathlib.Nat.{pow-suc, pow-le-pow-right, div-div-eq-div-mul}
 use native.Mathlib.Omega.{arith}
 use lib.ListN.{length, getD, take, drop, set, length-drop}
+use lib.Pow.{shl-exact}
 use lib.Seq.{sets, set-comm, take-suc, getD-drop}
 use Rattle.model.specs.Read.{bigEndianFrom, bigEndian, bytesOf}
 
@@ -58,3 +59,8 @@ pub rest-before : (i n x rest : ℕ) → 0 < i → i ≤ n → rest ≡ x / 256 
 rest-before i n x rest p q e =
     let m : n - (i - 1) ≡ suc (n - i) = omega arith in
     rw (m, pow-suc 256 (n - i), e) (div-div-eq-div-mul x (256 ^ (n - i)) 256)
+
+-- ---- bits
+
+pub one-shifted : (n : ℕ) → n < 64 → 1 * 2 ^ n % 2 ^ 64 ≡ 2 ^ n
+one-shifted n h = shl-exact {a = 1} 1 n 64 (omega arith) (omega arith) ∙ omega arith

@@ -1,6 +1,6 @@
 // Numbers in bytes, the highest first.
 ghost use mathlib.Core.Path.{_≡_};
-ghost use Prim.Native.Nat.{_+_, _%_, _≤_, _<_};
+ghost use Prim.Native.Nat.{_+_, _-_, _%_, _^_, _≤_, _<_};
 ghost use lib.ListN.{length, take, drop};
 ghost use lib.Seq.{sets};
 ghost use Rattle.model.specs.Read.{bigEndian, bytesOf};
@@ -28,7 +28,7 @@ fn low_byte(x: u64) -> u8
 // The number in the n bytes from `at` on.
 pub fn read_number(s: &[u8], at: usize, n: usize) -> u64
     requires { ⌜ (n ≤ 8) × (at + n ≤ length (now s)) ⌝ }
-    ensures { λ r. ⌜ r ≡ bigEndian (take n (drop at (now (s .entry)))) ⌝ }
+    ensures { λ r. ⌜ (r ≡ bigEndian (take n (drop at (now (s .entry))))) × (r < 256 ^ n) ⌝ }
 {
     let mut x: u64 = 0;
     let mut i: usize = 0;
@@ -51,4 +51,23 @@ pub fn put_number(out: &mut [u8], at: usize, n: usize, x: u64)
         out[at + i] = low_byte(rest);
         rest = rest / 256;
     }
+}
+
+// The n lowest bits of x.
+pub fn low_bits(x: u64, n: usize) -> u64
+    requires { ⌜ n ≤ 64 ⌝ }
+    ensures { λ r. ⌜ r ≡ x % 2 ^ n ⌝ }
+{
+    if n == 64 {
+        return x;
+    }
+    x % (1u64 << n)
+}
+
+// The numbers of so many bits that share their first k bits.
+pub fn span(width: usize, k: usize) -> u64
+    requires { ⌜ (k ≤ width) × (width < 64 + k) ⌝ }
+    ensures { λ r. ⌜ r ≡ 2 ^ (width - k) ⌝ }
+{
+    1u64 << (width - k)
 }

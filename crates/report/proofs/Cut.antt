@@ -1,7 +1,7 @@
 -- The program reads one byte more than a block may have: a file that is cut there has the same text. Assumes nothing.
 use mathlib.Core.Path.{_≡_, refl, sym, ap, _∙_}
 use mathlib.Core.Bool.{Bool, true, false}
-use mathlib.Core.List.{List}
+use mathlib.Core.List.{List, _++_}
 use Prim.Native.Nat.{ℕ, _+_, _<_}
 use native.Mathlib.Omega.{arith}
 use lib.Dec.{leb}
@@ -15,7 +15,7 @@ use Rattle.model.specs.Read as Read
 use Rattle.model.specs.Read.{reject, andThen, require, answerOf, header}
 use Rattle.model.specs.ProblemBytes.{problem, problemOf, plan, planOf}
 use Rattle.model.specs.Operations.{taskOf, readTask}
-use Rattle.model.specs.DeskText.{answerText, deskText}
+use Rattle.model.specs.DeskText.{answerLine, answerRest, firstLine, laterLines, deskText}
 
 header-over : (s : List ℕ) (number most version p : ℕ) → most < length s → header s number most version p ≡ reject number most
 unfolding header Read._>>_ andThen require
@@ -46,5 +46,5 @@ task-cut s t =
     (λ p. Answer._>>=_ (cut (λ (l : List ℕ). planOf l (length (p .actions))) 261 _ (plan-over (length (p .actions))) t i) (λ steps. answered (taskOf version1 p steps)))
 
 pub text-cut : (s t : List ℕ) → deskText version1 (take 32769 s) (take 262 t) ≡ deskText version1 s t
-unfolding deskText
-text-cut s t = ap (answerText version1) (task-cut s t)
+unfolding deskText firstLine laterLines
+text-cut s t = ap (λ x. answerLine version1 x ++ answerRest version1 x) (task-cut s t)

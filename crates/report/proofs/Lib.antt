@@ -2,4 +2,4 @@ pub mod Decimal
 pub mod Puts
 pub mod Sentences
 pub mod Cut
-pub mod Later
+pub mod Pages

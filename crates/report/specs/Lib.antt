@@ -1,4 +1,4 @@
 -- What is written, in the words of model/specs.
 pub mod Written
-pub mod FirstLine
-pub mod Later
+pub mod Parts
+pub mod Pages

@@ -1,10 +1,12 @@
-// The desk program's text, written into lent buffers: its first line, and one line of the list at a time.
+// The desk program's text, written into lent buffers: its first line, and one line after it at a time.
 pub mod line;
-pub mod rest;
+pub mod page;
 pub mod text;
 
-pub use line::facts_of;
 pub use line::first_line;
 pub use line::list_line;
-pub use rest::Rest;
-pub use rest::write_rest;
+pub use line::too_long;
+pub use page::Page;
+pub use page::Rest;
+pub use page::page_of;
+pub use page::what_follows;

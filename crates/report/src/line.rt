@@ -3,20 +3,19 @@ ghost use Prim.Native.Nat.{_+_, _*_, _≤_, _<_};
 ghost use lib.ListN.{length};
 ghost use Rattle.model.specs.Limits.{version1};
 ghost use Rattle.model.specs.Answers.{outcome as outcomeOf};
-ghost use Rattle.certificate.specs.Lines.{lineNumber};
+ghost use Rattle.model.specs.DeskText.{refusalLine, rightLine, wrongLine, undecidedLine, lineText, tooLong};
+ghost use Rattle.lines.specs.Lines.{lineNumber};
 ghost use Rattle.report.specs.Written.{Put};
-ghost use Rattle.report.specs.FirstLine.{visitsText, blockWords, refusalLine, rightLine, wrongLine, undecidedLine, placeWords, firstLine, kindWord, lineText, Facts};
+ghost use Rattle.report.specs.Parts.{visitsText, blockWords, placeWords, kindWord};
+ghost use Rattle.report.specs.Pages.{pageLine};
+use crate::page::Page;
 use crate::text::put_marks;
 use crate::text::put_word;
 use crate::text::write_decimal;
-use blocks::find_task;
-use certificate::line::read_line;
-use judge::judge;
+use lines::read_line;
+use model::CaseList;
 use model::JudgeAnswer;
 use model::Outcome;
-
-// The program's grant is fixed.
-pub const GRANT: u64 = 1000000;
 
 // Where every line but the refusal ends its first sentence.
 fn put_visits(out: &mut [u8], at: usize, visits: u64) -> usize
@@ -76,7 +75,7 @@ fn put_place(out: &mut [u8], at: usize, outcome: Outcome) -> usize
 
 fn put_wrong(out: &mut [u8], facts: u8, state: u64, outcome: Outcome, visits: u64) -> usize
     requires { ⌜ (128 ≤ length (now out)) × (facts ≤ 48) ⌝ }
-    ensures { λ r. ⌜ Put (now (out .entry)) 0 (wrongLine facts state (outcomeOf outcome) visits) r (now (out .exit)) × (r ≤ 128) ⌝ }
+    ensures { λ r. ⌜ Put (now (out .entry)) 0 (wrongLine version1 facts state (outcomeOf outcome) visits) r (now (out .exit)) × (r ≤ 128) ⌝ }
 {
     let p = put_word(out, 0, b"wrong ");
     let q = put_marks(out, p, facts, facts, state);
@@ -92,33 +91,20 @@ fn put_undecided(out: &mut [u8], visits: u64) -> usize
     put_visits(out, p, visits)
 }
 
-// How many facts the problem has; where it or the plan is refused, none.
-pub fn facts_of(problem: &[u8], plan: &[u8]) -> u8
-    ensures { λ r. ⌜ Facts (now (problem .entry)) (now (plan .entry)) r ⌝ }
-{
-    let task = find_task(problem, plan);
-    if task.refused {
-        return 0;
-    }
-    task.problem.facts
-}
-
 // The first line: the refusal, or the verdict.
-pub fn first_line(problem: &[u8], plan: &[u8], out: &mut [u8]) -> usize
-    requires { ⌜ 128 ≤ length (now out) ⌝ }
-    ensures { λ r. ⌜ Put (now (out .entry)) 0 (firstLine version1 (now (problem .entry)) (now (plan .entry))) r (now (out .exit)) × (r ≤ 128) ⌝ }
+pub fn first_line(page: Page, out: &mut [u8]) -> usize
+    requires { ⌜ (page .facts ≤ 48) × (128 ≤ length (now out)) ⌝ }
+    ensures { λ r. ⌜ Put (now (out .entry)) 0 (pageLine page) r (now (out .exit)) × (r ≤ 128) ⌝ }
 {
-    match judge(problem, plan, GRANT) {
+    let answer = page.answer;
+    match answer {
         JudgeAnswer::Refused(refusal) => put_refusal(out, refusal.number, refusal.place),
         JudgeAnswer::Right { lines, visits } => put_right(out, lines, visits),
         JudgeAnswer::Wrong {
             state,
             outcome,
             visits,
-        } => {
-            let facts = facts_of(problem, plan);
-            put_wrong(out, facts, state, outcome, visits)
-        }
+        } => put_wrong(out, page.facts, state, outcome, visits),
         JudgeAnswer::Undecided { visits } => put_undecided(out, visits),
     }
 }
@@ -136,10 +122,18 @@ fn put_kind(out: &mut [u8], kind: u8) -> usize
 // The line numbered `line` of a list block: its kind and one mark per fact.
 pub fn list_line(list: &[u8], line: usize, facts: u8, out: &mut [u8]) -> usize
     requires { ⌜ (5 + 8 * line + 8 ≤ length (now list)) × (facts ≤ 48) × (64 ≤ length (now out)) ⌝ }
-    ensures { λ r. ⌜ Put (now (out .entry)) 0 (lineText facts (lineNumber (now (list .entry)) line)) r (now (out .exit)) × (r ≤ 64) ⌝ }
+    ensures { λ r. ⌜ Put (now (out .entry)) 0 (lineText version1 facts (lineNumber (version1 .line) (now (list .entry)) line)) r (now (out .exit)) × (r ≤ 64) ⌝ }
 {
-    let l = read_line(list, line);
+    let l = read_line(list, line, CaseList::LINE_BYTES);
     let p = put_kind(out, l.kind);
     let q = put_marks(out, p, facts, l.k, l.value);
     put_word(out, q, b"\n")
+}
+
+// The line in place of a list that is too long.
+pub fn too_long(out: &mut [u8]) -> usize
+    requires { ⌜ 64 ≤ length (now out) ⌝ }
+    ensures { λ r. ⌜ Put (now (out .entry)) 0 tooLong r (now (out .exit)) × (r ≤ 64) ⌝ }
+{
+    put_word(out, 0, b"list too long\n")
 }

@@ -5,7 +5,9 @@ ghost use lib.ListN.{length};
 ghost use lib.Seq.{sets};
 ghost use Rattle.model.specs.DeskText.{decimal, marks};
 ghost use Rattle.report.specs.Written.{Put, mark as markOf};
-use certificate::line::span_of;
+use model::CaseList;
+use numbers::span;
+use numbers::wide;
 
 // The digit d as a byte.
 fn digit(d: u64) -> u8
@@ -51,7 +53,7 @@ fn mark(i: u8, k: u8, value: u64) -> u8
     if k <= i {
         return b'?';
     }
-    if value / span_of(i + 1) % 2 == 1 {
+    if value / span(CaseList::WIDTH as usize, wide(i) + 1) % 2 == 1 {
         return b'1';
     }
     b'0'

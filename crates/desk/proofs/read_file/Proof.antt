@@ -41,30 +41,6 @@ abbrev μ-loop : tie.MeasureT-loop
 more : (c : tie.Else2 Inv-loop μ-loop) → Came (length (c .before .before .before .before .before .before .before .loop .buf) - c .before .before .before .before .before .before .before .loop .done) (toZ w64 (ofZ w64 (c .before .before .before .before .read .result)))
 more c = let h = back _ (c .before .before .before .before .read .result) (record { sfits = c .before .before .before .before .read .ok }) (c .before .before .before .before .read .ensures) (c .before .if1 .left) (c .if2 .left) in record { sign = h .sign; some = h .some; within = omega arith }
 
-loop-holds : tie.Need-loop-holds Inv-loop μ-loop
-loop-holds c = search needs
-
-sub-read : tie.Need-sub-read Inv-loop μ-loop
-sub-read c = search needs
-
-part-read-start : tie.Need-part-read-start Inv-loop μ-loop
-part-read-start c = search needs
-
-part-read-end : tie.Need-part-read-end Inv-loop μ-loop
-part-read-end c = search needs
-
-read-requires : tie.Need-read-requires Inv-loop μ-loop
-read-requires c κs = search needs
-
-same-length : tie.Need-same-length Inv-loop μ-loop
-same-length c = search needs
-
-returns : tie.Need-returns Inv-loop μ-loop
-returns c = search needs
-
-same-length-2 : tie.Need-same-length-2 Inv-loop μ-loop
-same-length-2 c = search needs
-
 returns-2 : tie.Need-returns-2 Inv-loop μ-loop
 returns-2 c = (search needs, sym (length-take-le _ _ (search needs)))
 
@@ -80,9 +56,6 @@ loop-less c = omega (arith, more c .some)
 loop-again : tie.Need-loop-again Inv-loop μ-loop
 loop-again c = (omega (arith, more c .within), search needs)
 
-same-length-3 : tie.Need-same-length-3 Inv-loop μ-loop
-same-length-3 c = search needs
-
 returns-3 : tie.Need-returns-3 Inv-loop μ-loop
 returns-3 c = (search needs, sym (length-take-le _ _ (search needs)))
 
@@ -92,18 +65,18 @@ read-file-spec =
     (tie.spec
     Inv-loop
     μ-loop
-    loop-holds
-    sub-read
-    part-read-start
-    part-read-end
-    read-requires
-    same-length
-    returns
-    same-length-2
+    (λ c. search needs)
+    (λ c. search needs)
+    (λ c. search needs)
+    (λ c. search needs)
+    (λ c κs. search needs)
+    (λ c. search needs)
+    (λ c. search needs)
+    (λ c. search needs)
     returns-2
     cast-done
     add-done
     loop-less
     loop-again
-    same-length-3
+    (λ c. search needs)
     returns-3)

@@ -44,139 +44,38 @@ abbrev any-planes-below : ℕ → In 2 any-planes-kinds.ps
 any-planes-below t =
     and 2 any-planes-kinds.ps (falls 2 any-planes-kinds.ps _<_ μ-any-planes t) any-planes.Pre
 
+abbrev all-planes-calls : ℕ → all-planes-lts.Claims
+all-planes-calls t = (literal-planes-reads.Asked, literal-planes-reads.Learnt, any-planes-below t, any-planes.Post)
+
+abbrev any-planes-calls : ℕ → any-planes-lts.Claims
+any-planes-calls t = (literal-planes-reads.Asked, literal-planes-reads.Learnt, all-planes-below t, all-planes.Post)
+
 abbrev all-planes-Inv-loop : all-planes-lts.InvT-loop
 all-planes-Inv-loop s at n c whole some₀ sure₀ p₀ k₀ some sure p k = Held s c conjunction n at some sure k p
 
 abbrev all-planes-μ-loop : all-planes-lts.MeasureT-loop
 all-planes-μ-loop s at n c whole some₀ sure₀ p₀ k₀ some sure p k = k
 
-all-planes-loop-holds : (t : ℕ) → all-planes-lts.Need-loop-holds (
-  literal-planes-reads.Asked,
-  literal-planes-reads.Learnt,
-  any-planes-below t,
-  any-planes.Post,
-) (all-planes-at t) all-planes.Post all-planes-Inv-loop all-planes-μ-loop
+all-planes-loop-holds : (t : ℕ) → all-planes-lts.Need-loop-holds (all-planes-calls t) (all-planes-at t) all-planes.Post all-planes-Inv-loop all-planes-μ-loop
 all-planes-loop-holds t c = held-begins _ _ conjunction _ _
 
-all-planes-returns : (t : ℕ) → all-planes-lts.Need-returns (
-  literal-planes-reads.Asked,
-  literal-planes-reads.Learnt,
-  any-planes-below t,
-  any-planes.Post,
-) (all-planes-at t) all-planes.Post all-planes-Inv-loop all-planes-μ-loop
+all-planes-returns : (t : ℕ) → all-planes-lts.Need-returns (all-planes-calls t) (all-planes-at t) all-planes.Post all-planes-Inv-loop all-planes-μ-loop
 all-planes-returns t c = let d = both-true _ _ (c .if1 .taken) in held-no _ _ _ _ _ _ _ _ (c .before .before .loop .inv) (eqb-true _ _ (d .1)) _ (not-true _ (d .0)) _ refl refl refl
 
-all-planes-returns-2 : (t : ℕ) → all-planes-lts.Need-returns-2 (
-  literal-planes-reads.Asked,
-  literal-planes-reads.Learnt,
-  any-planes-below t,
-  any-planes.Post,
-) (all-planes-at t) all-planes.Post all-planes-Inv-loop all-planes-μ-loop
+all-planes-returns-2 : (t : ℕ) → all-planes-lts.Need-returns-2 (all-planes-calls t) (all-planes-at t) all-planes.Post all-planes-Inv-loop all-planes-μ-loop
 all-planes-returns-2 t c = held-short _ _ _ _ _ _ _ _ _ (c .before .before .before .loop .inv) (c .before .before .loop-test .taken) (c .if2 .taken) _ _ refl
 
-all-planes-shared-slice-read-b : (t : ℕ) → all-planes-lts.Need-shared-slice-read-b (
-  literal-planes-reads.Asked,
-  literal-planes-reads.Learnt,
-  any-planes-below t,
-  any-planes.Post,
-) (all-planes-at t) all-planes.Post all-planes-Inv-loop all-planes-μ-loop
-all-planes-shared-slice-read-b t c = search needs
-
-all-planes-literal-planes-requires : (t : ℕ) → all-planes-lts.Need-literal-planes-requires (
-  literal-planes-reads.Asked,
-  literal-planes-reads.Learnt,
-  any-planes-below t,
-  any-planes.Post,
-) (all-planes-at t) all-planes.Post all-planes-Inv-loop all-planes-μ-loop
-all-planes-literal-planes-requires t c κs = search needs
-
-all-planes-add-p : (t : ℕ) → all-planes-lts.Need-add-p (
-  literal-planes-reads.Asked,
-  literal-planes-reads.Learnt,
-  any-planes-below t,
-  any-planes.Post,
-) (all-planes-at t) all-planes.Post all-planes-Inv-loop all-planes-μ-loop
-all-planes-add-p t c = search needs
-
-all-planes-sub-if4 : (t : ℕ) → all-planes-lts.Need-sub-if4 (
-  literal-planes-reads.Asked,
-  literal-planes-reads.Learnt,
-  any-planes-below t,
-  any-planes.Post,
-) (all-planes-at t) all-planes.Post all-planes-Inv-loop all-planes-μ-loop
-all-planes-sub-if4 t c = search needs
-
-all-planes-returns-3 : (t : ℕ) → all-planes-lts.Need-returns-3 (
-  literal-planes-reads.Asked,
-  literal-planes-reads.Learnt,
-  any-planes-below t,
-  any-planes.Post,
-) (all-planes-at t) all-planes.Post all-planes-Inv-loop all-planes-μ-loop
+all-planes-returns-3 : (t : ℕ) → all-planes-lts.Need-returns-3 (all-planes-calls t) (all-planes-at t) all-planes.Post all-planes-Inv-loop all-planes-μ-loop
 all-planes-returns-3 t c = held-cut _ _ _ _ _ _ _ _ _ (c .before .before .before .before .before .before .loop .inv) (c .before .before .before .before .before .loop-test .taken) _ refl (c .before .if3 .left) (c .if4 .taken) _ _ refl
 
-all-planes-add-any-planes : (t : ℕ) → all-planes-lts.Need-add-any-planes (
-  literal-planes-reads.Asked,
-  literal-planes-reads.Learnt,
-  any-planes-below t,
-  any-planes.Post,
-) (all-planes-at t) all-planes.Post all-planes-Inv-loop all-planes-μ-loop
-all-planes-add-any-planes t c = search needs
-
-all-planes-add-any-planes-2 : (t : ℕ) → all-planes-lts.Need-add-any-planes-2 (
-  literal-planes-reads.Asked,
-  literal-planes-reads.Learnt,
-  any-planes-below t,
-  any-planes.Post,
-) (all-planes-at t) all-planes.Post all-planes-Inv-loop all-planes-μ-loop
-all-planes-add-any-planes-2 t c = search needs
-
 all-planes-shared-slice-read-any-planes :
-    (t : ℕ) → all-planes-lts.Need-shared-slice-read-any-planes (
-      literal-planes-reads.Asked,
-      literal-planes-reads.Learnt,
-      any-planes-below t,
-      any-planes.Post,
-    ) (all-planes-at t) all-planes.Post all-planes-Inv-loop all-planes-μ-loop
+    (t : ℕ) → all-planes-lts.Need-shared-slice-read-any-planes (all-planes-calls t) (all-planes-at t) all-planes.Post all-planes-Inv-loop all-planes-μ-loop
 all-planes-shared-slice-read-any-planes t c = search needs
 
-all-planes-any-planes-requires : (t : ℕ) → all-planes-lts.Need-any-planes-requires (
-  literal-planes-reads.Asked,
-  literal-planes-reads.Learnt,
-  any-planes-below t,
-  any-planes.Post,
-) (all-planes-at t) all-planes.Post all-planes-Inv-loop all-planes-μ-loop
-all-planes-any-planes-requires t c κs = search needs
-
-all-planes-sub-k : (t : ℕ) → all-planes-lts.Need-sub-k (
-  literal-planes-reads.Asked,
-  literal-planes-reads.Learnt,
-  any-planes-below t,
-  any-planes.Post,
-) (all-planes-at t) all-planes.Post all-planes-Inv-loop all-planes-μ-loop
-all-planes-sub-k t c = search needs
-
-all-planes-loop-less : (t : ℕ) → all-planes-lts.Need-loop-less (
-  literal-planes-reads.Asked,
-  literal-planes-reads.Learnt,
-  any-planes-below t,
-  any-planes.Post,
-) (all-planes-at t) all-planes.Post all-planes-Inv-loop all-planes-μ-loop
-all-planes-loop-less t c = search needs
-
-all-planes-loop-again : (t : ℕ) → all-planes-lts.Need-loop-again (
-  literal-planes-reads.Asked,
-  literal-planes-reads.Learnt,
-  any-planes-below t,
-  any-planes.Post,
-) (all-planes-at t) all-planes.Post all-planes-Inv-loop all-planes-μ-loop
+all-planes-loop-again : (t : ℕ) → all-planes-lts.Need-loop-again (all-planes-calls t) (all-planes-at t) all-planes.Post all-planes-Inv-loop all-planes-μ-loop
 all-planes-loop-again t c = let h = c .before .before .before .before .before .loop .inv in let l = c .before .before .before .before .loop-test .taken in ⊎-elim (λ w. held-as _ _ conjunction _ _ _ _ _ _ _ _ _ (held-literal _ _ _ _ _ _ _ _ _ h l _ refl (w .0 .taken) _ (w .1 .ensures)) (w .4) (w .5) (w .6)) (λ w. held-as _ _ conjunction _ _ _ _ _ _ _ _ _ (held-group _ _ _ _ _ _ _ _ _ h l _ refl (w .0 .left) _ (w .3 .ensures)) (w .6) (w .7) (w .8)) (c .if3 .came)
 
-all-planes-returns-4 : (t : ℕ) → all-planes-lts.Need-returns-4 (
-  literal-planes-reads.Asked,
-  literal-planes-reads.Learnt,
-  any-planes-below t,
-  any-planes.Post,
-) (all-planes-at t) all-planes.Post all-planes-Inv-loop all-planes-μ-loop
+all-planes-returns-4 : (t : ℕ) → all-planes-lts.Need-returns-4 (all-planes-calls t) (all-planes-at t) all-planes.Post all-planes-Inv-loop all-planes-μ-loop
 all-planes-returns-4 t c = held-ends _ _ _ _ _ _ _ _ _ (c .before .loop .inv) (omega arith) _ _ refl refl refl
 
 abbrev any-planes-Inv-loop : any-planes-lts.InvT-loop
@@ -185,142 +84,30 @@ any-planes-Inv-loop s at n c whole some₀ sure₀ p₀ k₀ some sure p k = Hel
 abbrev any-planes-μ-loop : any-planes-lts.MeasureT-loop
 any-planes-μ-loop s at n c whole some₀ sure₀ p₀ k₀ some sure p k = k
 
-any-planes-loop-holds : (t : ℕ) → any-planes-lts.Need-loop-holds (
-  literal-planes-reads.Asked,
-  literal-planes-reads.Learnt,
-  all-planes-below t,
-  all-planes.Post,
-) (any-planes-at t) any-planes.Post any-planes-Inv-loop any-planes-μ-loop
+any-planes-loop-holds : (t : ℕ) → any-planes-lts.Need-loop-holds (any-planes-calls t) (any-planes-at t) any-planes.Post any-planes-Inv-loop any-planes-μ-loop
 any-planes-loop-holds t c = held-begins _ _ disjunction _ _
 
-any-planes-returns : (t : ℕ) → any-planes-lts.Need-returns (
-  literal-planes-reads.Asked,
-  literal-planes-reads.Learnt,
-  all-planes-below t,
-  all-planes.Post,
-) (any-planes-at t) any-planes.Post any-planes-Inv-loop any-planes-μ-loop
+any-planes-returns : (t : ℕ) → any-planes-lts.Need-returns (any-planes-calls t) (any-planes-at t) any-planes.Post any-planes-Inv-loop any-planes-μ-loop
 any-planes-returns t c = let d = both-true _ _ (c .if1 .taken) in held-yes _ _ _ _ _ _ _ _ (c .before .before .loop .inv) (eqb-true _ _ (d .1)) _ (not-true _ (d .0)) _ refl refl refl
 
-any-planes-returns-2 : (t : ℕ) → any-planes-lts.Need-returns-2 (
-  literal-planes-reads.Asked,
-  literal-planes-reads.Learnt,
-  all-planes-below t,
-  all-planes.Post,
-) (any-planes-at t) any-planes.Post any-planes-Inv-loop any-planes-μ-loop
+any-planes-returns-2 : (t : ℕ) → any-planes-lts.Need-returns-2 (any-planes-calls t) (any-planes-at t) any-planes.Post any-planes-Inv-loop any-planes-μ-loop
 any-planes-returns-2 t c = held-short _ _ _ _ _ _ _ _ _ (c .before .before .before .loop .inv) (c .before .before .loop-test .taken) (c .if2 .taken) _ _ refl
 
-any-planes-shared-slice-read-b : (t : ℕ) → any-planes-lts.Need-shared-slice-read-b (
-  literal-planes-reads.Asked,
-  literal-planes-reads.Learnt,
-  all-planes-below t,
-  all-planes.Post,
-) (any-planes-at t) any-planes.Post any-planes-Inv-loop any-planes-μ-loop
-any-planes-shared-slice-read-b t c = search needs
-
-any-planes-literal-planes-requires : (t : ℕ) → any-planes-lts.Need-literal-planes-requires (
-  literal-planes-reads.Asked,
-  literal-planes-reads.Learnt,
-  all-planes-below t,
-  all-planes.Post,
-) (any-planes-at t) any-planes.Post any-planes-Inv-loop any-planes-μ-loop
-any-planes-literal-planes-requires t c κs = search needs
-
-any-planes-add-p : (t : ℕ) → any-planes-lts.Need-add-p (
-  literal-planes-reads.Asked,
-  literal-planes-reads.Learnt,
-  all-planes-below t,
-  all-planes.Post,
-) (any-planes-at t) any-planes.Post any-planes-Inv-loop any-planes-μ-loop
-any-planes-add-p t c = search needs
-
-any-planes-sub-if4 : (t : ℕ) → any-planes-lts.Need-sub-if4 (
-  literal-planes-reads.Asked,
-  literal-planes-reads.Learnt,
-  all-planes-below t,
-  all-planes.Post,
-) (any-planes-at t) any-planes.Post any-planes-Inv-loop any-planes-μ-loop
-any-planes-sub-if4 t c = search needs
-
-any-planes-returns-3 : (t : ℕ) → any-planes-lts.Need-returns-3 (
-  literal-planes-reads.Asked,
-  literal-planes-reads.Learnt,
-  all-planes-below t,
-  all-planes.Post,
-) (any-planes-at t) any-planes.Post any-planes-Inv-loop any-planes-μ-loop
+any-planes-returns-3 : (t : ℕ) → any-planes-lts.Need-returns-3 (any-planes-calls t) (any-planes-at t) any-planes.Post any-planes-Inv-loop any-planes-μ-loop
 any-planes-returns-3 t c = held-cut _ _ _ _ _ _ _ _ _ (c .before .before .before .before .before .before .loop .inv) (c .before .before .before .before .before .loop-test .taken) _ refl (c .before .if3 .left) (c .if4 .taken) _ _ refl
 
-any-planes-add-all-planes : (t : ℕ) → any-planes-lts.Need-add-all-planes (
-  literal-planes-reads.Asked,
-  literal-planes-reads.Learnt,
-  all-planes-below t,
-  all-planes.Post,
-) (any-planes-at t) any-planes.Post any-planes-Inv-loop any-planes-μ-loop
-any-planes-add-all-planes t c = search needs
-
-any-planes-add-all-planes-2 : (t : ℕ) → any-planes-lts.Need-add-all-planes-2 (
-  literal-planes-reads.Asked,
-  literal-planes-reads.Learnt,
-  all-planes-below t,
-  all-planes.Post,
-) (any-planes-at t) any-planes.Post any-planes-Inv-loop any-planes-μ-loop
-any-planes-add-all-planes-2 t c = search needs
-
 any-planes-shared-slice-read-all-planes :
-    (t : ℕ) → any-planes-lts.Need-shared-slice-read-all-planes (
-      literal-planes-reads.Asked,
-      literal-planes-reads.Learnt,
-      all-planes-below t,
-      all-planes.Post,
-    ) (any-planes-at t) any-planes.Post any-planes-Inv-loop any-planes-μ-loop
+    (t : ℕ) → any-planes-lts.Need-shared-slice-read-all-planes (any-planes-calls t) (any-planes-at t) any-planes.Post any-planes-Inv-loop any-planes-μ-loop
 any-planes-shared-slice-read-all-planes t c = search needs
 
-any-planes-all-planes-requires : (t : ℕ) → any-planes-lts.Need-all-planes-requires (
-  literal-planes-reads.Asked,
-  literal-planes-reads.Learnt,
-  all-planes-below t,
-  all-planes.Post,
-) (any-planes-at t) any-planes.Post any-planes-Inv-loop any-planes-μ-loop
-any-planes-all-planes-requires t c κs = search needs
-
-any-planes-sub-k : (t : ℕ) → any-planes-lts.Need-sub-k (
-  literal-planes-reads.Asked,
-  literal-planes-reads.Learnt,
-  all-planes-below t,
-  all-planes.Post,
-) (any-planes-at t) any-planes.Post any-planes-Inv-loop any-planes-μ-loop
-any-planes-sub-k t c = search needs
-
-any-planes-loop-less : (t : ℕ) → any-planes-lts.Need-loop-less (
-  literal-planes-reads.Asked,
-  literal-planes-reads.Learnt,
-  all-planes-below t,
-  all-planes.Post,
-) (any-planes-at t) any-planes.Post any-planes-Inv-loop any-planes-μ-loop
-any-planes-loop-less t c = search needs
-
-any-planes-loop-again : (t : ℕ) → any-planes-lts.Need-loop-again (
-  literal-planes-reads.Asked,
-  literal-planes-reads.Learnt,
-  all-planes-below t,
-  all-planes.Post,
-) (any-planes-at t) any-planes.Post any-planes-Inv-loop any-planes-μ-loop
+any-planes-loop-again : (t : ℕ) → any-planes-lts.Need-loop-again (any-planes-calls t) (any-planes-at t) any-planes.Post any-planes-Inv-loop any-planes-μ-loop
 any-planes-loop-again t c = let h = c .before .before .before .before .before .loop .inv in let l = c .before .before .before .before .loop-test .taken in ⊎-elim (λ w. held-as _ _ disjunction _ _ _ _ _ _ _ _ _ (held-literal _ _ _ _ _ _ _ _ _ h l _ refl (w .0 .taken) _ (w .1 .ensures)) (w .4) (w .5) (w .6)) (λ w. held-as _ _ disjunction _ _ _ _ _ _ _ _ _ (held-group _ _ _ _ _ _ _ _ _ h l _ refl (w .0 .left) _ (w .3 .ensures)) (w .6) (w .7) (w .8)) (c .if3 .came)
 
-any-planes-returns-4 : (t : ℕ) → any-planes-lts.Need-returns-4 (
-  literal-planes-reads.Asked,
-  literal-planes-reads.Learnt,
-  all-planes-below t,
-  all-planes.Post,
-) (any-planes-at t) any-planes.Post any-planes-Inv-loop any-planes-μ-loop
+any-planes-returns-4 : (t : ℕ) → any-planes-lts.Need-returns-4 (any-planes-calls t) (any-planes-at t) any-planes.Post any-planes-Inv-loop any-planes-μ-loop
 any-planes-returns-4 t c = held-ends _ _ _ _ _ _ _ _ _ (c .before .loop .inv) (omega arith) _ _ refl refl refl
 
 pub +all-planes+any-planes-spec : {M : Type 1} → statement M
-+all-planes+any-planes-spec = close μ-all-planes μ-any-planes (λ t. all-planes-lts.spec (
-  literal-planes-reads.Asked,
-  literal-planes-reads.Learnt,
-  any-planes-below t,
-  any-planes.Post,
-)
++all-planes+any-planes-spec = close μ-all-planes μ-any-planes (λ t. all-planes-lts.spec (all-planes-calls t)
     (all-planes-at t)
     all-planes.Post
     all-planes-Inv-loop
@@ -328,21 +115,20 @@ pub +all-planes+any-planes-spec : {M : Type 1} → statement M
     (all-planes-loop-holds t)
     (all-planes-returns t)
     (all-planes-returns-2 t)
-    (all-planes-shared-slice-read-b t)
-    (all-planes-literal-planes-requires t)
-    (all-planes-add-p t)
-    (all-planes-sub-if4 t)
+    (λ c. search needs)
+    (λ c κs. search needs)
+    (λ c. search needs)
+    (λ c. search needs)
     (all-planes-returns-3 t)
-    (all-planes-add-any-planes t)
-    (all-planes-add-any-planes-2 t)
+    (λ c. search needs)
+    (λ c. search needs)
     (all-planes-shared-slice-read-any-planes t)
-    (all-planes-any-planes-requires t)
-    (all-planes-sub-k t)
-    (all-planes-loop-less t)
+    (λ c κs. search needs)
+    (λ c. search needs)
+    (λ c. search needs)
     (all-planes-loop-again t)
     (all-planes-returns-4 t))
-    λ t. any-planes-lts.spec
-    (literal-planes-reads.Asked, literal-planes-reads.Learnt, all-planes-below t, all-planes.Post)
+    λ t. any-planes-lts.spec (any-planes-calls t)
     (any-planes-at t)
     any-planes.Post
     any-planes-Inv-loop
@@ -350,16 +136,16 @@ pub +all-planes+any-planes-spec : {M : Type 1} → statement M
     (any-planes-loop-holds t)
     (any-planes-returns t)
     (any-planes-returns-2 t)
-    (any-planes-shared-slice-read-b t)
-    (any-planes-literal-planes-requires t)
-    (any-planes-add-p t)
-    (any-planes-sub-if4 t)
+    (λ c. search needs)
+    (λ c κs. search needs)
+    (λ c. search needs)
+    (λ c. search needs)
     (any-planes-returns-3 t)
-    (any-planes-add-all-planes t)
-    (any-planes-add-all-planes-2 t)
+    (λ c. search needs)
+    (λ c. search needs)
     (any-planes-shared-slice-read-all-planes t)
-    (any-planes-all-planes-requires t)
-    (any-planes-sub-k t)
-    (any-planes-loop-less t)
+    (λ c κs. search needs)
+    (λ c. search needs)
+    (λ c. search needs)
     (any-planes-loop-again t)
     (any-planes-returns-4 t)

@@ -6,21 +6,6 @@ use borrow.Author.Needs.{needs}
 use Rattle.larkhammock.proofs.larkhammock_follow_list.Statement.{statement}
 use Rattle.larkhammock.proofs.larkhammock_follow_list.Tie as tie
 
-follow-list-requires : tie.Need-follow-list-requires
-follow-list-requires c κs = search needs
-
-enum-known-r : tie.Need-enum-known-r
-enum-known-r c = search needs
-
-refused-requires : tie.Need-refused-requires
-refused-requires c κs = search needs
-
-enum-known-lines : tie.Need-enum-known-lines
-enum-known-lines c = search needs
-
-row-requires : tie.Need-row-requires
-row-requires c κs = search needs
-
 returns : tie.Need-returns
 returns c = laid-out followAnswer countWords _ _ _ _ (c .refused .ensures) (c .before .before .r .given .1) (c .before .before .before .before .follow-list .ensures .0)
 
@@ -31,10 +16,10 @@ pub larkhammock-follow-list-spec : {M : Type 1} → statement M
 larkhammock-follow-list-spec =
     tie.close
     (tie.spec
-    follow-list-requires
-    enum-known-r
-    refused-requires
-    enum-known-lines
-    row-requires
+    (λ c κs. search needs)
+    (λ c. search needs)
+    (λ c κs. search needs)
+    (λ c. search needs)
+    (λ c κs. search needs)
     returns
     returns-2)

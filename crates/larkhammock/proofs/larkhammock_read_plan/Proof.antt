@@ -6,21 +6,6 @@ use borrow.Author.Needs.{needs}
 use Rattle.larkhammock.proofs.larkhammock_read_plan.Statement.{statement}
 use Rattle.larkhammock.proofs.larkhammock_read_plan.Tie as tie
 
-read-plan-requires : tie.Need-read-plan-requires
-read-plan-requires c κs = search needs
-
-enum-known-r : tie.Need-enum-known-r
-enum-known-r c = search needs
-
-refused-requires : tie.Need-refused-requires
-refused-requires c κs = search needs
-
-enum-known-steps : tie.Need-enum-known-steps
-enum-known-steps c = search needs
-
-row-requires : tie.Need-row-requires
-row-requires c κs = search needs
-
 returns : tie.Need-returns
 returns c = laid-out planAnswer countWords _ _ _ _ (c .refused .ensures) (c .before .before .r .given .1) (c .before .before .before .before .read-plan .ensures .0)
 
@@ -31,10 +16,10 @@ pub larkhammock-read-plan-spec : {M : Type 1} → statement M
 larkhammock-read-plan-spec =
     tie.close
     (tie.spec
-    read-plan-requires
-    enum-known-r
-    refused-requires
-    enum-known-steps
-    row-requires
+    (λ c κs. search needs)
+    (λ c. search needs)
+    (λ c κs. search needs)
+    (λ c. search needs)
+    (λ c κs. search needs)
     returns
     returns-2)

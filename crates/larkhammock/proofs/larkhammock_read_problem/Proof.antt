@@ -6,27 +6,6 @@ use borrow.Author.Needs.{needs}
 use Rattle.larkhammock.proofs.larkhammock_read_problem.Statement.{statement}
 use Rattle.larkhammock.proofs.larkhammock_read_problem.Tie as tie
 
-read-problem-requires : tie.Need-read-problem-requires
-read-problem-requires c κs = search needs
-
-enum-known-r : tie.Need-enum-known-r
-enum-known-r c = search needs
-
-refused-requires : tie.Need-refused-requires
-refused-requires c κs = search needs
-
-enum-known-facts : tie.Need-enum-known-facts
-enum-known-facts c = search needs
-
-cast-row : tie.Need-cast-row
-cast-row c = search needs
-
-cast-row-2 : tie.Need-cast-row-2
-cast-row-2 c = search needs
-
-row-requires : tie.Need-row-requires
-row-requires c κs = search needs
-
 returns : tie.Need-returns
 returns c = laid-out problemAnswer problemWords _ _ _ _ (c .refused .ensures) (c .before .before .r .given .1) (c .before .before .before .before .read-problem .ensures .0)
 
@@ -37,12 +16,12 @@ pub larkhammock-read-problem-spec : {M : Type 1} → statement M
 larkhammock-read-problem-spec =
     tie.close
     (tie.spec
-    read-problem-requires
-    enum-known-r
-    refused-requires
-    enum-known-facts
-    cast-row
-    cast-row-2
-    row-requires
+    (λ c κs. search needs)
+    (λ c. search needs)
+    (λ c κs. search needs)
+    (λ c. search needs)
+    (λ c. search needs)
+    (λ c. search needs)
+    (λ c κs. search needs)
     returns
     returns-2)

@@ -8,36 +8,6 @@ use borrow.Author.Needs.{needs}
 use Rattle.larkhammock.proofs.larkhammock_run.Statement.{statement}
 use Rattle.larkhammock.proofs.larkhammock_run.Tie as tie
 
-run-requires : tie.Need-run-requires
-run-requires c κs = search needs
-
-enum-known-r : tie.Need-enum-known-r
-enum-known-r c = search needs
-
-refused-requires : tie.Need-refused-requires
-refused-requires c κs = search needs
-
-enum-known-outcome : tie.Need-enum-known-outcome
-enum-known-outcome c = search needs
-
-enum-told : tie.Need-enum-told
-enum-told c = search needs
-
-row-requires : tie.Need-row-requires
-row-requires c κs = search needs
-
-enum-told-2 : tie.Need-enum-told-2
-enum-told-2 c = search needs
-
-row-requires-2 : tie.Need-row-requires-2
-row-requires-2 c κs = search needs
-
-enum-known-outcome-2 : tie.Need-enum-known-outcome-2
-enum-known-outcome-2 c = search needs
-
-row-requires-3 : tie.Need-row-requires-3
-row-requires-3 c κs = search needs
-
 returns : tie.Need-returns
 returns c = laid-out runAnswer runWords _ _ _ _ (c .refused .ensures) (c .before .before .r .given .1) (c .before .before .before .before .run .ensures .0)
 
@@ -54,16 +24,16 @@ pub larkhammock-run-spec : {M : Type 1} → statement M
 larkhammock-run-spec =
     tie.close
     (tie.spec
-    run-requires
-    enum-known-r
-    refused-requires
-    enum-known-outcome
-    enum-told
-    row-requires
-    enum-told-2
-    row-requires-2
-    enum-known-outcome-2
-    row-requires-3
+    (λ c κs. search needs)
+    (λ c. search needs)
+    (λ c κs. search needs)
+    (λ c. search needs)
+    (λ c. search needs)
+    (λ c κs. search needs)
+    (λ c. search needs)
+    (λ c κs. search needs)
+    (λ c. search needs)
+    (λ c κs. search needs)
     returns
     returns-2
     returns-3

@@ -20,23 +20,11 @@ loop-holds : tie.Need-loop-holds Inv-loop μ-loop
 unfolding bytesOf
 loop-holds c = let z : c .before .args .n - c .before .args .n ≡ 0 = omega arith in (rw z, rw z (omega arith), omega arith)
 
-sub-i : tie.Need-sub-i Inv-loop μ-loop
-sub-i c = omega arith
-
-low-byte-requires : tie.Need-low-byte-requires Inv-loop μ-loop
-low-byte-requires c κs = search needs
-
-add-out : tie.Need-add-out Inv-loop μ-loop
-add-out c = omega arith
-
 slice-write-out : tie.Need-slice-write-out Inv-loop μ-loop
 slice-write-out c =
     let l = c .before .before .loop in
     let e : length (l .out) ≡ length (c .before .before .before .before .args .out .now) = ap length (l .inv .0) ∙ simp length-sets in
     omega arith
-
-loop-less : tie.Need-loop-less Inv-loop μ-loop
-loop-less c = omega arith
 
 loop-again : tie.Need-loop-again Inv-loop μ-loop
 loop-again c =
@@ -64,11 +52,11 @@ put-number-spec =
     Inv-loop
     μ-loop
     loop-holds
-    sub-i
-    low-byte-requires
-    add-out
+    (λ c. omega arith)
+    (λ c κs. search needs)
+    (λ c. omega arith)
     slice-write-out
-    loop-less
+    (λ c. omega arith)
     loop-again
     same-length
     returns)

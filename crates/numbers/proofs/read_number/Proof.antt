@@ -22,25 +22,10 @@ loop-holds c = (refl, omega arith, omega arith)
 mul-x : tie.Need-mul-x Inv-loop μ-loop
 mul-x c = omega (arith, fits (c .before .loop .i) (c .before .loop .x) 0 (omega arith) (c .before .loop .inv .2) (omega arith))
 
-add-digit : tie.Need-add-digit Inv-loop μ-loop
-add-digit c = omega arith
-
-shared-slice-read-digit : tie.Need-shared-slice-read-digit Inv-loop μ-loop
-shared-slice-read-digit c = omega arith
-
-digit-requires : tie.Need-digit-requires Inv-loop μ-loop
-digit-requires c κs = search needs
-
 add-x : tie.Need-add-x Inv-loop μ-loop
 add-x c =
     let l = c .before .before .before .loop in
     omega (arith, fits (l .i) (l .x) (c .digit .result) (omega arith) (l .inv .2) (omega arith))
-
-add-i : tie.Need-add-i Inv-loop μ-loop
-add-i c = omega arith
-
-loop-less : tie.Need-loop-less Inv-loop μ-loop
-loop-less c = omega arith
 
 loop-again : tie.Need-loop-again Inv-loop μ-loop
 loop-again c =
@@ -53,7 +38,7 @@ loop-again c =
     )
 
 returns : tie.Need-returns Inv-loop μ-loop
-returns c = let e : c .before .loop .i ≡ c .before .before .before .args .n = omega arith in rw (← e) (c .before .loop .inv .0)
+returns c = let e : c .before .loop .i ≡ c .before .before .before .args .n = omega arith in rw (← e) (c .before .loop .inv .0, c .before .loop .inv .2)
 
 pub read-number-spec : {M : Type 1} → statement M
 read-number-spec =
@@ -63,11 +48,11 @@ read-number-spec =
     μ-loop
     loop-holds
     mul-x
-    add-digit
-    shared-slice-read-digit
-    digit-requires
+    (λ c. omega arith)
+    (λ c. omega arith)
+    (λ c κs. search needs)
     add-x
-    add-i
-    loop-less
+    (λ c. omega arith)
+    (λ c. omega arith)
     loop-again
     returns)

@@ -5,14 +5,8 @@ use Rattle.execute.proofs.cases.look_at_cases.Tie as tie
 use mathlib.Core.Path.{refl}
 use Rattle.execute.proofs.Lanes.{looks-at}
 
-formula-planes-requires : tie.Need-formula-planes-requires
-formula-planes-requires c κs = search needs
-
-run-cases-requires : tie.Need-run-cases-requires
-run-cases-requires c κs = search needs
-
 returns : tie.Need-returns
 returns c = looks-at _ _ _ _ _ _ _ _ (c .before .before .formula-planes .ensures) (c .run-cases .ensures) _ refl refl
 
 pub look-at-cases-spec : {M : Type 1} → statement M
-look-at-cases-spec = tie.close (tie.spec formula-planes-requires run-cases-requires returns)
+look-at-cases-spec = tie.close (tie.spec (λ c κs. search needs) (λ c κs. search needs) returns)

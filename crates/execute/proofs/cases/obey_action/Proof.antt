@@ -4,18 +4,12 @@ use Rattle.execute.proofs.cases.obey_action.Statement.{statement}
 use Rattle.execute.proofs.cases.obey_action.Tie as tie
 use Rattle.execute.proofs.Lanes.{obeys-none, obeys-some}
 
-formula-planes-requires : tie.Need-formula-planes-requires
-formula-planes-requires c κs = search needs
-
 returns : tie.Need-returns
 returns c = let s = c .before .before .before .before .before .pre in (obeys-none _ _ _ _ _ (c .before .before .formula-planes .ensures) (s .0) (c .if1 .taken), s .1, s .2)
-
-apply-effects-requires : tie.Need-apply-effects-requires
-apply-effects-requires c κs = search needs
 
 returns-2 : tie.Need-returns-2
 returns-2 c = (obeys-some _ _ _ _ _ (c .before .before .before .before .before .before .formula-planes .ensures) _ (c .apply-effects .ensures .0), c .apply-effects .ensures .1, c .apply-effects .ensures .2)
 
 pub obey-action-spec : {M : Type 1} → statement M
 obey-action-spec =
-    tie.close (tie.spec formula-planes-requires returns apply-effects-requires returns-2)
+    tie.close (tie.spec (λ c κs. search needs) returns (λ c κs. search needs) returns-2)

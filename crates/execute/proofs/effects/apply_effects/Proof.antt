@@ -4,14 +4,8 @@ use Rattle.execute.proofs.effects.apply_effects.Statement.{statement}
 use Rattle.execute.proofs.effects.apply_effects.Tie as tie
 use Rattle.execute.proofs.Finding.{applies}
 
-find-conditions-requires : tie.Need-find-conditions-requires
-find-conditions-requires c κs = search needs
-
-settle-requires : tie.Need-settle-requires
-settle-requires c κs = search needs
-
 returns : tie.Need-returns
 returns c = let f = c .before .before .before .before .find-conditions .ensures in (applies _ _ _ _ _ _ _ f (c .settle .ensures), f .wide, f .long)
 
 pub apply-effects-spec : {M : Type 1} → statement M
-apply-effects-spec = tie.close (tie.spec find-conditions-requires settle-requires returns)
+apply-effects-spec = tie.close (tie.spec (λ c κs. search needs) (λ c κs. search needs) returns)

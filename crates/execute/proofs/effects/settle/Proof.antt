@@ -13,42 +13,6 @@ abbrev μ-loop : tie.MeasureT-loop
 loop-holds : tie.Need-loop-holds Inv-loop μ-loop
 loop-holds c = settling-begins _ _ _ _ (c .pre .3)
 
-sub-e : tie.Need-sub-e Inv-loop μ-loop
-sub-e c = search needs
-
-element-copy-out-wide : tie.Need-element-copy-out-wide Inv-loop μ-loop
-element-copy-out-wide c = search needs
-
-wide-requires : tie.Need-wide-requires Inv-loop μ-loop
-wide-requires c κs = search needs
-
-mul-settle-entry : tie.Need-mul-settle-entry Inv-loop μ-loop
-mul-settle-entry c = search needs
-
-mul-settle-entry-2 : tie.Need-mul-settle-entry-2 Inv-loop μ-loop
-mul-settle-entry-2 c = search needs
-
-element-copy-out-settle-entry : tie.Need-element-copy-out-settle-entry Inv-loop μ-loop
-element-copy-out-settle-entry c = search needs
-
-mul-settle-entry-3 : tie.Need-mul-settle-entry-3 Inv-loop μ-loop
-mul-settle-entry-3 c = search needs
-
-add-settle-entry : tie.Need-add-settle-entry Inv-loop μ-loop
-add-settle-entry c = search needs
-
-mul-settle-entry-4 : tie.Need-mul-settle-entry-4 Inv-loop μ-loop
-mul-settle-entry-4 c = search needs
-
-element-copy-out-settle-entry-2 : tie.Need-element-copy-out-settle-entry-2 Inv-loop μ-loop
-element-copy-out-settle-entry-2 c = search needs
-
-settle-entry-requires : tie.Need-settle-entry-requires Inv-loop μ-loop
-settle-entry-requires c κs = search needs
-
-loop-less : tie.Need-loop-less Inv-loop μ-loop
-loop-less c = search needs
-
 loop-again : tie.Need-loop-again Inv-loop μ-loop
 loop-again c = settling-next _ _ _ _ _ _ _ (c .before .before .before .before .before .before .before .loop .inv) (c .before .before .before .before .before .before .loop-test .taken) _ (c .before .before .before .before .wide .ensures .0) (c .settle-entry .ensures)
 
@@ -62,17 +26,17 @@ settle-spec =
     Inv-loop
     μ-loop
     loop-holds
-    sub-e
-    element-copy-out-wide
-    wide-requires
-    mul-settle-entry
-    mul-settle-entry-2
-    element-copy-out-settle-entry
-    mul-settle-entry-3
-    add-settle-entry
-    mul-settle-entry-4
-    element-copy-out-settle-entry-2
-    settle-entry-requires
-    loop-less
+    (λ c. search needs)
+    (λ c. search needs)
+    (λ c κs. search needs)
+    (λ c. search needs)
+    (λ c. search needs)
+    (λ c. search needs)
+    (λ c. search needs)
+    (λ c. search needs)
+    (λ c. search needs)
+    (λ c. search needs)
+    (λ c κs. search needs)
+    (λ c. search needs)
     loop-again
     returns)

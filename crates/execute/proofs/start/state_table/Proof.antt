@@ -9,17 +9,8 @@ use Rattle.execute.proofs.Starting.{state-large, state-fixed}
 use Rattle.execute.proofs.start.state_table.Statement.{statement}
 use Rattle.execute.proofs.start.state_table.Tie as tie
 
-none-fixed-requires : tie.Need-none-fixed-requires
-none-fixed-requires c κs = search needs
-
 returns : tie.Need-returns
 returns c = state-large _ _ _ (omega arith)
-
-fix-bits-requires : tie.Need-fix-bits-requires
-fix-bits-requires c κs = search needs
-
-shr-span : tie.Need-shr-span
-shr-span c = search needs
 
 rem-t10 : tie.Need-rem-t10
 rem-t10 c = let a = c .before .before .before .before .args in omega (arith, span (a .facts) (omega arith), pow-pos (48 - a .facts))
@@ -29,4 +20,4 @@ returns-2 c = let a = c .before .before .before .before .args in state-fixed _ _
 
 pub state-table-spec : {M : Type 1} → statement M
 state-table-spec =
-    tie.close (tie.spec none-fixed-requires returns fix-bits-requires shr-span rem-t10 returns-2)
+    tie.close (tie.spec (λ c κs. search needs) returns (λ c κs. search needs) (λ c. search needs) rem-t10 returns-2)

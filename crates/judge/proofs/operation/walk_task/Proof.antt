@@ -5,23 +5,8 @@ use Rattle.judge.proofs.Verdicts.{whole-fits, walks-task}
 use Rattle.judge.proofs.operation.walk_task.Statement.{statement}
 use Rattle.judge.proofs.operation.walk_task.Tie as tie
 
-wide-requires : tie.Need-wide-requires
-wide-requires c κs = search needs
-
-first-levels-requires : tie.Need-first-levels-requires
-first-levels-requires c κs = search needs
-
-none-fixed-requires : tie.Need-none-fixed-requires
-none-fixed-requires c κs = search needs
-
-fix-levels-requires : tie.Need-fix-levels-requires
-fix-levels-requires c κs = search needs
-
 walk-block-requires : tie.Need-walk-block-requires
 walk-block-requires c κs = (search needs, whole-fits _ _ (omega (arith, c .before .before .before .before .before .before .before .before .wide .ensures .0, c .before .before .before .before .before .before .before .before .before .before .before .before .pre)) (c .before .before .before .before .before .before .first-levels .ensures))
-
-same-length : tie.Need-same-length
-same-length c = search needs
 
 returns : tie.Need-returns
 returns c = walks-task _ _ _ _ _ _ (c .before .before .before .before .before .before .before .before .before .before .before .wide .ensures .0) (c .before .before .before .before .before .before .before .before .before .first-levels .ensures) _ _ (c .before .before .before .before .before .before .before .before .none-fixed .ensures) (c .before .before .before .before .before .before .fix-levels .ensures) _ _ _ _ (c .before .before .walk-block .ensures)
@@ -30,10 +15,10 @@ pub walk-task-spec : {M : Type 1} → statement M
 walk-task-spec =
     tie.close
     (tie.spec
-    wide-requires
-    first-levels-requires
-    none-fixed-requires
-    fix-levels-requires
+    (λ c κs. search needs)
+    (λ c κs. search needs)
+    (λ c κs. search needs)
+    (λ c κs. search needs)
     walk-block-requires
-    same-length
+    (λ c. search needs)
     returns)

@@ -58,717 +58,167 @@ abbrev walk-parts-below : ℕ → In 5 walk-parts-kinds.ps
 walk-parts-below t =
     and 5 walk-parts-kinds.ps (falls 5 walk-parts-kinds.ps _<_ μ-walk-parts t) walk-parts.Pre
 
-walk-block-look-at-cases-requires : (t : ℕ) → walk-block-lts.Need-look-at-cases-requires (
-  look-at-cases-reads.Asked,
-  look-at-cases-reads.Learnt,
-  walk-node-below t,
-  walk-node.Post,
-) (walk-block-at t) walk-block.Post
+abbrev walk-block-calls : ℕ → walk-block-lts.Claims
+walk-block-calls t = (look-at-cases-reads.Asked, look-at-cases-reads.Learnt, walk-node-below t, walk-node.Post)
+
+abbrev walk-node-calls : ℕ → walk-node-lts.Claims
+walk-node-calls t = (lane-bit-reads.Asked, lane-bit-reads.Learnt, add-line-reads.Asked, add-line-reads.Learnt, walk-parts-below t, walk-parts.Post, fix-path-reads.Asked, fix-path-reads.Learnt, levels-of-reads.Asked, levels-of-reads.Learnt, fix-levels-reads.Asked, fix-levels-reads.Learnt, walk-block-below t, walk-block.Post)
+
+abbrev walk-parts-calls : ℕ → walk-parts-lts.Claims
+walk-parts-calls t = (walk-node-below t, walk-node.Post, half-of-reads.Asked, half-of-reads.Learnt, joined-reads.Asked, joined-reads.Learnt)
+
+walk-block-look-at-cases-requires : (t : ℕ) → walk-block-lts.Need-look-at-cases-requires (walk-block-calls t) (walk-block-at t) walk-block.Post
 walk-block-look-at-cases-requires t c κs = c .before .before .before .pre .1 .0
 
-walk-block-walk-node-requires : (t : ℕ) → walk-block-lts.Need-walk-node-requires (
-  look-at-cases-reads.Asked,
-  look-at-cases-reads.Learnt,
-  walk-node-below t,
-  walk-node.Post,
-) (walk-block-at t) walk-block.Post
+walk-block-walk-node-requires : (t : ℕ) → walk-block-lts.Need-walk-node-requires (walk-block-calls t) (walk-block-at t) walk-block.Post
 walk-block-walk-node-requires t c κs = (omega (arith, c .before .before .before .before .before .pre .0), (c .before .before .before .before .before .pre .1 .0, block-fits _ _ _ _ (c .before .before .before .before .before .pre .1 .1)))
 
-walk-block-same-length : (t : ℕ) → walk-block-lts.Need-same-length (
-  look-at-cases-reads.Asked,
-  look-at-cases-reads.Learnt,
-  walk-node-below t,
-  walk-node.Post,
-) (walk-block-at t) walk-block.Post
-walk-block-same-length t c = search needs
-
-walk-block-returns : (t : ℕ) → walk-block-lts.Need-returns (
-  look-at-cases-reads.Asked,
-  look-at-cases-reads.Learnt,
-  walk-node-below t,
-  walk-node.Post,
-) (walk-block-at t) walk-block.Post
+walk-block-returns : (t : ℕ) → walk-block-lts.Need-returns (walk-block-calls t) (walk-block-at t) walk-block.Post
 walk-block-returns t c = block-walks _ _ _ _ _ _ _ _ _ _ (c .before .before .before .before .before .before .before .before .pre .1 .1) _ (c .before .before .before .before .look-at-cases .ensures) _ _ (c .before .before .walk-node .ensures)
 
-walk-node-returns : (t : ℕ) → walk-node-lts.Need-returns (
-  lane-bit-reads.Asked,
-  lane-bit-reads.Learnt,
-  add-line-reads.Asked,
-  add-line-reads.Learnt,
-  walk-parts-below t,
-  walk-parts.Post,
-  fix-path-reads.Asked,
-  fix-path-reads.Learnt,
-  levels-of-reads.Asked,
-  levels-of-reads.Learnt,
-  fix-levels-reads.Asked,
-  fix-levels-reads.Learnt,
-  walk-block-below t,
-  walk-block.Post,
-) (walk-node-at t) walk-node.Post
+walk-node-returns : (t : ℕ) → walk-node-lts.Need-returns (walk-node-calls t) (walk-node-at t) walk-node.Post
 walk-node-returns t c = node-out _ _ _ _ _ _ _ _ _ _ _ (c .if1 .taken)
 
-walk-node-lane-bit-requires : (t : ℕ) → walk-node-lts.Need-lane-bit-requires (
-  lane-bit-reads.Asked,
-  lane-bit-reads.Learnt,
-  add-line-reads.Asked,
-  add-line-reads.Learnt,
-  walk-parts-below t,
-  walk-parts.Post,
-  fix-path-reads.Asked,
-  fix-path-reads.Learnt,
-  levels-of-reads.Asked,
-  levels-of-reads.Learnt,
-  fix-levels-reads.Asked,
-  fix-levels-reads.Learnt,
-  walk-block-below t,
-  walk-block.Post,
-) (walk-node-at t) walk-node.Post
+walk-node-lane-bit-requires : (t : ℕ) → walk-node-lts.Need-lane-bit-requires (walk-node-calls t) (walk-node-at t) walk-node.Post
 walk-node-lane-bit-requires t c κs = lane-small _ _ _ (c .before .before .before .before .pre .1 .1)
 
-walk-node-add-line-requires : (t : ℕ) → walk-node-lts.Need-add-line-requires (
-  lane-bit-reads.Asked,
-  lane-bit-reads.Learnt,
-  add-line-reads.Asked,
-  add-line-reads.Learnt,
-  walk-parts-below t,
-  walk-parts.Post,
-  fix-path-reads.Asked,
-  fix-path-reads.Learnt,
-  levels-of-reads.Asked,
-  levels-of-reads.Learnt,
-  fix-levels-reads.Asked,
-  fix-levels-reads.Learnt,
-  walk-block-below t,
-  walk-block.Post,
-) (walk-node-at t) walk-node.Post
+walk-node-add-line-requires : (t : ℕ) → walk-node-lts.Need-add-line-requires (walk-node-calls t) (walk-node-at t) walk-node.Post
 walk-node-add-line-requires t c κs = omega (arith, c .before .before .before .before .before .before .before .pre .1 .1 .fits .slots)
 
-walk-node-same-length : (t : ℕ) → walk-node-lts.Need-same-length (
-  lane-bit-reads.Asked,
-  lane-bit-reads.Learnt,
-  add-line-reads.Asked,
-  add-line-reads.Learnt,
-  walk-parts-below t,
-  walk-parts.Post,
-  fix-path-reads.Asked,
-  fix-path-reads.Learnt,
-  levels-of-reads.Asked,
-  levels-of-reads.Learnt,
-  fix-levels-reads.Asked,
-  fix-levels-reads.Learnt,
-  walk-block-below t,
-  walk-block.Post,
-) (walk-node-at t) walk-node.Post
-walk-node-same-length t c = search needs
-
-walk-node-returns-2 : (t : ℕ) → walk-node-lts.Need-returns-2 (
-  lane-bit-reads.Asked,
-  lane-bit-reads.Learnt,
-  add-line-reads.Asked,
-  add-line-reads.Learnt,
-  walk-parts-below t,
-  walk-parts.Post,
-  fix-path-reads.Asked,
-  fix-path-reads.Learnt,
-  levels-of-reads.Asked,
-  levels-of-reads.Learnt,
-  fix-levels-reads.Asked,
-  fix-levels-reads.Learnt,
-  walk-block-below t,
-  walk-block.Post,
-) (walk-node-at t) walk-node.Post
+walk-node-returns-2 : (t : ℕ) → walk-node-lts.Need-returns-2 (walk-node-calls t) (walk-node-at t) walk-node.Post
 walk-node-returns-2 t c = node-empty _ _ _ _ _ _ _ _ _ _ _ (lane-small _ _ _ (c .before .before .before .before .before .before .before .before .before .before .pre .1 .1)) (omega (arith, c .before .before .before .before .before .before .if1 .left)) (sym (c .before .before .before .before .before .lane-bit .ensures) ∙ c .before .before .before .before .if2 .taken) _ _ (c .before .before .add-line .ensures)
 
-walk-node-lane-bit-requires-2 : (t : ℕ) → walk-node-lts.Need-lane-bit-requires-2 (
-  lane-bit-reads.Asked,
-  lane-bit-reads.Learnt,
-  add-line-reads.Asked,
-  add-line-reads.Learnt,
-  walk-parts-below t,
-  walk-parts.Post,
-  fix-path-reads.Asked,
-  fix-path-reads.Learnt,
-  levels-of-reads.Asked,
-  levels-of-reads.Learnt,
-  fix-levels-reads.Asked,
-  fix-levels-reads.Learnt,
-  walk-block-below t,
-  walk-block.Post,
-) (walk-node-at t) walk-node.Post
+walk-node-lane-bit-requires-2 : (t : ℕ) → walk-node-lts.Need-lane-bit-requires-2 (walk-node-calls t) (walk-node-at t) walk-node.Post
 walk-node-lane-bit-requires-2 t c κs = lane-small _ _ _ (c .before .before .before .before .before .before .pre .1 .1)
 
-walk-node-add-line-requires-2 : (t : ℕ) → walk-node-lts.Need-add-line-requires-2 (
-  lane-bit-reads.Asked,
-  lane-bit-reads.Learnt,
-  add-line-reads.Asked,
-  add-line-reads.Learnt,
-  walk-parts-below t,
-  walk-parts.Post,
-  fix-path-reads.Asked,
-  fix-path-reads.Learnt,
-  levels-of-reads.Asked,
-  levels-of-reads.Learnt,
-  fix-levels-reads.Asked,
-  fix-levels-reads.Learnt,
-  walk-block-below t,
-  walk-block.Post,
-) (walk-node-at t) walk-node.Post
+walk-node-add-line-requires-2 : (t : ℕ) → walk-node-lts.Need-add-line-requires-2 (walk-node-calls t) (walk-node-at t) walk-node.Post
 walk-node-add-line-requires-2 t c κs = omega (arith, c .before .before .before .before .before .before .before .before .before .pre .1 .1 .fits .slots)
 
-walk-node-same-length-2 : (t : ℕ) → walk-node-lts.Need-same-length-2 (
-  lane-bit-reads.Asked,
-  lane-bit-reads.Learnt,
-  add-line-reads.Asked,
-  add-line-reads.Learnt,
-  walk-parts-below t,
-  walk-parts.Post,
-  fix-path-reads.Asked,
-  fix-path-reads.Learnt,
-  levels-of-reads.Asked,
-  levels-of-reads.Learnt,
-  fix-levels-reads.Asked,
-  fix-levels-reads.Learnt,
-  walk-block-below t,
-  walk-block.Post,
-) (walk-node-at t) walk-node.Post
-walk-node-same-length-2 t c = search needs
-
-walk-node-returns-3 : (t : ℕ) → walk-node-lts.Need-returns-3 (
-  lane-bit-reads.Asked,
-  lane-bit-reads.Learnt,
-  add-line-reads.Asked,
-  add-line-reads.Learnt,
-  walk-parts-below t,
-  walk-parts.Post,
-  fix-path-reads.Asked,
-  fix-path-reads.Learnt,
-  levels-of-reads.Asked,
-  levels-of-reads.Learnt,
-  fix-levels-reads.Asked,
-  fix-levels-reads.Learnt,
-  walk-block-below t,
-  walk-block.Post,
-) (walk-node-at t) walk-node.Post
+walk-node-returns-3 : (t : ℕ) → walk-node-lts.Need-returns-3 (walk-node-calls t) (walk-node-at t) walk-node.Post
 walk-node-returns-3 t c = node-carries _ _ _ _ _ _ _ _ _ _ _ (lane-small _ _ _ (c .before .before .before .before .before .before .before .before .before .before .before .before .pre .1 .1)) (omega (arith, c .before .before .before .before .before .before .before .before .if1 .left)) (λ e. c .before .before .before .before .before .before .if2 .left (c .before .before .before .before .before .before .before .lane-bit .ensures ∙ e)) (sym (c .before .before .before .before .before .lane-bit2 .ensures) ∙ c .before .before .before .before .if3 .taken) _ _ (c .before .before .add-line2 .ensures)
 
-walk-node-add-if4 : (t : ℕ) → walk-node-lts.Need-add-if4 (
-  lane-bit-reads.Asked,
-  lane-bit-reads.Learnt,
-  add-line-reads.Asked,
-  add-line-reads.Learnt,
-  walk-parts-below t,
-  walk-parts.Post,
-  fix-path-reads.Asked,
-  fix-path-reads.Learnt,
-  levels-of-reads.Asked,
-  levels-of-reads.Learnt,
-  fix-levels-reads.Asked,
-  fix-levels-reads.Learnt,
-  walk-block-below t,
-  walk-block.Post,
-) (walk-node-at t) walk-node.Post
+walk-node-add-if4 : (t : ℕ) → walk-node-lts.Need-add-if4 (walk-node-calls t) (walk-node-at t) walk-node.Post
 walk-node-add-if4 t c = omega (arith, c .before .before .before .before .before .before .before .before .before .pre .1 .1 .inside, c .before .before .before .before .before .before .before .before .before .pre .1 .1 .fits .slots)
 
-walk-node-sub-walk-parts : (t : ℕ) → walk-node-lts.Need-sub-walk-parts (
-  lane-bit-reads.Asked,
-  lane-bit-reads.Learnt,
-  add-line-reads.Asked,
-  add-line-reads.Learnt,
-  walk-parts-below t,
-  walk-parts.Post,
-  fix-path-reads.Asked,
-  fix-path-reads.Learnt,
-  levels-of-reads.Asked,
-  levels-of-reads.Learnt,
-  fix-levels-reads.Asked,
-  fix-levels-reads.Learnt,
-  walk-block-below t,
-  walk-block.Post,
-) (walk-node-at t) walk-node.Post
+walk-node-sub-walk-parts : (t : ℕ) → walk-node-lts.Need-sub-walk-parts (walk-node-calls t) (walk-node-at t) walk-node.Post
 walk-node-sub-walk-parts t c = omega (arith, c .before .before .before .before .before .before .before .if1 .left)
 
-walk-node-walk-parts-requires : (t : ℕ) → walk-node-lts.Need-walk-parts-requires (
-  lane-bit-reads.Asked,
-  lane-bit-reads.Learnt,
-  add-line-reads.Asked,
-  add-line-reads.Learnt,
-  walk-parts-below t,
-  walk-parts.Post,
-  fix-path-reads.Asked,
-  fix-path-reads.Learnt,
-  levels-of-reads.Asked,
-  levels-of-reads.Learnt,
-  fix-levels-reads.Asked,
-  fix-levels-reads.Learnt,
-  walk-block-below t,
-  walk-block.Post,
-) (walk-node-at t) walk-node.Post
+walk-node-walk-parts-requires : (t : ℕ) → walk-node-lts.Need-walk-parts-requires (walk-node-calls t) (walk-node-at t) walk-node.Post
 walk-node-walk-parts-requires t c κs = (omega (arith, c .before .before .before .before .before .before .before .before .before .before .before .before .pre .0), (c .before .before .before .before .before .before .before .before .before .before .before .before .pre .1 .0, c .before .before .before .before .before .before .before .before .before .before .before .before .pre .1 .1, c .before .if4 .taken, omega (arith, c .before .before .before .before .before .before .before .before .if1 .left)))
 
-walk-node-same-length-3 : (t : ℕ) → walk-node-lts.Need-same-length-3 (
-  lane-bit-reads.Asked,
-  lane-bit-reads.Learnt,
-  add-line-reads.Asked,
-  add-line-reads.Learnt,
-  walk-parts-below t,
-  walk-parts.Post,
-  fix-path-reads.Asked,
-  fix-path-reads.Learnt,
-  levels-of-reads.Asked,
-  levels-of-reads.Learnt,
-  fix-levels-reads.Asked,
-  fix-levels-reads.Learnt,
-  walk-block-below t,
-  walk-block.Post,
-) (walk-node-at t) walk-node.Post
-walk-node-same-length-3 t c = search needs
-
-walk-node-returns-4 : (t : ℕ) → walk-node-lts.Need-returns-4 (
-  lane-bit-reads.Asked,
-  lane-bit-reads.Learnt,
-  add-line-reads.Asked,
-  add-line-reads.Learnt,
-  walk-parts-below t,
-  walk-parts.Post,
-  fix-path-reads.Asked,
-  fix-path-reads.Learnt,
-  levels-of-reads.Asked,
-  levels-of-reads.Learnt,
-  fix-levels-reads.Asked,
-  fix-levels-reads.Learnt,
-  walk-block-below t,
-  walk-block.Post,
-) (walk-node-at t) walk-node.Post
+walk-node-returns-4 : (t : ℕ) → walk-node-lts.Need-returns-4 (walk-node-calls t) (walk-node-at t) walk-node.Post
 walk-node-returns-4 t c = node-splits _ _ _ _ _ _ _ _ _ _ _ (lane-small _ _ _ (c .before .before .before .before .before .before .before .before .before .before .before .before .before .before .before .pre .1 .1)) (omega (arith, c .before .before .before .before .before .before .before .before .before .before .before .if1 .left)) (λ e. c .before .before .before .before .before .before .before .before .before .if2 .left (c .before .before .before .before .before .before .before .before .before .before .lane-bit .ensures ∙ e)) (λ e. c .before .before .before .before .before .before .before .if3 .left (c .before .before .before .before .before .before .before .before .lane-bit2 .ensures ∙ e)) (omega (arith, c .before .before .before .before .if4 .taken, c .before .before .before .before .before .before .before .before .before .before .before .before .before .before .before .pre .1 .1 .inside)) _ _ (c .before .before .walk-parts .ensures)
 
-walk-node-returns-5 : (t : ℕ) → walk-node-lts.Need-returns-5 (
-  lane-bit-reads.Asked,
-  lane-bit-reads.Learnt,
-  add-line-reads.Asked,
-  add-line-reads.Learnt,
-  walk-parts-below t,
-  walk-parts.Post,
-  fix-path-reads.Asked,
-  fix-path-reads.Learnt,
-  levels-of-reads.Asked,
-  levels-of-reads.Learnt,
-  fix-levels-reads.Asked,
-  fix-levels-reads.Learnt,
-  walk-block-below t,
-  walk-block.Post,
-) (walk-node-at t) walk-node.Post
+walk-node-returns-5 : (t : ℕ) → walk-node-lts.Need-returns-5 (walk-node-calls t) (walk-node-at t) walk-node.Post
 walk-node-returns-5 t c = node-fails _ _ _ _ _ _ _ _ _ _ _ (lane-small _ _ _ (c .before .before .before .before .before .before .before .before .before .before .before .before .before .pre .1 .1)) (omega (arith, c .before .before .before .before .before .before .before .before .before .if1 .left)) (λ e. c .before .before .before .before .before .before .before .if2 .left (c .before .before .before .before .before .before .before .before .lane-bit .ensures ∙ e)) (λ e. c .before .before .before .before .before .if3 .left (c .before .before .before .before .before .before .lane-bit2 .ensures ∙ e)) (c .if5 .taken)
 
-walk-node-fix-path-requires : (t : ℕ) → walk-node-lts.Need-fix-path-requires (
-  lane-bit-reads.Asked,
-  lane-bit-reads.Learnt,
-  add-line-reads.Asked,
-  add-line-reads.Learnt,
-  walk-parts-below t,
-  walk-parts.Post,
-  fix-path-reads.Asked,
-  fix-path-reads.Learnt,
-  levels-of-reads.Asked,
-  levels-of-reads.Learnt,
-  fix-levels-reads.Asked,
-  fix-levels-reads.Learnt,
-  walk-block-below t,
-  walk-block.Post,
-) (walk-node-at t) walk-node.Post
+walk-node-fix-path-requires : (t : ℕ) → walk-node-lts.Need-fix-path-requires (walk-node-calls t) (walk-node-at t) walk-node.Post
 walk-node-fix-path-requires t c κs = (c .before .before .before .before .before .before .before .before .before .before .before .before .before .before .before .pre .1 .0, lane-small _ _ _ (c .before .before .before .before .before .before .before .before .before .before .before .before .before .before .before .pre .1 .1), omega (arith, c .before .before .before .before .before .before .before .before .before .before .before .before .before .before .before .pre .1 .1 .inside, c .before .before .before .before .before .before .before .before .before .before .before .before .before .before .before .pre .1 .1 .fits .slots))
 
-walk-node-levels-of-requires : (t : ℕ) → walk-node-lts.Need-levels-of-requires (
-  lane-bit-reads.Asked,
-  lane-bit-reads.Learnt,
-  add-line-reads.Asked,
-  add-line-reads.Learnt,
-  walk-parts-below t,
-  walk-parts.Post,
-  fix-path-reads.Asked,
-  fix-path-reads.Learnt,
-  levels-of-reads.Asked,
-  levels-of-reads.Learnt,
-  fix-levels-reads.Asked,
-  fix-levels-reads.Learnt,
-  walk-block-below t,
-  walk-block.Post,
-) (walk-node-at t) walk-node.Post
-walk-node-levels-of-requires t c κs = search needs
-
-walk-node-fix-levels-requires : (t : ℕ) → walk-node-lts.Need-fix-levels-requires (
-  lane-bit-reads.Asked,
-  lane-bit-reads.Learnt,
-  add-line-reads.Asked,
-  add-line-reads.Learnt,
-  walk-parts-below t,
-  walk-parts.Post,
-  fix-path-reads.Asked,
-  fix-path-reads.Learnt,
-  levels-of-reads.Asked,
-  levels-of-reads.Learnt,
-  fix-levels-reads.Asked,
-  fix-levels-reads.Learnt,
-  walk-block-below t,
-  walk-block.Post,
-) (walk-node-at t) walk-node.Post
+walk-node-fix-levels-requires : (t : ℕ) → walk-node-lts.Need-fix-levels-requires (walk-node-calls t) (walk-node-at t) walk-node.Post
 walk-node-fix-levels-requires t c κs = (c .before .before .fix-path .ensures .size, c .before .levels-of .ensures .few, omega (arith, c .before .levels-of .ensures .inside, c .before .before .before .before .before .before .before .before .before .before .before .before .before .before .before .before .before .before .pre .1 .1 .fits .slots))
 
-walk-node-walk-block-requires : (t : ℕ) → walk-node-lts.Need-walk-block-requires (
-  lane-bit-reads.Asked,
-  lane-bit-reads.Learnt,
-  add-line-reads.Asked,
-  add-line-reads.Learnt,
-  walk-parts-below t,
-  walk-parts.Post,
-  fix-path-reads.Asked,
-  fix-path-reads.Learnt,
-  levels-of-reads.Asked,
-  levels-of-reads.Learnt,
-  fix-levels-reads.Asked,
-  fix-levels-reads.Learnt,
-  walk-block-below t,
-  walk-block.Post,
-) (walk-node-at t) walk-node.Post
+walk-node-walk-block-requires : (t : ℕ) → walk-node-lts.Need-walk-block-requires (walk-node-calls t) (walk-node-at t) walk-node.Post
 walk-node-walk-block-requires t c κs = (omega (arith, c .before .before .before .before .before .before .before .before .before .before .before .before .before .before .before .before .before .before .before .before .before .pre .0, c .before .before .before .before .levels-of .ensures .some (omega (arith, c .before .before .before .before .before .before .before .before .if5 .left)), c .before .before .before .before .before .before .before .before .before .before .if4 .left, c .before .before .before .before .before .before .before .before .before .before .before .before .before .before .before .before .before .before .before .before .before .pre .1 .1 .within), (c .before .before .fix-levels .ensures .size, edge-fits _ _ _ _ (c .before .before .before .before .before .before .before .before .before .before .before .before .before .before .before .before .before .before .before .before .before .pre .1 .1) (c .before .before .before .before .levels-of .ensures)))
 
-walk-node-same-length-4 : (t : ℕ) → walk-node-lts.Need-same-length-4 (
-  lane-bit-reads.Asked,
-  lane-bit-reads.Learnt,
-  add-line-reads.Asked,
-  add-line-reads.Learnt,
-  walk-parts-below t,
-  walk-parts.Post,
-  fix-path-reads.Asked,
-  fix-path-reads.Learnt,
-  levels-of-reads.Asked,
-  levels-of-reads.Learnt,
-  fix-levels-reads.Asked,
-  fix-levels-reads.Learnt,
-  walk-block-below t,
-  walk-block.Post,
-) (walk-node-at t) walk-node.Post
-walk-node-same-length-4 t c = search needs
-
-walk-node-returns-6 : (t : ℕ) → walk-node-lts.Need-returns-6 (
-  lane-bit-reads.Asked,
-  lane-bit-reads.Learnt,
-  add-line-reads.Asked,
-  add-line-reads.Learnt,
-  walk-parts-below t,
-  walk-parts.Post,
-  fix-path-reads.Asked,
-  fix-path-reads.Learnt,
-  levels-of-reads.Asked,
-  levels-of-reads.Learnt,
-  fix-levels-reads.Asked,
-  fix-levels-reads.Learnt,
-  walk-block-below t,
-  walk-block.Post,
-) (walk-node-at t) walk-node.Post
+walk-node-returns-6 : (t : ℕ) → walk-node-lts.Need-returns-6 (walk-node-calls t) (walk-node-at t) walk-node.Post
 walk-node-returns-6 t c = node-edge _ _ _ _ _ _ _ _ _ _ _ (c .before .before .before .before .before .before .before .before .before .before .before .before .before .before .before .before .before .before .before .before .before .before .before .before .pre .1 .1) _ _ _ (c .before .before .before .before .before .before .before .before .fix-path .ensures) (c .before .before .before .before .before .fix-levels .ensures) (c .before .before .before .before .before .before .before .levels-of .ensures) _ _ (c .before .before .walk-block .ensures)
 
-walk-parts-add-walk-node : (t : ℕ) → walk-parts-lts.Need-add-walk-node (
-  walk-node-below t,
-  walk-node.Post,
-  half-of-reads.Asked,
-  half-of-reads.Learnt,
-  joined-reads.Asked,
-  joined-reads.Learnt,
-) (walk-parts-at t) walk-parts.Post
+walk-parts-add-walk-node : (t : ℕ) → walk-parts-lts.Need-add-walk-node (walk-parts-calls t) (walk-parts-at t) walk-parts.Post
 walk-parts-add-walk-node t c = omega (arith, c .before .before .before .before .pre .1 .1 .fits .slots)
 
-walk-parts-sub-t21 : (t : ℕ) → walk-parts-lts.Need-sub-t21 (
-  walk-node-below t,
-  walk-node.Post,
-  half-of-reads.Asked,
-  half-of-reads.Learnt,
-  joined-reads.Asked,
-  joined-reads.Learnt,
-) (walk-parts-at t) walk-parts.Post
+walk-parts-sub-t21 : (t : ℕ) → walk-parts-lts.Need-sub-t21 (walk-parts-calls t) (walk-parts-at t) walk-parts.Post
 walk-parts-sub-t21 t c = omega (arith, c .before .before .before .before .before .pre .1 .1 .inside, c .before .before .before .before .before .pre .1 .2)
 
-walk-parts-mul-walk-node : (t : ℕ) → walk-parts-lts.Need-mul-walk-node (
-  walk-node-below t,
-  walk-node.Post,
-  half-of-reads.Asked,
-  half-of-reads.Learnt,
-  joined-reads.Asked,
-  joined-reads.Learnt,
-) (walk-parts-at t) walk-parts.Post
+walk-parts-mul-walk-node : (t : ℕ) → walk-parts-lts.Need-mul-walk-node (walk-parts-calls t) (walk-parts-at t) walk-parts.Post
 walk-parts-mul-walk-node t c = omega (arith, lane-small _ _ _ (c .before .before .before .before .before .pre .1 .1))
 
-walk-parts-walk-node-requires : (t : ℕ) → walk-parts-lts.Need-walk-node-requires (
-  walk-node-below t,
-  walk-node.Post,
-  half-of-reads.Asked,
-  half-of-reads.Learnt,
-  joined-reads.Asked,
-  joined-reads.Learnt,
-) (walk-parts-at t) walk-parts.Post
+walk-parts-walk-node-requires : (t : ℕ) → walk-parts-lts.Need-walk-node-requires (walk-parts-calls t) (walk-parts-at t) walk-parts.Post
 walk-parts-walk-node-requires t c κs = (omega (arith, c .before .before .before .before .before .before .pre .0, c .before .before .before .before .before .before .pre .1 .1 .inside, c .before .before .before .before .before .before .pre .1 .2), (c .before .before .before .before .before .before .pre .1 .0, first-fits _ _ _ (c .before .before .before .before .before .before .pre .1 .1) (c .before .before .before .before .before .before .pre .1 .2)))
 
-walk-parts-enum-told : (t : ℕ) → walk-parts-lts.Need-enum-told (
-  walk-node-below t,
-  walk-node.Post,
-  half-of-reads.Asked,
-  half-of-reads.Learnt,
-  joined-reads.Asked,
-  joined-reads.Learnt,
-) (walk-parts-at t) walk-parts.Post
-walk-parts-enum-told t c = search needs
-
-walk-parts-enum-known-state : (t : ℕ) → walk-parts-lts.Need-enum-known-state (
-  walk-node-below t,
-  walk-node.Post,
-  half-of-reads.Asked,
-  half-of-reads.Learnt,
-  joined-reads.Asked,
-  joined-reads.Learnt,
-) (walk-parts-at t) walk-parts.Post
-walk-parts-enum-known-state t c = search needs
-
-walk-parts-add-t26 : (t : ℕ) → walk-parts-lts.Need-add-t26 (
-  walk-node-below t,
-  walk-node.Post,
-  half-of-reads.Asked,
-  half-of-reads.Learnt,
-  joined-reads.Asked,
-  joined-reads.Learnt,
-) (walk-parts-at t) walk-parts.Post
+walk-parts-add-t26 : (t : ℕ) → walk-parts-lts.Need-add-t26 (walk-parts-calls t) (walk-parts-at t) walk-parts.Post
 walk-parts-add-t26 t c = omega (arith, failed-count _ _ _ _ (c .before .before .before .before .before .walk-node .ensures .counted) (c .before .state .given .1), c .before .before .before .before .before .before .before .before .before .before .before .before .pre .1 .3)
 
-walk-parts-enum-known-lines : (t : ℕ) → walk-parts-lts.Need-enum-known-lines (
-  walk-node-below t,
-  walk-node.Post,
-  half-of-reads.Asked,
-  half-of-reads.Learnt,
-  joined-reads.Asked,
-  joined-reads.Learnt,
-) (walk-parts-at t) walk-parts.Post
-walk-parts-enum-known-lines t c = search needs
-
-walk-parts-add-walk-node-2 : (t : ℕ) → walk-parts-lts.Need-add-walk-node-2 (
-  walk-node-below t,
-  walk-node.Post,
-  half-of-reads.Asked,
-  half-of-reads.Learnt,
-  joined-reads.Asked,
-  joined-reads.Learnt,
-) (walk-parts-at t) walk-parts.Post
+walk-parts-add-walk-node-2 : (t : ℕ) → walk-parts-lts.Need-add-walk-node-2 (walk-parts-calls t) (walk-parts-at t) walk-parts.Post
 walk-parts-add-walk-node-2 t c = omega (arith, c .before .before .before .before .before .before .before .before .before .before .before .before .before .pre .1 .1 .fits .slots)
 
-walk-parts-sub-walk-node : (t : ℕ) → walk-parts-lts.Need-sub-walk-node (
-  walk-node-below t,
-  walk-node.Post,
-  half-of-reads.Asked,
-  half-of-reads.Learnt,
-  joined-reads.Asked,
-  joined-reads.Learnt,
-) (walk-parts-at t) walk-parts.Post
+walk-parts-sub-walk-node : (t : ℕ) → walk-parts-lts.Need-sub-walk-node (walk-parts-calls t) (walk-parts-at t) walk-parts.Post
 walk-parts-sub-walk-node t c = omega (arith, c .before .before .before .before .before .before .before .before .before .before .before .before .before .before .pre .1 .1 .inside, c .before .before .before .before .before .before .before .before .before .before .before .before .before .before .pre .1 .2)
 
-walk-parts-half-of-requires : (t : ℕ) → walk-parts-lts.Need-half-of-requires (
-  walk-node-below t,
-  walk-node.Post,
-  half-of-reads.Asked,
-  half-of-reads.Learnt,
-  joined-reads.Asked,
-  joined-reads.Learnt,
-) (walk-parts-at t) walk-parts.Post
+walk-parts-half-of-requires : (t : ℕ) → walk-parts-lts.Need-half-of-requires (walk-parts-calls t) (walk-parts-at t) walk-parts.Post
 walk-parts-half-of-requires t c κs = omega (arith, c .before .before .before .before .before .before .before .before .before .before .before .before .before .before .pre .1 .1 .inside, c .before .before .before .before .before .before .before .before .before .before .before .before .before .before .pre .1 .1 .fits .slots, c .before .before .before .before .before .before .before .before .before .before .before .before .before .before .pre .1 .2)
 
-walk-parts-add-walk-node-3 : (t : ℕ) → walk-parts-lts.Need-add-walk-node-3 (
-  walk-node-below t,
-  walk-node.Post,
-  half-of-reads.Asked,
-  half-of-reads.Learnt,
-  joined-reads.Asked,
-  joined-reads.Learnt,
-) (walk-parts-at t) walk-parts.Post
+walk-parts-add-walk-node-3 : (t : ℕ) → walk-parts-lts.Need-add-walk-node-3 (walk-parts-calls t) (walk-parts-at t) walk-parts.Post
 walk-parts-add-walk-node-3 t c = omega (arith, half-room _ _ _ (c .before .before .before .before .before .before .before .before .before .before .before .before .before .before .before .before .pre .1 .1) (c .before .before .before .before .before .before .before .before .before .before .before .before .before .before .before .before .pre .1 .2) _ (c .before .half-of .ensures))
 
-walk-parts-mul-walk-node-2 : (t : ℕ) → walk-parts-lts.Need-mul-walk-node-2 (
-  walk-node-below t,
-  walk-node.Post,
-  half-of-reads.Asked,
-  half-of-reads.Learnt,
-  joined-reads.Asked,
-  joined-reads.Learnt,
-) (walk-parts-at t) walk-parts.Post
+walk-parts-mul-walk-node-2 : (t : ℕ) → walk-parts-lts.Need-mul-walk-node-2 (walk-parts-calls t) (walk-parts-at t) walk-parts.Post
 walk-parts-mul-walk-node-2 t c = omega (arith, lane-small _ _ _ (c .before .before .before .before .before .before .before .before .before .before .before .before .before .before .before .before .pre .1 .1))
 
-walk-parts-add-walk-node-4 : (t : ℕ) → walk-parts-lts.Need-add-walk-node-4 (
-  walk-node-below t,
-  walk-node.Post,
-  half-of-reads.Asked,
-  half-of-reads.Learnt,
-  joined-reads.Asked,
-  joined-reads.Learnt,
-) (walk-parts-at t) walk-parts.Post
+walk-parts-add-walk-node-4 : (t : ℕ) → walk-parts-lts.Need-add-walk-node-4 (walk-parts-calls t) (walk-parts-at t) walk-parts.Post
 walk-parts-add-walk-node-4 t c = omega (arith, lane-small _ _ _ (c .before .before .before .before .before .before .before .before .before .before .before .before .before .before .before .before .pre .1 .1))
 
-walk-parts-sub-walk-node-2 : (t : ℕ) → walk-parts-lts.Need-sub-walk-node-2 (
-  walk-node-below t,
-  walk-node.Post,
-  half-of-reads.Asked,
-  half-of-reads.Learnt,
-  joined-reads.Asked,
-  joined-reads.Learnt,
-) (walk-parts-at t) walk-parts.Post
+walk-parts-sub-walk-node-2 : (t : ℕ) → walk-parts-lts.Need-sub-walk-node-2 (walk-parts-calls t) (walk-parts-at t) walk-parts.Post
 walk-parts-sub-walk-node-2 t c = closed-count _ _ _ _ _ (c .before .before .before .before .before .before .before .before .before .walk-node .ensures .counted) (c .before .before .before .before .before .lines .given .1) .0
 
-walk-parts-walk-node-requires-2 : (t : ℕ) → walk-parts-lts.Need-walk-node-requires-2 (
-  walk-node-below t,
-  walk-node.Post,
-  half-of-reads.Asked,
-  half-of-reads.Learnt,
-  joined-reads.Asked,
-  joined-reads.Learnt,
-) (walk-parts-at t) walk-parts.Post
+walk-parts-walk-node-requires-2 : (t : ℕ) → walk-parts-lts.Need-walk-node-requires-2 (walk-parts-calls t) (walk-parts-at t) walk-parts.Post
 walk-parts-walk-node-requires-2 t c κs = (omega (arith, c .before .before .before .before .before .before .before .before .before .before .before .before .before .before .before .before .before .pre .0, c .before .before .before .before .before .before .before .before .before .before .before .before .before .before .before .before .before .pre .1 .1 .inside, c .before .before .before .before .before .before .before .before .before .before .before .before .before .before .before .before .before .pre .1 .2), (c .before .before .before .before .before .before .before .before .before .before .before .before .before .before .before .before .before .pre .1 .0, second-fits _ _ _ (c .before .before .before .before .before .before .before .before .before .before .before .before .before .before .before .before .before .pre .1 .1) (c .before .before .before .before .before .before .before .before .before .before .before .before .before .before .before .before .before .pre .1 .2) _ (c .before .before .half-of .ensures)))
 
-walk-parts-joined-requires : (t : ℕ) → walk-parts-lts.Need-joined-requires (
-  walk-node-below t,
-  walk-node.Post,
-  half-of-reads.Asked,
-  half-of-reads.Learnt,
-  joined-reads.Asked,
-  joined-reads.Learnt,
-) (walk-parts-at t) walk-parts.Post
+walk-parts-joined-requires : (t : ℕ) → walk-parts-lts.Need-joined-requires (walk-parts-calls t) (walk-parts-at t) walk-parts.Post
 walk-parts-joined-requires t c κs = let k = closed-count _ _ _ _ _ (c .before .before .before .before .before .before .before .before .before .before .before .before .before .walk-node .ensures .counted) (c .before .before .before .before .before .before .before .before .before .lines .given .1) in addable _ _ _ (c .before .before .walk-node2 .result) (c .before .before .before .before .before .before .before .before .before .before .before .before .before .before .before .before .before .before .before .before .pre .1 .3) (k .0) (k .1) (c .before .before .walk-node2 .ensures .counted)
 
-walk-parts-same-length : (t : ℕ) → walk-parts-lts.Need-same-length (
-  walk-node-below t,
-  walk-node.Post,
-  half-of-reads.Asked,
-  half-of-reads.Learnt,
-  joined-reads.Asked,
-  joined-reads.Learnt,
-) (walk-parts-at t) walk-parts.Post
-walk-parts-same-length t c = search needs
-
-walk-parts-returns : (t : ℕ) → walk-parts-lts.Need-returns (
-  walk-node-below t,
-  walk-node.Post,
-  half-of-reads.Asked,
-  half-of-reads.Learnt,
-  joined-reads.Asked,
-  joined-reads.Learnt,
-) (walk-parts-at t) walk-parts.Post
+walk-parts-returns : (t : ℕ) → walk-parts-lts.Need-returns (walk-parts-calls t) (walk-parts-at t) walk-parts.Post
 walk-parts-returns t c = parts-out _ _ _ _ _ _ _ _ _ _ _ (c .before .before .before .before .before .before .before .before .before .before .before .pre .1 .1) (c .before .before .before .before .before .before .before .before .before .before .before .pre .1 .2) _ _ (c .before .before .before .before .walk-node .ensures) (c .enum-told .given .1)
 
-walk-parts-same-length-2 : (t : ℕ) → walk-parts-lts.Need-same-length-2 (
-  walk-node-below t,
-  walk-node.Post,
-  half-of-reads.Asked,
-  half-of-reads.Learnt,
-  joined-reads.Asked,
-  joined-reads.Learnt,
-) (walk-parts-at t) walk-parts.Post
-walk-parts-same-length-2 t c = search needs
-
-walk-parts-returns-2 : (t : ℕ) → walk-parts-lts.Need-returns-2 (
-  walk-node-below t,
-  walk-node.Post,
-  half-of-reads.Asked,
-  half-of-reads.Learnt,
-  joined-reads.Asked,
-  joined-reads.Learnt,
-) (walk-parts-at t) walk-parts.Post
+walk-parts-returns-2 : (t : ℕ) → walk-parts-lts.Need-returns-2 (walk-parts-calls t) (walk-parts-at t) walk-parts.Post
 walk-parts-returns-2 t c = parts-failed _ _ _ _ _ _ _ _ _ _ _ (c .before .before .before .before .before .before .before .before .before .before .before .before .pre .1 .1) (c .before .before .before .before .before .before .before .before .before .before .before .before .pre .1 .2) _ _ (c .before .before .before .before .before .walk-node .ensures) _ _ (c .before .state .given .1)
 
-walk-parts-same-length-3 : (t : ℕ) → walk-parts-lts.Need-same-length-3 (
-  walk-node-below t,
-  walk-node.Post,
-  half-of-reads.Asked,
-  half-of-reads.Learnt,
-  joined-reads.Asked,
-  joined-reads.Learnt,
-) (walk-parts-at t) walk-parts.Post
-walk-parts-same-length-3 t c = search needs
-
-walk-parts-returns-3 : (t : ℕ) → walk-parts-lts.Need-returns-3 (
-  walk-node-below t,
-  walk-node.Post,
-  half-of-reads.Asked,
-  half-of-reads.Learnt,
-  joined-reads.Asked,
-  joined-reads.Learnt,
-) (walk-parts-at t) walk-parts.Post
+walk-parts-returns-3 : (t : ℕ) → walk-parts-lts.Need-returns-3 (walk-parts-calls t) (walk-parts-at t) walk-parts.Post
 walk-parts-returns-3 t c = parts-joined _ _ _ _ _ _ _ _ _ _ _ (c .before .before .before .before .before .before .before .before .before .before .before .before .before .before .before .before .before .before .before .before .before .pre .1 .1) (c .before .before .before .before .before .before .before .before .before .before .before .before .before .before .before .before .before .before .before .before .before .pre .1 .2) _ _ (c .before .before .before .before .before .before .before .before .before .before .before .before .before .before .walk-node .ensures) _ _ _ (c .before .before .before .before .before .before .before .before .before .before .lines .given .1) _ (c .before .before .before .before .before .before .half-of .ensures) _ _ (c .before .before .before .walk-node2 .ensures) _ (c .joined .ensures)
 
 pub +walk-block+walk-node+walk-parts-spec : {M : Type 1} → statement M
 +walk-block+walk-node+walk-parts-spec =
-    close μ-walk-block μ-walk-node μ-walk-parts (λ t. walk-block-lts.spec (
-      look-at-cases-reads.Asked,
-      look-at-cases-reads.Learnt,
-      walk-node-below t,
-      walk-node.Post,
-    )
+    close μ-walk-block μ-walk-node μ-walk-parts (λ t. walk-block-lts.spec (walk-block-calls t)
     (walk-block-at t)
     walk-block.Post
     (walk-block-look-at-cases-requires t)
     (walk-block-walk-node-requires t)
-    (walk-block-same-length t)
+    (λ c. search needs)
     (walk-block-returns t))
-    (λ t. walk-node-lts.spec (
-      lane-bit-reads.Asked,
-      lane-bit-reads.Learnt,
-      add-line-reads.Asked,
-      add-line-reads.Learnt,
-      walk-parts-below t,
-      walk-parts.Post,
-      fix-path-reads.Asked,
-      fix-path-reads.Learnt,
-      levels-of-reads.Asked,
-      levels-of-reads.Learnt,
-      fix-levels-reads.Asked,
-      fix-levels-reads.Learnt,
-      walk-block-below t,
-      walk-block.Post,
-    )
+    (λ t. walk-node-lts.spec (walk-node-calls t)
     (walk-node-at t)
     walk-node.Post
     (walk-node-returns t)
     (walk-node-lane-bit-requires t)
     (walk-node-add-line-requires t)
-    (walk-node-same-length t)
+    (λ c. search needs)
     (walk-node-returns-2 t)
     (walk-node-lane-bit-requires-2 t)
     (walk-node-add-line-requires-2 t)
-    (walk-node-same-length-2 t)
+    (λ c. search needs)
     (walk-node-returns-3 t)
     (walk-node-add-if4 t)
     (walk-node-sub-walk-parts t)
     (walk-node-walk-parts-requires t)
-    (walk-node-same-length-3 t)
+    (λ c. search needs)
     (walk-node-returns-4 t)
     (walk-node-returns-5 t)
     (walk-node-fix-path-requires t)
-    (walk-node-levels-of-requires t)
+    (λ c κs. search needs)
     (walk-node-fix-levels-requires t)
     (walk-node-walk-block-requires t)
-    (walk-node-same-length-4 t)
+    (λ c. search needs)
     (walk-node-returns-6 t))
-    λ t. walk-parts-lts.spec (
-      walk-node-below t,
-      walk-node.Post,
-      half-of-reads.Asked,
-      half-of-reads.Learnt,
-      joined-reads.Asked,
-      joined-reads.Learnt,
-    )
+    λ t. walk-parts-lts.spec (walk-parts-calls t)
     (walk-parts-at t)
     walk-parts.Post
     (walk-parts-add-walk-node t)
     (walk-parts-sub-t21 t)
     (walk-parts-mul-walk-node t)
     (walk-parts-walk-node-requires t)
-    (walk-parts-enum-told t)
-    (walk-parts-enum-known-state t)
+    (λ c. search needs)
+    (λ c. search needs)
     (walk-parts-add-t26 t)
-    (walk-parts-enum-known-lines t)
+    (λ c. search needs)
     (walk-parts-add-walk-node-2 t)
     (walk-parts-sub-walk-node t)
     (walk-parts-half-of-requires t)
@@ -778,9 +228,9 @@ pub +walk-block+walk-node+walk-parts-spec : {M : Type 1} → statement M
     (walk-parts-sub-walk-node-2 t)
     (walk-parts-walk-node-requires-2 t)
     (walk-parts-joined-requires t)
-    (walk-parts-same-length t)
+    (λ c. search needs)
     (walk-parts-returns t)
-    (walk-parts-same-length-2 t)
+    (λ c. search needs)
     (walk-parts-returns-2 t)
-    (walk-parts-same-length-3 t)
+    (λ c. search needs)
     (walk-parts-returns-3 t)

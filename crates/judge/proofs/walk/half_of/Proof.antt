@@ -7,14 +7,8 @@ use Prim.Native.Nat.{ℕ, _+_, _-_, _^_}
 use native.Mathlib.Omega.{arith}
 use Rattle.execute.proofs.Bits.{span}
 
-add-result : tie.Need-add-result
-add-result c = search needs
-
-shr-result : tie.Need-shr-result
-shr-result c = search needs
-
 returns : tie.Need-returns
 returns c = span (c .args .k + 1) (omega arith) ∙ ap (λ (x : ℕ). 2 ^ (48 - x)) (omega arith)
 
 pub half-of-spec : {M : Type 1} → statement M
-half-of-spec = tie.close (tie.spec add-result shr-result returns)
+half-of-spec = tie.close (tie.spec (λ c. search needs) (λ c. search needs) returns)

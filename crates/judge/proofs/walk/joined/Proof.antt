@@ -7,20 +7,11 @@ use native.Mathlib.Omega.{arith}
 use Rattle.judge.specs.Walks.{joins}
 use Rattle.judge.proofs.Walking.{failed-adds, closed-adds}
 
-enum-told : tie.Need-enum-told
-enum-told c = search needs
-
-enum-known-second : tie.Need-enum-known-second
-enum-known-second c = search needs
-
 add-t10 : tie.Need-add-t10
 add-t10 c = omega (arith, failed-adds _ _ _ _ _ (c .before .before .before .pre) (c .before .second .given .1))
 
 add-t11 : tie.Need-add-t11
 add-t11 c = omega (arith, failed-adds _ _ _ _ _ (c .before .before .before .pre) (c .before .second .given .1))
-
-enum-known-second-2 : tie.Need-enum-known-second-2
-enum-known-second-2 c = search needs
 
 add-t12 : tie.Need-add-t12
 add-t12 c = omega (arith, closed-adds _ _ _ _ _ _ (c .before .before .before .pre) (c .before .second2 .given .1) .1)
@@ -30,9 +21,6 @@ add-t13 c = omega (arith, closed-adds _ _ _ _ _ _ (c .before .before .before .pr
 
 add-t14 : tie.Need-add-t14
 add-t14 c = omega (arith, closed-adds _ _ _ _ _ _ (c .before .before .before .pre) (c .before .second2 .given .1) .0)
-
-returns : tie.Need-returns
-returns c = search needs
 
 returns-2 : tie.Need-returns-2
 returns-2 c = sym (ap (joins (c .before .before .before .args .lines) (c .before .before .before .args .visits)) (c .before .second .given .1))
@@ -44,14 +32,14 @@ pub joined-spec : {M : Type 1} → statement M
 joined-spec =
     tie.close
     (tie.spec
-    enum-told
-    enum-known-second
+    (λ c. search needs)
+    (λ c. search needs)
     add-t10
     add-t11
-    enum-known-second-2
+    (λ c. search needs)
     add-t12
     add-t13
     add-t14
-    returns
+    (λ c. search needs)
     returns-2
     returns-3)

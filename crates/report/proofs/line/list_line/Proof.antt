@@ -7,23 +7,8 @@ use borrow.Author.Needs.{needs}
 use Rattle.report.proofs.line.list_line.Statement.{statement}
 use Rattle.report.proofs.line.list_line.Tie as tie
 
-read-line-requires : tie.Need-read-line-requires
-read-line-requires c κs = search needs
-
-put-kind-requires : tie.Need-put-kind-requires
-put-kind-requires c κs = search needs
-
-put-marks-requires : tie.Need-put-marks-requires
-put-marks-requires c κs = search needs
-
-slice-aggregate-put-word : tie.Need-slice-aggregate-put-word
-slice-aggregate-put-word c = search needs
-
 put-word-requires : tie.Need-put-word-requires
 put-word-requires c κs = omega (arith, c .before .before .before .before .put-marks .ensures .end, marks-long (c .before .before .before .before .before .before .before .before .before .before .before .before .before .args .facts) (c .before .before .before .before .before .before .before .before .before .before .read-line .result .k) (c .before .before .before .before .before .before .before .before .before .before .read-line .result .value), c .before .before .before .before .before .before .before .before .put-kind .ensures .1)
-
-same-length : tie.Need-same-length
-same-length c = search needs
 
 returns : tie.Need-returns
 unfolding ascii
@@ -33,10 +18,10 @@ pub list-line-spec : {M : Type 1} → statement M
 list-line-spec =
     tie.close
     (tie.spec
-    read-line-requires
-    put-kind-requires
-    put-marks-requires
-    slice-aggregate-put-word
+    (λ c κs. search needs)
+    (λ c κs. search needs)
+    (λ c κs. search needs)
+    (λ c. search needs)
     put-word-requires
-    same-length
+    (λ c. search needs)
     returns)

@@ -7,14 +7,8 @@ use borrow.Author.Needs.{needs}
 use Rattle.report.proofs.line.put_refusal.Statement.{statement}
 use Rattle.report.proofs.line.put_refusal.Tie as tie
 
-put-block-requires : tie.Need-put-block-requires
-put-block-requires c κs = search needs
-
 write-decimal-requires : tie.Need-write-decimal-requires
 write-decimal-requires c κs = omega (arith, decimal-most (c .before .before .before .before .before .before .args .number), c .before .before .before .put-block .ensures .1)
-
-slice-aggregate-put-word : tie.Need-slice-aggregate-put-word
-slice-aggregate-put-word c = search needs
 
 put-word-requires : tie.Need-put-word-requires
 put-word-requires c κs = omega (arith, decimal-most (c .before .before .before .before .before .before .before .before .before .before .before .args .number), c .before .before .before .before .before .before .before .before .put-block .ensures .1, c .before .before .before .before .write-decimal .ensures .0)
@@ -22,14 +16,8 @@ put-word-requires c κs = omega (arith, decimal-most (c .before .before .before 
 write-decimal-requires-2 : tie.Need-write-decimal-requires-2
 write-decimal-requires-2 c κs = omega (arith, decimal-most (c .before .before .before .before .before .before .before .before .before .before .before .before .before .before .before .args .number), decimal-most (c .before .before .before .before .before .before .before .before .before .before .before .before .before .before .before .args .place), c .before .before .before .before .before .before .before .before .before .before .before .before .put-block .ensures .1, c .before .before .before .before .before .before .before .before .write-decimal .ensures .0, c .before .before .before .put-word .ensures .end)
 
-slice-aggregate-put-word-2 : tie.Need-slice-aggregate-put-word-2
-slice-aggregate-put-word-2 c = search needs
-
 put-word-requires-2 : tie.Need-put-word-requires-2
 put-word-requires-2 c κs = omega (arith, decimal-most (c .before .before .before .before .before .before .before .before .before .before .before .before .before .before .before .before .before .before .before .before .args .number), decimal-most (c .before .before .before .before .before .before .before .before .before .before .before .before .before .before .before .before .before .before .before .before .args .place), c .before .before .before .before .before .before .before .before .before .before .before .before .before .before .before .before .before .put-block .ensures .1, c .before .before .before .before .before .before .before .before .before .before .before .before .before .write-decimal .ensures .0, c .before .before .before .before .before .before .before .before .put-word .ensures .end, c .before .before .before .before .write-decimal2 .ensures .0)
-
-same-length : tie.Need-same-length
-same-length c = search needs
 
 returns : tie.Need-returns
 unfolding ascii
@@ -39,12 +27,12 @@ pub put-refusal-spec : {M : Type 1} → statement M
 put-refusal-spec =
     tie.close
     (tie.spec
-    put-block-requires
+    (λ c κs. search needs)
     write-decimal-requires
-    slice-aggregate-put-word
+    (λ c. search needs)
     put-word-requires
     write-decimal-requires-2
-    slice-aggregate-put-word-2
+    (λ c. search needs)
     put-word-requires-2
-    same-length
+    (λ c. search needs)
     returns)

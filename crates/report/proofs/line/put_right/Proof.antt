@@ -7,20 +7,11 @@ use borrow.Author.Needs.{needs}
 use Rattle.report.proofs.line.put_right.Statement.{statement}
 use Rattle.report.proofs.line.put_right.Tie as tie
 
-slice-aggregate-put-word : tie.Need-slice-aggregate-put-word
-slice-aggregate-put-word c = search needs
-
-put-word-requires : tie.Need-put-word-requires
-put-word-requires c κs = search needs
-
 write-decimal-requires : tie.Need-write-decimal-requires
 write-decimal-requires c κs = omega (arith, decimal-most (c .before .before .before .before .before .before .before .args .lines))
 
 put-visits-requires : tie.Need-put-visits-requires
 put-visits-requires c κs = omega (arith, decimal-most (c .before .before .before .before .before .before .before .before .before .before .before .args .lines), c .before .before .before .write-decimal .ensures .0)
-
-same-length : tie.Need-same-length
-same-length c = search needs
 
 returns : tie.Need-returns
 unfolding ascii
@@ -30,9 +21,9 @@ pub put-right-spec : {M : Type 1} → statement M
 put-right-spec =
     tie.close
     (tie.spec
-    slice-aggregate-put-word
-    put-word-requires
+    (λ c. search needs)
+    (λ c κs. search needs)
     write-decimal-requires
     put-visits-requires
-    same-length
+    (λ c. search needs)
     returns)

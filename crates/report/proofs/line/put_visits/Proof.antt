@@ -7,23 +7,11 @@ use borrow.Author.Needs.{needs}
 use Rattle.report.proofs.line.put_visits.Statement.{statement}
 use Rattle.report.proofs.line.put_visits.Tie as tie
 
-slice-aggregate-put-word : tie.Need-slice-aggregate-put-word
-slice-aggregate-put-word c = search needs
-
-put-word-requires : tie.Need-put-word-requires
-put-word-requires c κs = search needs
-
 write-decimal-requires : tie.Need-write-decimal-requires
 write-decimal-requires c κs = omega (arith, decimal-most (c .before .before .before .before .before .before .before .args .visits))
 
-slice-aggregate-put-word-2 : tie.Need-slice-aggregate-put-word-2
-slice-aggregate-put-word-2 c = search needs
-
 put-word-requires-2 : tie.Need-put-word-requires-2
 put-word-requires-2 c κs = omega (arith, decimal-most (c .before .before .before .before .before .before .before .before .before .before .before .before .args .visits), c .before .before .before .before .write-decimal .ensures .0)
-
-same-length : tie.Need-same-length
-same-length c = search needs
 
 returns : tie.Need-returns
 unfolding ascii
@@ -33,10 +21,10 @@ pub put-visits-spec : {M : Type 1} → statement M
 put-visits-spec =
     tie.close
     (tie.spec
-    slice-aggregate-put-word
-    put-word-requires
+    (λ c. search needs)
+    (λ c κs. search needs)
     write-decimal-requires
-    slice-aggregate-put-word-2
+    (λ c. search needs)
     put-word-requires-2
-    same-length
+    (λ c. search needs)
     returns)

@@ -7,23 +7,11 @@ use borrow.Author.Needs.{needs}
 use Rattle.report.proofs.line.put_wrong.Statement.{statement}
 use Rattle.report.proofs.line.put_wrong.Tie as tie
 
-slice-aggregate-put-word : tie.Need-slice-aggregate-put-word
-slice-aggregate-put-word c = search needs
-
-put-word-requires : tie.Need-put-word-requires
-put-word-requires c κs = search needs
-
-put-marks-requires : tie.Need-put-marks-requires
-put-marks-requires c κs = search needs
-
 put-place-requires : tie.Need-put-place-requires
 put-place-requires c κs = omega (arith, c .before .before .before .before .before .before .before .put-word .ensures .end, c .before .before .before .put-marks .ensures .end, marks-long (c .before .before .before .before .before .before .before .before .before .before .before .args .facts) (c .before .before .before .before .before .before .before .before .before .before .before .args .facts) (c .before .before .before .before .before .before .before .before .before .before .before .args .state))
 
 put-visits-requires : tie.Need-put-visits-requires
 put-visits-requires c κs = omega (arith, c .before .before .before .before .before .before .before .before .before .before .before .put-word .ensures .end, c .before .before .before .before .before .before .before .put-marks .ensures .end, marks-long (c .before .before .before .before .before .before .before .before .before .before .before .before .before .before .before .args .facts) (c .before .before .before .before .before .before .before .before .before .before .before .before .before .before .before .args .facts) (c .before .before .before .before .before .before .before .before .before .before .before .before .before .before .before .args .state), c .before .before .before .put-place .ensures .1)
-
-same-length : tie.Need-same-length
-same-length c = search needs
 
 returns : tie.Need-returns
 unfolding ascii
@@ -33,10 +21,10 @@ pub put-wrong-spec : {M : Type 1} → statement M
 put-wrong-spec =
     tie.close
     (tie.spec
-    slice-aggregate-put-word
-    put-word-requires
-    put-marks-requires
+    (λ c. search needs)
+    (λ c κs. search needs)
+    (λ c κs. search needs)
     put-place-requires
     put-visits-requires
-    same-length
+    (λ c. search needs)
     returns)

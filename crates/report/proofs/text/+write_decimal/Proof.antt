@@ -32,111 +32,39 @@ write-decimal-below t =
     (falls 1 write-decimal-kinds.ps _<_ μ-write-decimal t)
     write-decimal.Pre
 
-write-decimal-digit-requires : (t : ℕ) → write-decimal-lts.Need-digit-requires (
-  digit-reads.Asked,
-  digit-reads.Learnt,
-  write-decimal-below t,
-  write-decimal.Post,
-) (write-decimal-at t) write-decimal.Post
-write-decimal-digit-requires t c κs = search needs
+abbrev write-decimal-calls : ℕ → write-decimal-lts.Claims
+write-decimal-calls t = (digit-reads.Asked, digit-reads.Learnt, write-decimal-below t, write-decimal.Post)
 
-write-decimal-slice-write-out : (t : ℕ) → write-decimal-lts.Need-slice-write-out (
-  digit-reads.Asked,
-  digit-reads.Learnt,
-  write-decimal-below t,
-  write-decimal.Post,
-) (write-decimal-at t) write-decimal.Post
+write-decimal-slice-write-out : (t : ℕ) → write-decimal-lts.Need-slice-write-out (write-decimal-calls t) (write-decimal-at t) write-decimal.Post
 write-decimal-slice-write-out t c = omega (arith, len-one (c .before .before .before .args .n) (c .before .if1 .taken))
 
-write-decimal-add-result : (t : ℕ) → write-decimal-lts.Need-add-result (
-  digit-reads.Asked,
-  digit-reads.Learnt,
-  write-decimal-below t,
-  write-decimal.Post,
-) (write-decimal-at t) write-decimal.Post
-write-decimal-add-result t c = search needs
-
-write-decimal-same-length : (t : ℕ) → write-decimal-lts.Need-same-length (
-  digit-reads.Asked,
-  digit-reads.Learnt,
-  write-decimal-below t,
-  write-decimal.Post,
-) (write-decimal-at t) write-decimal.Post
-write-decimal-same-length t c = search needs
-
-write-decimal-returns : (t : ℕ) → write-decimal-lts.Need-returns (
-  digit-reads.Asked,
-  digit-reads.Learnt,
-  write-decimal-below t,
-  write-decimal.Post,
-) (write-decimal-at t) write-decimal.Post
+write-decimal-returns : (t : ℕ) → write-decimal-lts.Need-returns (write-decimal-calls t) (write-decimal-at t) write-decimal.Post
 write-decimal-returns t c = (omega (arith, len-one (c .before .before .before .args .n) (c .before .if1 .taken)), ap (λ (x : ℕ). set (c .before .before .before .args .out .now) (c .before .before .before .args .at) x) (c .digit .ensures) ∙ sym (ap (λ (l : List ℕ). sets (c .before .before .before .args .out .now) (c .before .before .before .args .at) l) (one-digit (c .before .before .before .args .n) (c .before .if1 .taken))))
 
-write-decimal-write-decimal-requires : (t : ℕ) → write-decimal-lts.Need-write-decimal-requires (
-  digit-reads.Asked,
-  digit-reads.Learnt,
-  write-decimal-below t,
-  write-decimal.Post,
-) (write-decimal-at t) write-decimal.Post
+write-decimal-write-decimal-requires : (t : ℕ) → write-decimal-lts.Need-write-decimal-requires (write-decimal-calls t) (write-decimal-at t) write-decimal.Post
 write-decimal-write-decimal-requires t c κs = (omega arith, omega (arith, len-more (c .before .before .before .args .n) (c .before .if1 .left) (search needs)))
 
-write-decimal-digit-requires-2 : (t : ℕ) → write-decimal-lts.Need-digit-requires-2 (
-  digit-reads.Asked,
-  digit-reads.Learnt,
-  write-decimal-below t,
-  write-decimal.Post,
-) (write-decimal-at t) write-decimal.Post
-write-decimal-digit-requires-2 t c κs = search needs
-
-write-decimal-slice-write-out-2 : (t : ℕ) → write-decimal-lts.Need-slice-write-out-2 (
-  digit-reads.Asked,
-  digit-reads.Learnt,
-  write-decimal-below t,
-  write-decimal.Post,
-) (write-decimal-at t) write-decimal.Post
+write-decimal-slice-write-out-2 : (t : ℕ) → write-decimal-lts.Need-slice-write-out-2 (write-decimal-calls t) (write-decimal-at t) write-decimal.Post
 write-decimal-slice-write-out-2 t c = omega (arith, len-more (c .before .before .before .before .before .before .before .args .n) (c .before .before .before .before .before .if1 .left) (search needs), c .before .before .before .write-decimal .kept .0, c .before .before .before .write-decimal .ensures .0)
 
-write-decimal-add-result-2 : (t : ℕ) → write-decimal-lts.Need-add-result-2 (
-  digit-reads.Asked,
-  digit-reads.Learnt,
-  write-decimal-below t,
-  write-decimal.Post,
-) (write-decimal-at t) write-decimal.Post
+write-decimal-add-result-2 : (t : ℕ) → write-decimal-lts.Need-add-result-2 (write-decimal-calls t) (write-decimal-at t) write-decimal.Post
 write-decimal-add-result-2 t c = omega (arith, len-more (c .before .before .before .before .before .before .before .args .n) (c .before .before .before .before .before .if1 .left) (search needs), c .before .before .before .write-decimal .ensures .0)
 
-write-decimal-same-length-2 : (t : ℕ) → write-decimal-lts.Need-same-length-2 (
-  digit-reads.Asked,
-  digit-reads.Learnt,
-  write-decimal-below t,
-  write-decimal.Post,
-) (write-decimal-at t) write-decimal.Post
-write-decimal-same-length-2 t c = search needs
-
-write-decimal-returns-2 : (t : ℕ) → write-decimal-lts.Need-returns-2 (
-  digit-reads.Asked,
-  digit-reads.Learnt,
-  write-decimal-below t,
-  write-decimal.Post,
-) (write-decimal-at t) write-decimal.Post
+write-decimal-returns-2 : (t : ℕ) → write-decimal-lts.Need-returns-2 (write-decimal-calls t) (write-decimal-at t) write-decimal.Post
 write-decimal-returns-2 t c = (omega (arith, len-more (c .before .before .before .before .before .before .before .args .n) (c .before .before .before .before .before .if1 .left) (search needs), c .before .before .before .write-decimal .ensures .0), last-store (c .before .before .before .before .before .before .before .args .out .now) (c .before .before .before .write-decimal .last .0) (c .before .before .before .before .before .before .before .args .at) (c .before .before .before .write-decimal .result) (c .digit2 .result) (c .before .before .before .before .before .before .before .args .n) (c .before .before .before .before .before .if1 .left) (search needs) (c .before .before .before .write-decimal .ensures .1) (c .before .before .before .write-decimal .ensures .0) (c .digit2 .ensures))
 
 pub +write-decimal-spec : {M : Type 1} → statement M
-+write-decimal-spec = close μ-write-decimal λ t. write-decimal-lts.spec (
-  digit-reads.Asked,
-  digit-reads.Learnt,
-  write-decimal-below t,
-  write-decimal.Post,
-)
++write-decimal-spec = close μ-write-decimal λ t. write-decimal-lts.spec (write-decimal-calls t)
     (write-decimal-at t)
     write-decimal.Post
-    (write-decimal-digit-requires t)
+    (λ c κs. search needs)
     (write-decimal-slice-write-out t)
-    (write-decimal-add-result t)
-    (write-decimal-same-length t)
+    (λ c. search needs)
+    (λ c. search needs)
     (write-decimal-returns t)
     (write-decimal-write-decimal-requires t)
-    (write-decimal-digit-requires-2 t)
+    (λ c κs. search needs)
     (write-decimal-slice-write-out-2 t)
     (write-decimal-add-result-2 t)
-    (write-decimal-same-length-2 t)
+    (λ c. search needs)
     (write-decimal-returns-2 t)

@@ -19,21 +19,6 @@ abbrev μ-loop : tie.MeasureT-loop
 loop-holds : tie.Need-loop-holds Inv-loop μ-loop
 loop-holds c = (omega arith, omega arith, refl, refl)
 
-mark-requires : tie.Need-mark-requires Inv-loop μ-loop
-mark-requires c κs = omega arith
-
-slice-write-out : tie.Need-slice-write-out Inv-loop μ-loop
-slice-write-out c = omega arith
-
-add-to : tie.Need-add-to Inv-loop μ-loop
-add-to c = omega arith
-
-add-i : tie.Need-add-i Inv-loop μ-loop
-add-i c = omega arith
-
-loop-less : tie.Need-loop-less Inv-loop μ-loop
-loop-less c = omega arith
-
 loop-again : tie.Need-loop-again Inv-loop μ-loop
 loop-again c = (omega arith, omega arith, simp length-set (c .before .before .loop .inv .2), mark-more _ _ _ _ _ _ _ _ (c .before .before .loop .inv .1) (c .before .before .loop .inv .3) (c .mark .ensures))
 
@@ -50,11 +35,11 @@ put-marks-spec =
     Inv-loop
     μ-loop
     loop-holds
-    mark-requires
-    slice-write-out
-    add-to
-    add-i
-    loop-less
+    (λ c κs. omega arith)
+    (λ c. omega arith)
+    (λ c. omega arith)
+    (λ c. omega arith)
+    (λ c. omega arith)
     loop-again
     same-length
     returns)

@@ -17,29 +17,8 @@ abbrev μ-loop : tie.MeasureT-loop
 loop-holds : tie.Need-loop-holds Inv-loop μ-loop
 loop-holds c = (omega arith, sets-ends _ _ _ _ _ _ (omega arith) (omega arith) (sets-none _ _ _ (c .pre .0)))
 
-add-set-fact : tie.Need-add-set-fact Inv-loop μ-loop
-add-set-fact c = search needs
-
-mul-set-fact : tie.Need-mul-set-fact Inv-loop μ-loop
-mul-set-fact c = search needs
-
-array-read-set-fact : tie.Need-array-read-set-fact Inv-loop μ-loop
-array-read-set-fact c = search needs
-
-mul-set-fact-2 : tie.Need-mul-set-fact-2 Inv-loop μ-loop
-mul-set-fact-2 c = search needs
-
-array-read-set-fact-2 : tie.Need-array-read-set-fact-2 Inv-loop μ-loop
-array-read-set-fact-2 c = search needs
-
 set-fact-requires : tie.Need-set-fact-requires Inv-loop μ-loop
 set-fact-requires c κs = (c .before .before .loop .inv .1 .size, omega arith)
-
-add-i : tie.Need-add-i Inv-loop μ-loop
-add-i c = search needs
-
-loop-less : tie.Need-loop-less Inv-loop μ-loop
-loop-less c = search needs
 
 loop-again : tie.Need-loop-again Inv-loop μ-loop
 loop-again c = (omega arith, levels-next _ _ _ _ _ (omega arith) (omega arith) (c .before .before .before .loop .inv .1) (c .set-fact .ensures))
@@ -54,13 +33,13 @@ fix-levels-spec =
     Inv-loop
     μ-loop
     loop-holds
-    add-set-fact
-    mul-set-fact
-    array-read-set-fact
-    mul-set-fact-2
-    array-read-set-fact-2
+    (λ c. search needs)
+    (λ c. search needs)
+    (λ c. search needs)
+    (λ c. search needs)
+    (λ c. search needs)
     set-fact-requires
-    add-i
-    loop-less
+    (λ c. search needs)
+    (λ c. search needs)
     loop-again
     returns)

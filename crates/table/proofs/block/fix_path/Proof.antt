@@ -15,44 +15,8 @@ abbrev μ-loop : tie.MeasureT-loop
 loop-holds : tie.Need-loop-holds Inv-loop μ-loop
 loop-holds c = (omega arith, copied-none _ _ _ (c .pre .0))
 
-add-f : tie.Need-add-f Inv-loop μ-loop
-add-f c = search needs
-
-mul-spread : tie.Need-mul-spread Inv-loop μ-loop
-mul-spread c = search needs
-
-mul-spread-2 : tie.Need-mul-spread-2 Inv-loop μ-loop
-mul-spread-2 c = search needs
-
-element-copy-out-spread : tie.Need-element-copy-out-spread Inv-loop μ-loop
-element-copy-out-spread c = search needs
-
-spread-requires : tie.Need-spread-requires Inv-loop μ-loop
-spread-requires c κs = search needs
-
-mul-spread-3 : tie.Need-mul-spread-3 Inv-loop μ-loop
-mul-spread-3 c = search needs
-
-add-spread : tie.Need-add-spread Inv-loop μ-loop
-add-spread c = search needs
-
-mul-spread-4 : tie.Need-mul-spread-4 Inv-loop μ-loop
-mul-spread-4 c = search needs
-
-element-copy-out-spread-2 : tie.Need-element-copy-out-spread-2 Inv-loop μ-loop
-element-copy-out-spread-2 c = search needs
-
-spread-requires-2 : tie.Need-spread-requires-2 Inv-loop μ-loop
-spread-requires-2 c κs = search needs
-
 set-fact-requires : tie.Need-set-fact-requires Inv-loop μ-loop
 set-fact-requires c κs = (c .before .before .before .before .before .before .loop .inv .1 .size, omega arith)
-
-add-i : tie.Need-add-i Inv-loop μ-loop
-add-i c = search needs
-
-loop-less : tie.Need-loop-less Inv-loop μ-loop
-loop-less c = search needs
 
 loop-again : tie.Need-loop-again Inv-loop μ-loop
 loop-again c =
@@ -73,18 +37,18 @@ fix-path-spec =
     Inv-loop
     μ-loop
     loop-holds
-    add-f
-    mul-spread
-    mul-spread-2
-    element-copy-out-spread
-    spread-requires
-    mul-spread-3
-    add-spread
-    mul-spread-4
-    element-copy-out-spread-2
-    spread-requires-2
+    (λ c. search needs)
+    (λ c. search needs)
+    (λ c. search needs)
+    (λ c. search needs)
+    (λ c κs. search needs)
+    (λ c. search needs)
+    (λ c. search needs)
+    (λ c. search needs)
+    (λ c. search needs)
+    (λ c κs. search needs)
     set-fact-requires
-    add-i
-    loop-less
+    (λ c. search needs)
+    (λ c. search needs)
     loop-again
     returns)

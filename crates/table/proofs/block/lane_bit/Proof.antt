@@ -4,12 +4,9 @@ use Rattle.table.proofs.block.lane_bit.Statement.{statement}
 use Rattle.table.proofs.block.lane_bit.Tie as tie
 use Rattle.model.specs.Planes.{laneBit}
 
-shr-result : tie.Need-shr-result
-shr-result c = search needs
-
 returns : tie.Need-returns
 unfolding laneBit
 returns c = search needs
 
 pub lane-bit-spec : {M : Type 1} → statement M
-lane-bit-spec = tie.close (tie.spec shr-result returns)
+lane-bit-spec = tie.close (tie.spec (λ c. search needs) returns)

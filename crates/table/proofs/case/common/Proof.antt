@@ -15,18 +15,6 @@ abbrev μ-loop : tie.MeasureT-loop
 loop-holds : tie.Need-loop-holds Inv-loop μ-loop
 loop-holds c = ⊎-elim (λ w. omega arith) (λ w. omega arith) (c .if1 .came)
 
-sub-loop : tie.Need-sub-loop Inv-loop μ-loop
-sub-loop c = omega arith
-
-shr-loop : tie.Need-shr-loop Inv-loop μ-loop
-shr-loop c = omega arith
-
-sub-loop-2 : tie.Need-sub-loop-2 Inv-loop μ-loop
-sub-loop-2 c = omega arith
-
-shr-loop-2 : tie.Need-shr-loop-2 Inv-loop μ-loop
-shr-loop-2 c = omega arith
-
 sub-m : tie.Need-sub-m Inv-loop μ-loop
 sub-m c =
     let start = c .before .before .before .before in
@@ -34,9 +22,6 @@ sub-m c =
 
 loop-less : tie.Need-loop-less Inv-loop μ-loop
 loop-less c = omega (arith, sub-m c)
-
-loop-again : tie.Need-loop-again Inv-loop μ-loop
-loop-again c = omega arith
 
 returns : tie.Need-returns Inv-loop μ-loop
 returns c = common-ends _ _ _ _ _ (omega arith) (omega arith) (omega arith) (c .loop-test .left)
@@ -48,11 +33,11 @@ common-spec =
     Inv-loop
     μ-loop
     loop-holds
-    sub-loop
-    shr-loop
-    sub-loop-2
-    shr-loop-2
+    (λ c. omega arith)
+    (λ c. omega arith)
+    (λ c. omega arith)
+    (λ c. omega arith)
     sub-m
     loop-less
-    loop-again
+    (λ c. omega arith)
     returns)

@@ -18,23 +18,8 @@ abbrev μ-loop : tie.MeasureT-loop
 loop-holds : tie.Need-loop-holds Inv-loop μ-loop
 loop-holds c = (omega arith, omega arith, sets-none _ _ _ (c .pre .0))
 
-sub-spread : tie.Need-sub-spread Inv-loop μ-loop
-sub-spread c = search needs
-
-sub-spread-2 : tie.Need-sub-spread-2 Inv-loop μ-loop
-sub-spread-2 c = search needs
-
-spread-requires : tie.Need-spread-requires Inv-loop μ-loop
-spread-requires c κs = search needs
-
 set-fact-requires : tie.Need-set-fact-requires Inv-loop μ-loop
 set-fact-requires c κs = (c .before .before .before .loop .inv .2 .size, omega arith)
-
-add-f : tie.Need-add-f Inv-loop μ-loop
-add-f c = search needs
-
-loop-less : tie.Need-loop-less Inv-loop μ-loop
-loop-less c = search needs
 
 loop-again : tie.Need-loop-again Inv-loop μ-loop
 loop-again c =
@@ -52,11 +37,11 @@ fix-bits-spec =
     Inv-loop
     μ-loop
     loop-holds
-    sub-spread
-    sub-spread-2
-    spread-requires
+    (λ c. search needs)
+    (λ c. search needs)
+    (λ c κs. search needs)
     set-fact-requires
-    add-f
-    loop-less
+    (λ c. search needs)
+    (λ c. search needs)
     loop-again
     returns)

@@ -21,12 +21,6 @@ loop-holds c = (omega arith, omega arith, sets-none _ _ _ (c .pre .0))
 set-fact-requires : tie.Need-set-fact-requires Inv-loop μ-loop
 set-fact-requires c κs = (c .before .before .loop .inv .2 .size, omega arith)
 
-add-f : tie.Need-add-f Inv-loop μ-loop
-add-f c = search needs
-
-loop-less : tie.Need-loop-less Inv-loop μ-loop
-loop-less c = search needs
-
 loop-again : tie.Need-loop-again Inv-loop μ-loop
 loop-again c =
     let now = c .before .before .before .loop in
@@ -38,4 +32,4 @@ returns c = sets-ends _ _ _ _ _ _ (omega arith) (omega arith) (c .before .loop .
 pub free-facts-spec : {M : Type 1} → statement M
 free-facts-spec =
     tie.close
-    (tie.spec Inv-loop μ-loop loop-holds set-fact-requires add-f loop-less loop-again returns)
+    (tie.spec Inv-loop μ-loop loop-holds set-fact-requires (λ c. search needs) (λ c. search needs) loop-again returns)

@@ -13,20 +13,11 @@ Inv-loop facts c₀ f₀ c f = (facts ≤ f) × (f ≤ 64) × SetsFacts c₀ fac
 abbrev μ-loop : tie.MeasureT-loop
 μ-loop facts c₀ f₀ c f = 64 - f
 
-unknown-requires : tie.Need-unknown-requires Inv-loop μ-loop
-unknown-requires c κs = search needs
-
 loop-holds : tie.Need-loop-holds Inv-loop μ-loop
 loop-holds c = (omega arith, omega arith, sets-none _ _ _ (c .unknown .ensures .size))
 
 set-fact-requires : tie.Need-set-fact-requires Inv-loop μ-loop
 set-fact-requires c κs = (c .before .before .loop .inv .2 .size, omega arith)
-
-add-f : tie.Need-add-f Inv-loop μ-loop
-add-f c = search needs
-
-loop-less : tie.Need-loop-less Inv-loop μ-loop
-loop-less c = search needs
 
 loop-again : tie.Need-loop-again Inv-loop μ-loop
 loop-again c =
@@ -44,10 +35,10 @@ none-fixed-spec =
     (tie.spec
     Inv-loop
     μ-loop
-    unknown-requires
+    (λ c κs. search needs)
     loop-holds
     set-fact-requires
-    add-f
-    loop-less
+    (λ c. search needs)
+    (λ c. search needs)
     loop-again
     returns)

@@ -5,11 +5,8 @@ use Rattle.table.proofs.fact.set_fact.Statement.{statement}
 use Rattle.table.proofs.fact.set_fact.Tie as tie
 use Rattle.table.proofs.Facts.{sets-fact}
 
-set-literal-requires : tie.Need-set-literal-requires
-set-literal-requires c κs = search needs
-
 returns : tie.Need-returns
 returns c = sets-fact _ _ _ _ _ (omega arith) (c .set-literal .ensures)
 
 pub set-fact-spec : {M : Type 1} → statement M
-set-fact-spec = tie.close (tie.spec set-literal-requires returns)
+set-fact-spec = tie.close (tie.spec (λ c κs. search needs) returns)

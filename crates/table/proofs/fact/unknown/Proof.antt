@@ -15,21 +15,6 @@ abbrev μ-loop : tie.MeasureT-loop
 loop-holds : tie.Need-loop-holds Inv-loop μ-loop
 loop-holds c = opened-begins
 
-mul-c : tie.Need-mul-c Inv-loop μ-loop
-mul-c c = search needs
-
-mul-c-2 : tie.Need-mul-c-2 Inv-loop μ-loop
-mul-c-2 c = search needs
-
-array-write-c : tie.Need-array-write-c Inv-loop μ-loop
-array-write-c c = search needs
-
-add-b : tie.Need-add-b Inv-loop μ-loop
-add-b c = search needs
-
-loop-less : tie.Need-loop-less Inv-loop μ-loop
-loop-less c = search needs
-
 loop-again : tie.Need-loop-again Inv-loop μ-loop
 loop-again c = opened-next _ _ (c .before .loop .inv) (omega arith)
 
@@ -43,10 +28,10 @@ unknown-spec =
     Inv-loop
     μ-loop
     loop-holds
-    mul-c
-    mul-c-2
-    array-write-c
-    add-b
-    loop-less
+    (λ c. search needs)
+    (λ c. search needs)
+    (λ c. search needs)
+    (λ c. search needs)
+    (λ c. search needs)
     loop-again
     returns)

@@ -1,0 +1,14 @@
+-- `follow_body` meets its contract. Assumes nothing.
+use Rattle.follow.proofs.Following.{body-refused, body-lines}
+use borrow.Author.Needs.{needs}
+use Rattle.follow.proofs.follow_body.Statement.{statement}
+use Rattle.follow.proofs.follow_body.Tie as tie
+
+returns : tie.Need-returns
+returns c = body-refused _ _ _ _ (c .if1 .taken)
+
+returns-2 : tie.Need-returns-2
+returns-2 c = body-lines _ _ _ _ _ (c .before .before .before .if1 .left) (c .follow-lines .ensures)
+
+pub follow-body-spec : {M : Type 1} → statement M
+follow-body-spec = tie.close (tie.spec (λ c. search needs) returns (λ c κs. search needs) returns-2)

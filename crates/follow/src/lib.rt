@@ -1,0 +1,202 @@
+// Following a case list, line by line. A table has the case of the line before in every lane: from one line to the next only the facts in
+// which their cases differ are touched.
+ghost use mathlib.Core.Path.{_≡_};
+ghost use Prim.Native.Nat.{_+_, _*_, _≤_};
+ghost use lib.ListN.{length};
+ghost use Rattle.model.specs.Limits.{version1};
+ghost use Rattle.model.specs.Operations.{followList};
+ghost use Rattle.model.specs.Answers.{followAnswer};
+ghost use Rattle.follow.specs.Follows.{Claims, Within, FollowsLine, FollowsLines, FollowsBody};
+ghost use Rattle.follow.specs.Promise.{FollowPromised};
+use blocks::check_header;
+use blocks::find_task;
+use execute::look_at_cases;
+use formula::Reading;
+use lines::Checked;
+use lines::check_at;
+use model::CaseList;
+use model::FollowAnswer;
+use model::Limits;
+use model::Problem;
+use model::Refusal;
+use numbers::span;
+use numbers::wide;
+use table::lane_bit;
+use table::none_fixed;
+use table::set_case;
+
+// The bits of a number.
+const WIDTH: usize = CaseList::WIDTH as usize;
+
+// What a line is followed by: the count of facts, and where the initial formula and the goal stand.
+pub struct Parts {
+    pub facts: u8,
+    pub initial: usize,
+    pub goal: usize,
+}
+
+// The line before: its case, which the table has in every lane, and where it ended.
+pub struct Before {
+    pub k: usize,
+    pub value: u64,
+    pub end: u64,
+}
+
+// Whether the case in the table, of which lane 0 tells, is of the kind claimed.
+fn check_claim(
+    problem: &[u8],
+    steps: &[u8],
+    actions: &[usize; 64],
+    at: Parts,
+    kind: u8,
+    c: &[u64; 256],
+) -> bool
+    requires { ⌜ length (now c) ≡ 256 ⌝ }
+    ensures { λ r. ⌜ Claims (now (problem .entry)) (now (steps .entry)) (now (actions .entry)) at kind (now (c .entry)) r ⌝ }
+{
+    let looks = look_at_cases(problem, steps, actions, at.initial, at.goal, c);
+    if lane_bit(looks.empty, 0) != 0 {
+        return kind == 0;
+    }
+    if lane_bit(looks.carries, 0) != 0 {
+        return kind == 1;
+    }
+    false
+}
+
+// What following a line gives: the number of its fault, or the line as the one before the next.
+pub enum Followed {
+    Fault(u8),
+    Next(Before),
+}
+
+// The line numbered `line`: the table goes on to its case, and one look tells.
+fn follow_line(
+    problem: &[u8],
+    steps: &[u8],
+    actions: &[usize; 64],
+    at: Parts,
+    list: &[u8],
+    line: usize,
+    before: Before,
+    c: &mut [u64; 256],
+) -> Followed
+    requires { ⌜ (at .facts ≤ 48) × Within (at .facts) before × (5 + 8 * line + 8 ≤ length (now list)) × (length (now c) ≡ 256) ⌝ }
+    ensures { λ r. ⌜ FollowsLine (now (problem .entry)) (now (steps .entry)) (now (actions .entry)) at (now (list .entry)) line before (now (c .entry)) r (now (c .exit)) ⌝ }
+{
+    match check_at(list, line, at.facts, CaseList::LINE_BYTES) {
+        Checked::Fault(number) => Followed::Fault(number),
+        Checked::Sound(l) => {
+            if l.value != before.end {
+                return Followed::Fault(68);
+            }
+            let k = wide(l.k);
+            set_case(c, before.k, before.value, k, l.value);
+            if check_claim(problem, steps, actions, at, l.kind, c) {
+                let end = l.value + span(WIDTH, k);
+                Followed::Next(Before {
+                    k,
+                    value: l.value,
+                    end,
+                })
+            } else {
+                Followed::Fault(69)
+            }
+        }
+    }
+}
+
+// So many lines, one after the other, from the case that fixes no fact.
+fn follow_lines(
+    problem: &[u8],
+    steps: &[u8],
+    actions: &[usize; 64],
+    at: Parts,
+    list: &[u8],
+    lines: usize,
+) -> FollowAnswer
+    requires { ⌜ (at .facts ≤ 48) × (5 + 8 * lines ≤ length (now list)) ⌝ }
+    ensures { λ r. ⌜ FollowsLines (now (problem .entry)) (now (steps .entry)) (now (actions .entry)) at (now (list .entry)) lines r ⌝ }
+{
+    let mut c = none_fixed(wide(at.facts));
+    let mut before = Before {
+        k: 0,
+        value: 0,
+        end: 0,
+    };
+    let mut i: usize = 0;
+    while i < lines {
+        match follow_line(problem, steps, actions, at, list, i, before, &mut c) {
+            Followed::Fault(number) => {
+                return FollowAnswer::Refused(Refusal {
+                    number,
+                    place: i as u64,
+                });
+            }
+            Followed::Next(next) => {
+                before = next;
+            }
+        }
+        i = i + 1;
+    }
+    if before.end != CaseList::NUMBERS {
+        return FollowAnswer::Refused(Refusal {
+            number: 70,
+            place: lines as u64,
+        });
+    }
+    FollowAnswer::Passes { lines }
+}
+
+// The lines of a list block whose header is right.
+fn follow_body(problem: &[u8], steps: &[u8], parts: Problem, list: &[u8]) -> FollowAnswer
+    requires { ⌜ (parts .facts ≤ 48) × (5 ≤ length (now list)) ⌝ }
+    ensures { λ r. ⌜ FollowsBody (now (problem .entry)) (now (steps .entry)) parts (now (list .entry)) r ⌝ }
+{
+    let body = list.len() - Limits::HEAD_BYTES;
+    if body % CaseList::LINE_BYTES != 0 {
+        return FollowAnswer::Refused(Refusal {
+            number: 64,
+            place: list.len() as u64,
+        });
+    }
+    let at = Parts {
+        facts: parts.facts,
+        initial: parts.initial,
+        goal: parts.goal,
+    };
+    let actions = parts.action;
+    follow_lines(
+        problem,
+        steps,
+        &actions,
+        at,
+        list,
+        body / CaseList::LINE_BYTES,
+    )
+}
+
+// Follow a list: the refusals of problem and plan, 60 to 70, or the line count of a list that passes.
+pub fn follow_list(problem: &[u8], plan: &[u8], list: &[u8]) -> FollowAnswer
+    ensures { λ r. ⌜ followAnswer r ≡ followList version1 (now (problem .entry)) (now (plan .entry)) (now (list .entry)) ⌝ }
+    ensures { λ r. ⌜ FollowPromised (now (problem .entry)) (now (plan .entry)) (now (list .entry)) (followAnswer r) ⌝ }
+{
+    let task = find_task(problem, plan);
+    if task.refused {
+        return FollowAnswer::Refused(Refusal {
+            number: task.number,
+            place: task.place as u64,
+        });
+    }
+    match check_header(list, 60, CaseList::MAX_BYTES) {
+        Reading::Refused(number, place) => FollowAnswer::Refused(Refusal {
+            number,
+            place: place as u64,
+        }),
+        Reading::Next(_) => {
+            let from = Limits::HEAD_BYTES;
+            let parts = task.problem;
+            follow_body(problem, &plan[from..], parts, list)
+        }
+    }
+}

@@ -1,0 +1,34 @@
+-- `put_line` meets its contract. Assumes nothing.
+use borrow.Author.Needs.{needs}
+use Rattle.lines.proofs.put.put_line.Statement.{statement}
+use Rattle.lines.proofs.put.put_line.Tie as tie
+use lib.ListN.{length, length-set}
+use lib.Seq.{length-sets}
+use native.Mathlib.Omega.{arith}
+use Rattle.lines.proofs.Stores.{line-stored}
+use mathlib.Core.Path.{ap, _∙_}
+
+slice-write-out-2 : tie.Need-slice-write-out-2
+slice-write-out-2 c = simp length-set (omega arith)
+
+put-number-requires : tie.Need-put-number-requires
+put-number-requires c κs = (omega arith, simp length-set (omega arith))
+
+same-length : tie.Need-same-length
+same-length c = ap length (c .before .before .put-number .ensures) ∙ simp (length-sets, length-set)
+
+returns : tie.Need-returns
+returns c = c .before .before .put-number .ensures ∙ line-stored _ _ _ _ _
+
+pub put-line-spec : {M : Type 1} → statement M
+put-line-spec =
+    tie.close
+    (tie.spec
+    (λ c. search needs)
+    (λ c. search needs)
+    slice-write-out-2
+    (λ c. search needs)
+    (λ c. search needs)
+    put-number-requires
+    same-length
+    returns)

@@ -1,0 +1,146 @@
+-- The page is the definition's text. Assumes nothing.
+use mathlib.Core.Path.{_≡_, refl, sym, ap, ap₂, _∙_, subst}
+use mathlib.Core.Bool.{Bool, true, false}
+use mathlib.Core.Logic.{⊎-elim}
+use mathlib.Core.List.{List, [], _∷_, _++_}
+use Prim.Native.Nat.{ℕ, zero, suc, _+_, _-_, _*_, _≤_, _<_}
+use native.Mathlib.Omega.{arith}
+use lib.Dec.{leb}
+use lib.ListN.{length, take, drop}
+use lib.Seq.{sets, sets-eq, length-take-le}
+use borrow.Author.Tests.{leb-true, le-leb, lt-leb}
+use denote.Enum.Declared.{tagOf}
+use types.Run.{OneOf}
+use Rattle.model.proofs.JudgeAnswer.{the-type}
+use Rattle.model.specs.Limits.{version1}
+use Rattle.model.specs.Answer.{answered}
+use Rattle.model.specs.Case.{Task}
+use Rattle.model.specs.Read.{headBytes}
+use Rattle.model.specs.Walk.{Line, walked, Verdict, right, wrong, undecided, judged}
+use Rattle.model.specs.Operations.{lineCount}
+use Rattle.model.specs.ListBytes.{lineAt, linesFrom, linesBytes}
+use Rattle.model.specs.WellFormed.{LineOk, Each}
+use Rattle.model.specs.Stands.{Span}
+use Rattle.model.specs.Answers.{judgeAnswer}
+use Rattle.model.specs.declared.JudgeAnswer.{JudgeAnswer}
+use Rattle.model.specs.declared.JudgeAnswer.the-variants.{Refused, Right, Wrong, Undecided}
+use Rattle.model.specs.DeskText.{lineText, linesText, listText, verdictRest, deskGrant, answerLine, answerRest, firstLine, laterLines}
+use Rattle.model.proofs.Demands.{version1-sensible}
+use Rattle.model.proofs.Laws.Reading.{split, span-length, is-whole}
+use Rattle.model.proofs.Laws.ListCodec as codec
+use Rattle.model.proofs.Laws.Verdicts.{Means, judged-means, walk-passes}
+use Rattle.model.proofs.Laws.Lists.{follows-ok}
+use Rattle.blocks.specs.declared.plan.Task as blocks
+use Rattle.blocks.specs.Parts.{FindsTask}
+use Rattle.blocks.specs.Standing.{StandsFound}
+use Rattle.lines.proofs.Stores.{length-lines}
+use Rattle.judge.specs.Verdicts.{LaysLines, JudgesTask}
+use Rattle.judge.proofs.Verdicts.{few-facts, parts-of}
+use Rattle.report.specs.Pages.{firstOf, restOf, pageLine, listed, restText, PageOf, countOf, FollowsPage}
+use Rattle.report.specs.declared.page.Page.{Page}
+use Rattle.report.specs.declared.page.Rest.{Rest}
+use Rattle.report.specs.declared.page.Rest.the-variants.{Nothing, TooLong, Lines}
+
+-- ---- the lines of a list, read back
+
+-- lines that were put where a list block has them
+lines-read :
+    (before : List ℕ) (ls : List Line) → 5 + 8 * length ls ≤ length before → Each (LineOk version1) ls →
+    linesFrom version1 (sets before 5 (linesBytes version1 ls)) (length ls) 5 ≡ ls
+lines-read before ls room ok =
+    let bytes = linesBytes version1 ls in
+    let fit : 5 + length bytes ≤ length before = omega (arith, length-lines ls) in
+    let l = take 5 before ++ bytes ++ drop (5 + length bytes) before in
+    ap (λ (x : List ℕ). linesFrom version1 x (length ls) 5) (sets-eq bytes before 5 fit) ∙
+    (split (take 5 before ++ bytes) (is-whole {s = l}) λ q a b.
+    split (take 5 before) a λ p x y.
+    let i : p ≡ 5 = omega (arith, span-length x, length-take-le 5 before (omega arith)) in
+    codec.lines-ok version1 version1-sensible l ls 5 q ok (subst (λ (j : ℕ). Span l (length l) j bytes q) i y))
+
+listed-is : (n : ℕ) (list : List ℕ) (c i p : ℕ) → p ≡ 5 + 8 * i → listed n list i c ≡ linesText version1 n (linesFrom version1 list c p)
+unfolding linesText linesFrom listed lineAt
+listed-is n list zero i p h = refl
+listed-is n list (suc c) i p h =
+    ap₂ _++_ (ap (λ (j : ℕ). lineText version1 n (lineAt version1 list j)) (sym h)) (listed-is n list c (suc i) (p + 8) (omega arith))
+
+-- a right verdict's lines are sound to write
+lines-fit : (T : Task) → T .facts ≤ 48 → T .width ≡ 48 → (g : ℕ) (ls : List Line) (a : ℕ) → judged T g ≡ right ls a → Each (LineOk version1) ls
+lines-fit T h w g ls a e =
+    let n≤w : T .facts ≤ T .width = omega arith in
+    let m = subst (Means T n≤w g (walked T)) e (judged-means T n≤w g) in
+    follows-ok version1 version1-sensible (T .width) _ (T .facts) (omega arith) w ls 0 (walk-passes T n≤w ls a (m .0)) .1
+
+-- ---- what follows the first line
+
+module _ (n : ℕ) (before after : List ℕ) (room : 65533 ≤ length before) where
+  list-is :
+      (ls : List Line) (b : Bool) → leb (length ls) 8191 ≡ b → Each (LineOk version1) ls → (a : ℕ) → LaysLines (right ls a) before 5 after →
+      restText n after (restOf (answered (right (length ls) a))) ≡ listText version1 n ls
+  unfolding listText
+  list-is ls true e ok a lays =
+      let h : 5 + 8 * length ls ≤ length before = omega (arith, leb-true (length ls) 8191 e) in
+      let z = lays h .bytes in
+      rw e
+      (listed-is n after (length ls) 0 5 refl ∙
+      ap (λ (l : List ℕ). linesText version1 n (linesFrom version1 l (length ls) 5)) z ∙
+      ap (linesText version1 n) (lines-read before ls h ok))
+  list-is ls false e ok a lays = rw e
+
+  rest-is :
+      (v : Verdict (List Line)) → ((ls : List Line) (a : ℕ) → v ≡ right ls a → Each (LineOk version1) ls) → LaysLines v before 5 after →
+      restText n after (restOf (answered (lineCount v))) ≡ verdictRest version1 n v
+  unfolding verdictRest
+  rest-is (right ls a) ok lays = list-is ls _ refl (ok ls a refl) a lays
+  rest-is (wrong s o a) ok lays = refl
+  rest-is (undecided a) ok lays = refl
+
+-- ---- the page
+
+module _ (s t : List ℕ) (r : blocks.Task) where
+  pub page-refused :
+      FindsTask s t r → r .refused ≡ true → (list : List ℕ) →
+      PageOf s t list (record { facts = 0; answer = Refused (record { number = r .number; place = r .place }) })
+  unfolding firstLine answerLine laterLines answerRest
+  page-refused f e list = record { most = omega arith; first = rw (f .refusal e); later = rw (f .refusal e) }
+
+  pub page-found :
+      (F : StandsFound s t r) (steps : List ℕ) → steps ≡ take (length t - headBytes) (drop headBytes t) →
+      (a : JudgeAnswer) (before after : List ℕ) → 65533 ≤ length before → JudgesTask s steps (r .problem) deskGrant a before headBytes after →
+      PageOf s t after (record { facts = r .problem .facts; answer = a })
+  unfolding firstLine answerLine laterLines answerRest
+  page-found F steps own a before after room J =
+      let T = F .task in
+      let j = J .is T (parts-of s t r F steps own) in
+      let n = r .problem .facts in
+      record {
+        most = few-facts s t r F;
+        first = ap (firstOf n) (j .answer) ∙ rw (F .read, F .facts);
+        later =
+            ap (λ x. restText n after (restOf x)) (j .answer) ∙
+            rest-is n before after room (judged T deskGrant) (lines-fit T (F .stands .most) (F .stands .width) deskGrant) (j .lays) ∙
+            rw (F .read, F .facts);
+      }
+
+-- ---- its two parts, by the judge's answer
+
+module _ (p : Page) where
+  pub line-by : {a : JudgeAnswer} → p .answer ≡ a → firstOf (p .facts) (judgeAnswer a) ≡ pageLine p
+  line-by e = ap (λ x. firstOf (p .facts) (judgeAnswer x)) (sym e)
+
+  rest-by : (a : JudgeAnswer) → p .answer ≡ a → (r : Rest) → r ≡ restOf (judgeAnswer a) → countOf r ≤ 8191 → FollowsPage p r
+  rest-by a e r i h = record { is = i ∙ ap (λ x. restOf (judgeAnswer x)) (sym e); few = h }
+
+  -- the tag is none of a right plan's answer
+  pub none-follows : OneOf (0 ∷ 2 ∷ 3 ∷ []) (tagOf the-type (p .answer)) → FollowsPage p Nothing
+  none-follows k = by (p .answer) refl k where
+    by : (a : JudgeAnswer) → p .answer ≡ a → OneOf (0 ∷ 2 ∷ 3 ∷ []) (tagOf the-type a) → FollowsPage p Nothing
+    by (Right n v) e k = absurd (⊎-elim (λ i. omega arith) (⊎-elim (λ i. omega arith) (λ i. omega arith)) k)
+    by (Refused r) e k = rest-by (Refused r) e Nothing refl (omega arith)
+    by (Wrong s o v) e k = rest-by (Wrong s o v) e Nothing refl (omega arith)
+    by (Undecided v) e k = rest-by (Undecided v) e Nothing refl (omega arith)
+
+  pub too-long-follows : (n v : ℕ) → p .answer ≡ Right n v → 8191 < n → FollowsPage p TooLong
+  too-long-follows n v e h = rest-by (Right n v) e TooLong (rw (lt-leb n 8191 h)) (omega arith)
+
+  pub lines-follow : (n v : ℕ) → p .answer ≡ Right n v → n ≤ 8191 → FollowsPage p (Lines n)
+  lines-follow n v e h = rest-by (Right n v) e (Lines n) (rw (le-leb n 8191 h)) h
