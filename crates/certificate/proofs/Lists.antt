@@ -2,9 +2,9 @@
 use mathlib.Core.Path.{_≡_, refl, sym, ap, _∙_, subst}
 use mathlib.Core.Bool.{true}
 use mathlib.Core.List.{List, _++_}
-use Prim.Native.Nat.{ℕ, suc, _+_, _-_, _*_, _/_, _%_, _≤_, _<_}
+use Prim.Native.Nat.{ℕ, suc, _+_, _-_, _*_, _≤_, _<_}
 use native.Mathlib.Omega.{arith}
-use lib.ListN.{length, take, drop, set}
+use lib.ListN.{length, take, drop}
 use lib.Seq.{sets, sets-eq, length-sets}
 use borrow.Author.Tests.{lt-ltb, le-ltb}
 use Rattle.model.specs.Limits.{version1}
@@ -12,7 +12,7 @@ use Rattle.model.specs.Answer as Answer
 use Rattle.model.specs.Answer.{Answer, refused, answered}
 use Rattle.model.specs.Case.{Task}
 use Rattle.model.specs.Walk.{Line, Walked, covered, failed, visits, walked, judged, found}
-use Rattle.model.specs.Read.{headBytes, bytesOf, block}
+use Rattle.model.specs.Read.{headBytes, block}
 use Rattle.model.specs.ListBytes.{linesBytes, encodeList}
 use Rattle.model.specs.Operations.{listBytes, linesFor, written, listFor, writeList}
 use Rattle.model.specs.declared.Problem.{Problem}

@@ -1,17 +1,17 @@
 -- Evaluating in 64 lanes: what one turn of a loop over members makes of the lanes, and what a formula's bytes begin with. Assumes nothing.
 use mathlib.Core.Path.{_≡_, refl, sym, ap, _∙_, subst}
 use mathlib.Core.Bool.{Bool, true, false, false≢true}
-use mathlib.Core.List.{List, [], _∷_, _++_}
-use Prim.Native.Nat.{ℕ, zero, suc, _+_, _*_, _-_, _/_, _%_, _^_, _≤_, _<_}
+use mathlib.Core.List.{List, _∷_, _++_}
+use Prim.Native.Nat.{ℕ, suc, _+_, _*_, _-_, _/_, _%_, _≤_, _<_}
 use native.Mathlib.Omega.{arith}
 use lib.ListN.{length, getD}
 use lib.Bits.{bitAnd, bitOr}
 use Rattle.model.specs.Limits.{maxDepth}
 use Rattle.model.specs.Kleene.{Kleene, No, Unknown, Yes, both, either, three}
-use Rattle.model.specs.Formula.{Literal, fact, denial, Formula, Formulas, lit, all, any, none, more, valueOf, eval, evalAll, evalAny}
+use Rattle.model.specs.Formula.{Literal, fact, denial, Formula, Formulas, lit, all, any, none, more, valueOf, eval}
 use Rattle.model.specs.Read.{bytesOf}
-use Rattle.model.specs.FormulaBytes.{Group, conjunction, disjunction, mark, literalOf, literalByte, memberCount, formulaBytes, memberBytes, encodeFormula}
-use Rattle.model.specs.WellFormed.{Declared, Formed, FormedAll, FormulaOk}
+use Rattle.model.specs.FormulaBytes.{Group, conjunction, disjunction, mark, literalByte, memberCount, formulaBytes, memberBytes, encodeFormula}
+use Rattle.model.specs.WellFormed.{Declared, Formed, FormedAll}
 use Rattle.model.specs.Planes.{laneBit, InLane, InLanes, Table}
 use Rattle.model.specs.Stands.{Span, FormulaAt, Member, Members}
 use Rattle.model.proofs.Laws.Reading.{empty, first, split, span-length, span-end}

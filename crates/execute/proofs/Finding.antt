@@ -11,7 +11,7 @@ use lib.ListN.{length, getD, set, drop, length-set}
 use lib.Seq.{getD-set-same, getD-set-other, drop-cons}
 use lib.Bits.{bitOr}
 use Rattle.model.specs.Limits.{maxEffects}
-use Rattle.model.specs.Kleene.{Kleene, No, both, either, denied, three}
+use Rattle.model.specs.Kleene.{Kleene, No, either, denied, three}
 use Rattle.model.specs.Formula.{Literal, fact, denial, valueOf, eval}
 use Rattle.model.specs.Action.{Effect, step}
 use Rattle.model.specs.FormulaBytes.{literalOf, literalByte, encodeFormula}

@@ -9,7 +9,7 @@ use lib.ListN.{length, take, drop, length-drop}
 use lib.Seq.{take-all}
 use lib.Dec.{eqb, ltb}
 use lib.Pow.{pow-mono, pow-pos}
-use borrow.Author.Tests.{ltb-false, eqb-true, eq-eqb, ne-eqb, not-false}
+use borrow.Author.Tests.{ltb-false, eq-eqb, ne-eqb}
 use Rattle.model.specs.Limits.{version1}
 use Rattle.model.specs.Answer as Answer
 use Rattle.model.specs.Answer.{Answer, refused, answered}

@@ -6,7 +6,7 @@ use lib.ListN.{length}
 use lib.Dec.{eqb, ltb, leb}
 use Rattle.model.specs.Limits.{maxFormulaBytes, maxDepth}
 use Rattle.model.specs.Formula.{Literal, fact, denial, Formula, Formulas, lit, all, any, none, more}
-use Rattle.model.specs.Read.{Read, reject, Reader, _>>=_, _>>_, done, position, require, byte, bytesOf}
+use Rattle.model.specs.Read.{reject, Reader, _>>=_, _>>_, done, position, require, byte, bytesOf}
 
 -- "A byte 0 to 47 is a fact; 64 to 111 is the denial of fact (byte less 64)": the bytes of the literals of the declared facts
 unfoldable pub isLiteral : ℕ → ℕ → Bool

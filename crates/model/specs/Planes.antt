@@ -3,7 +3,7 @@
 use mathlib.Core.Path.{_≡_}
 use mathlib.Core.List.{List}
 use Prim.Native.Nat.{ℕ, _+_, _*_, _/_, _%_, _^_, _<_}
-use lib.ListN.{length, getD}
+use lib.ListN.{getD}
 use Rattle.model.specs.Kleene.{Kleene, No, Unknown, Yes, three}
 use Rattle.model.specs.Formula.{valueOf}
 use Rattle.model.specs.FormulaBytes.{literalOf}

@@ -1,10 +1,9 @@
--- How the code holds the values of a case or a state: one byte a fact, `Values` of src/lib.rt.
+-- The first case and the empty state as bytes, one a fact: `Values` of src/lib.rt.
 use mathlib.Core.Path.{_≡_}
 use mathlib.Core.List.{List}
-use Prim.Native.Nat.{ℕ, _-_, _≤_, min, max}
+use Prim.Native.Nat.{ℕ}
 use lib.ListN.{getD}
-use lib.Dec.{eqb}
-use Rattle.model.specs.Kleene.{Kleene, No, Unknown, Yes, Logic}
+use Rattle.model.specs.Kleene.{Kleene, No, Unknown, Yes}
 use Rattle.model.specs.Action.{tabulate}
 
 -- the case that fixes no fact, and the state in which no fact is true
@@ -14,19 +13,11 @@ firstCase n = tabulate n (λ i. Unknown)
 abbrev pub emptyState : ℕ → List Kleene
 emptyState n = tabulate n (λ i. No)
 
--- the byte of a value: in this order an "all" is the least of its members, and an "any" the greatest
+-- the byte of a value
 abbrev pub valueByte : Kleene → ℕ
 valueByte No = 0
 valueByte Unknown = 1
 valueByte Yes = 2
-
--- reading a formula in bytes
-abbrev pub inBytes : Logic ℕ
-inBytes = record { always = 2; never = 0; both = min; either = max; denied = λ v. 2 - v; holds = λ v. eqb v 2 }
-
--- every byte is a value's
-abbrev pub Valued : List ℕ → Type 0
-Valued bytes = (i : ℕ) → getD bytes i 0 ≤ 2
 
 -- the bytes hold the values of c, and no past its end
 abbrev pub Shows : List ℕ → List Kleene → Type 0

@@ -1,5 +1,4 @@
 -- `empty_planes` meets its contract. Assumes nothing.
-use mathlib.Core.Path.{_≡_}
 use borrow.Author.Needs.{needs}
 use Rattle.evaluate.proofs.Evaluating.{empty-all, empty-any}
 use Rattle.evaluate.proofs.empty_planes.Statement.{statement}

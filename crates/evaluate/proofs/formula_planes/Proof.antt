@@ -2,7 +2,7 @@
 use borrow.Author.Needs.{needs}
 use Rattle.evaluate.proofs.formula_planes.Statement.{statement}
 use Rattle.evaluate.proofs.formula_planes.Tie as tie
-use mathlib.Core.Path.{refl, _∙_}
+use mathlib.Core.Path.{refl}
 use native.Mathlib.Omega.{arith}
 use Rattle.evaluate.proofs.Evaluating.{formula-short, formula-literal, formula-cut, formula-group, outermost-empty, outermost-all, outermost-any}
 

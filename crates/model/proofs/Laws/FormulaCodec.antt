@@ -3,7 +3,7 @@ use mathlib.Core.Path.{_≡_, refl, sym, ap, transport, _∙_}
 use mathlib.Core.Bool.{Bool, true, false, cond, _&&_, _||_, not}
 use mathlib.Core.List.{List, [], _∷_}
 use mathlib.Core.Logic.{_⊎_, inl, inr}
-use Prim.Native.Nat.{ℕ, zero, suc, _+_, _-_, _*_, _/_, _%_, _^_, _≤_, _<_}
+use Prim.Native.Nat.{ℕ, zero, suc, _+_, _-_, _*_, _/_, _%_, _≤_, _<_}
 use native.Mathlib.Omega.{arith}
 use lib.ListN.{length}
 use lib.Dec.{eqb, ltb, leb}

@@ -14,10 +14,9 @@ use Rattle.model.specs.Answer as Answer
 use Rattle.model.specs.Answer.{Answer, refused, answered}
 use Rattle.model.specs.Case.{Task}
 use Rattle.model.specs.Walk.{Look, Line, covered, Verdict, right, wrong, undecided, visits, lookAt, walked, judged}
-use Rattle.model.specs.CaseList.{follow}
 use Rattle.model.specs.Read.{headBytes, _>>=_, _>>_, done}
 use Rattle.model.specs.ListBytes.{linesFrom, caseList, listOf, linesBytes, encodeList}
-use Rattle.model.specs.Operations.{Written, readTask, listBytes, linesFor, written, listFor, writeList, followList}
+use Rattle.model.specs.Operations.{readTask, listBytes, linesFor, written, listFor, writeList, followList}
 use Rattle.model.specs.WellFormed.{Bytes, Each, LineOk, Sensible}
 use Rattle.model.specs.Demands.{linesIn, listWritten, Passing, Demand3}
 use Rattle.model.proofs.Laws.Cover.{Follows}

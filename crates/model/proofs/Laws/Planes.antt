@@ -9,10 +9,9 @@ use lib.ListN.{length, getD, set, length-set}
 use lib.Seq.{getD-set-same, getD-set-other}
 use lib.Bits.{bitAnd, bitOr, bitXor, differ, and-step, or-step, xor-step, and-shr, or-shr, xor-shr}
 use lib.Pow.{pow-pos, pow-add, ones-split, high, ones-lt}
-use lib.Dec.{ltb}
 use borrow.Author.Tests.{lt-ltb, le-ltb}
 use Rattle.model.specs.Kleene.{Kleene, No, Unknown, Yes, both, either, denied, three}
-use Rattle.model.specs.Formula.{Literal, fact, denial, valueOf}
+use Rattle.model.specs.Formula.{fact, denial, valueOf}
 use Rattle.model.specs.FormulaBytes.{literalOf}
 use Rattle.model.specs.Planes.{laneBit, someBit, sureBit, InLane, InLanes, Table}
 

@@ -1,7 +1,6 @@
 -- A case split on its next fact: the values of its two parts. Assumes nothing.
-use mathlib.Core.Path.{_≡_, refl, sym, ap, _∙_, subst}
+use mathlib.Core.Path.{_≡_, refl, sym, ap, _∙_}
 use mathlib.Core.Bool.{Bool, true, false, cond}
-use mathlib.Core.List.{List}
 use Prim.Native.Nat.{ℕ, suc, _+_, _-_, _*_, _/_, _%_, _^_, _≤_, _<_}
 use native.Mathlib.Nat.{mul-div-cancel, mul-mod-left}
 use native.Mathlib.Omega.{arith}
@@ -13,7 +12,6 @@ use lib.Dec.{eqb, ltb}
 use borrow.Author.Tests.{lt-ltb, le-ltb}
 use Rattle.model.specs.Kleene.{Kleene, No, Unknown, Yes, known}
 use Rattle.model.specs.Case.{bit, caseOf}
-use Rattle.model.specs.Values.{valueByte, Shows}
 use Rattle.model.proofs.Laws.Tabulate.{length-tabulate, getD-tabulate, getD-tabulate-past}
 use Rattle.model.proofs.Laws.Cover.{Block, pow-half, agree}
 
@@ -46,50 +44,6 @@ module _ (w k v : ℕ) (h : k < w) (b : Block w k v) where
       let e : v + 2 ^ (w - suc k) ≡ (b .q * 2 + 1) * 2 ^ (w - suc k) = omega (arith, half-of) in
       ap (λ (x : ℕ). eqb (x / 2 ^ (w - suc k) % 2) 1) e ∙
       (let o : (b .q * 2 + 1) % 2 ≡ 1 = omega arith in rw (mul-div-cancel (b .q * 2 + 1) (pow-pos (w - suc k)), o))
-
-module _ (w n k v : ℕ) (k<n : k < n) (n≤w : n ≤ w) (b : Block w k v) (values : List ℕ) (size : k < length values) (shows : Shows values (caseOf w n k v)) where
-  -- fact k fixed to the bit x, where the number v′ has the bits of v before it
-  split :
-      (v′ : ℕ) (x : Bool) → bit w v′ k ≡ x → ((i : ℕ) → i < k → bit w v′ i ≡ bit w v i) →
-      Shows (set values k (valueByte (known x))) (caseOf w n (suc k) v′)
-  split v′ x e same i = elim (decLt i n) [ yes l ↦ inside l | no l ↦ outside (omega arith) ]
-    where
-      outside : n ≤ i → getD (set values k (valueByte (known x))) i 0 ≡ valueByte (getD (caseOf w n (suc k) v′) i No)
-      outside l =
-          getD-set-other values k i _ 0 (λ d. omega arith) ∙ shows i ∙
-          ap valueByte (case-past w n k v i l ∙ sym (case-past w n (suc k) v′ i l))
-
-      here : i ≡ k → getD (set values k (valueByte (known x))) i 0 ≡ valueByte (valueAt w (suc k) v′ i)
-      here d =
-          subst (λ (j : ℕ). getD (set values k (valueByte (known x))) j 0 ≡ valueByte (valueAt w (suc k) v′ j)) (sym d)
-          (getD-set-same values k _ 0 size ∙ rw (lt-ltb k (suc k) (omega arith), e))
-
-      before : i < k → valueAt w k v i ≡ valueAt w (suc k) v′ i
-      before l = rw (lt-ltb i k l, lt-ltb i (suc k) (omega arith), same i l)
-
-      later : k < i → valueAt w k v i ≡ valueAt w (suc k) v′ i
-      later l = rw (le-ltb i k (omega arith), le-ltb i (suc k) (omega arith))
-
-      else-where : (i ≡ k → ⊥) → valueAt w k v i ≡ valueAt w (suc k) v′ i
-      else-where d = elim (decLt i k) [ yes l ↦ before l | no l ↦ later (omega arith) ]
-
-      inside : i < n → getD (set values k (valueByte (known x))) i 0 ≡ valueByte (getD (caseOf w n (suc k) v′) i No)
-      inside l =
-          rw (case-value w n (suc k) v′ i l)
-          (elim (ℕ-discrete i k) [
-            | yes d ↦ here d
-            | no d ↦ getD-set-other values k i _ 0 d ∙ shows i ∙ ap valueByte (case-value w n k v i l ∙ else-where d)
-          ])
-
-  pub split-no : Shows (set values k 0) (caseOf w n (suc k) v)
-  split-no = split v false (next-clear w k v (omega arith) b) (λ i l. refl)
-
-  pub split-yes : Shows (set values k 2) (caseOf w n (suc k) (v + 2 ^ (w - suc k)))
-  split-yes =
-      split (v + 2 ^ (w - suc k)) true (next-set w k v (omega arith) b)
-      (λ i l. agree w k v (v + 2 ^ (w - suc k)) i (omega arith) b (omega arith) (omega (arith, pow-half w k (omega arith), pow-pos (w - suc k))) l)
-
--- ---- the same, as lists
 
 pub length-case : (w n k v : ℕ) → length (caseOf w n k v) ≡ n
 unfolding caseOf

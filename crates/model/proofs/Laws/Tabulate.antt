@@ -1,15 +1,10 @@
 -- Lists by a rule. Assumes nothing.
 use mathlib.Core.Path.{_≡_, refl, ap}
-use mathlib.Core.List.{List, _∷_}
+use mathlib.Core.List.{_∷_}
 use Prim.Native.Nat.{ℕ, zero, suc, _≤_, _<_}
 use native.Mathlib.Nat.{le-of-suc-le-suc, not-suc-le-zero}
-use native.Mathlib.Omega.{arith}
 use lib.ListN.{length, getD, List·getD-eq-default}
-use lib.Dec.{ltb}
-use borrow.Author.Tests.{le-ltb}
 use Rattle.model.specs.Action.{tabulate}
-use Rattle.model.specs.Case.{caseOf}
-use Rattle.model.specs.Values.{firstCase}
 
 pub length-tabulate : {X : Type 0} (n : ℕ) (f : ℕ → X) → length (tabulate n f) ≡ n
 length-tabulate zero f = refl
@@ -27,8 +22,3 @@ tabulate-same (suc n) f g h = λ i. h zero i ∷ tabulate-same n (λ j. f (suc j
 -- past the end
 pub getD-tabulate-past : {X : Type 0} (n : ℕ) (f : ℕ → X) (i : ℕ) (d : X) → n ≤ i → getD (tabulate n f) i d ≡ d
 getD-tabulate-past n f i d h = List·getD-eq-default (tabulate n f) d (rw (length-tabulate n f) h)
-
--- the case that fixes no fact is the first case of the walk, whatever its number
-pub first-case : (w n v : ℕ) → caseOf w n 0 v ≡ firstCase n
-unfolding caseOf
-first-case w n v = tabulate-same n _ _ λ i. rw (le-ltb i 0 (omega arith))

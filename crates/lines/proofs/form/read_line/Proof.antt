@@ -2,7 +2,6 @@
 use borrow.Author.Needs.{needs}
 use Rattle.lines.proofs.form.read_line.Statement.{statement}
 use Rattle.lines.proofs.form.read_line.Tie as tie
-use native.Mathlib.Omega.{arith}
 use Rattle.lines.proofs.Forms.{line-read}
 
 returns : tie.Need-returns

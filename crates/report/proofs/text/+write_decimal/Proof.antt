@@ -8,7 +8,7 @@ use Rattle.report.proofs.text.+write_decimal.Lts-write_decimal as write
 use Rattle.report.proofs.text.digit.Reads as digit-reads
 use Rattle.report.proofs.text.+write_decimal.{statement}
 use Rattle.report.proofs.text.+write_decimal.Tie.{close}
-use Prim.Native.Nat.{_-_, _+_}
+use Prim.Native.Nat.{_+_}
 use lib.ListN.{set}
 use lib.Seq.{sets}
 use native.Mathlib.Omega.{arith}
