@@ -6,6 +6,7 @@ use crate::obey_action;
 use evaluate::formula_planes;
 use model::CaseList;
 use model::Outcome;
+use model::Stop;
 use table::ONES;
 use table::fix_bits;
 use table::none_fixed;
@@ -61,7 +62,7 @@ pub fn run_state(
             ONES,
         );
         if alive % 2 == 0 {
-            return Outcome::Blocked { step: i };
+            return Outcome::Blocked(Stop { step: i });
         }
         i = i + 1;
     }

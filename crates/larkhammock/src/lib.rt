@@ -63,7 +63,7 @@ pub extern "C" fn larkhammock_run(problem: &[u8], plan: &[u8], state: u64) -> An
         RunAnswer::Ended(outcome) => match outcome {
             Outcome::Reached => row(1, 0, 0, 0, 0),
             Outcome::Missed => row(2, 0, 0, 0, 0),
-            Outcome::Blocked { step } => row(3, step as u64, 0, 0, 0),
+            Outcome::Blocked(stop) => row(3, stop.step as u64, 0, 0, 0),
         },
     }
 }
@@ -75,7 +75,7 @@ fn wrong(visits: u64, state: u64, outcome: Outcome) -> Answer
     match outcome {
         Outcome::Reached => row(2, visits, state, 1, 0),
         Outcome::Missed => row(2, visits, state, 2, 0),
-        Outcome::Blocked { step } => row(2, visits, state, 3, step as u64),
+        Outcome::Blocked(stop) => row(2, visits, state, 3, stop.step as u64),
     }
 }
 

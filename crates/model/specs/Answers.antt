@@ -39,7 +39,7 @@ planAnswer (PlanAccepted n) = answered n
 abbrev pub outcome : Outcome → Run.Outcome
 outcome Reached = Run.reached
 outcome Missed = Run.missed
-outcome (Blocked i) = Run.blocked (record { step = i })
+outcome (Blocked s) = Run.blocked (record { step = s .step })
 
 abbrev pub runAnswer : RunAnswer → Answer Run.Outcome
 runAnswer (RunRefused r) = refusal r

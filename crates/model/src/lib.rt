@@ -120,12 +120,16 @@ pub struct Refusal {
     pub place: u64,
 }
 
+// Where a run is blocked: the first step that is not applicable, from 0.
+pub struct Stop {
+    pub step: usize,
+}
+
 // How a run ends.
 pub enum Outcome {
     Reached,
     Missed,
-    // The first step that is not applicable, from 0.
-    Blocked { step: usize },
+    Blocked(Stop),
 }
 
 // The answers of the six operations.

@@ -66,9 +66,9 @@ fn put_place(out: &mut [u8], at: usize, outcome: Outcome) -> usize
     match outcome {
         Outcome::Reached => put_word(out, at, b" at end"),
         Outcome::Missed => put_word(out, at, b" at end"),
-        Outcome::Blocked { step } => {
+        Outcome::Blocked(stop) => {
             let p = put_word(out, at, b" at step ");
-            write_decimal(out, p, step as u64)
+            write_decimal(out, p, stop.step as u64)
         }
     }
 }

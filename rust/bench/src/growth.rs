@@ -68,6 +68,9 @@ const VISITS: &str = "
 With visits: sorting networks. A visit costs more where the network has more comparators, and time is visits times that.
 ";
 
-const STEPS: &str = "With steps: eight facts that all must be fixed, and a plan of one action over and over. A visit obeys every step.\n";
+const STEPS: &str = "With steps: eight facts that all must be fixed, and a plan of one action over and over. One run of the plan\nserves up to 63 visits.\n";
 
-const FACTS: &str = "With facts: the same with 16 steps, and facts after the first eight that nothing names. They cost nothing.\n";
+const FACTS: &str = "With facts: the same with 16 steps, and facts after the first eight that nothing names. They cost no visit; but the walk is looked at by blocks
+of five facts, the first one of what is left over, so that the fact count moves the blocks' edges, and with them how many of the 511 visits
+a look serves.
+";

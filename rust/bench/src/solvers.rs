@@ -150,10 +150,9 @@ solver's verdict was held to the judge's, and each counterexample was run.
 ";
 
 const VERDICT: &str = "\
-**Where a SAT solver wins.** Wherever the walk takes longer than a solver's start, which is some milliseconds: the largest network, the
-largest store, and by far the store whose loads come first; the largest grid is about even. The walk fixes facts in their order, so
-each fact that decides nothing doubles its work where it comes before those that decide. A solver finds its own order: its times here
-hardly differ from those of its start alone.
+**Where a SAT solver wins.** Wherever the walk takes longer than a solver's start, which is some milliseconds, or some 10^5 visits: by far with the
+store whose loads come first. The walk fixes facts in their order, so each fact that decides nothing doubles its work where it comes
+before those that decide. A solver finds its own order: its times here hardly differ from those of its start alone.
 
 **Where the walk wins.** Below that, by up to three orders of magnitude, and for every wrong plan above: it starts at once, and the lowest
 failing state came early.

@@ -4,6 +4,7 @@ use mathlib.Core.Path.{sym, ap}
 use Rattle.model.specs.Text.{ascii}
 use Rattle.model.specs.Answers.{outcome}
 use Rattle.model.specs.declared.Outcome.{Outcome}
+use Rattle.model.specs.declared.Stop.{Stop}
 use Rattle.report.specs.Parts.{placeWords}
 use Rattle.report.proofs.Puts.{_then_, put-as, number}
 use Rattle.report.proofs.Sentences.{decimal-most}
@@ -12,7 +13,7 @@ use Rattle.report.proofs.line.put_place.Statement.{statement}
 use Rattle.report.proofs.line.put_place.Tie as tie
 
 write-decimal-requires : tie.Need-write-decimal-requires
-write-decimal-requires c κs = omega (arith, decimal-most (c .before .before .before .before .before .before .before .outcome .given .0 .0), c .before .before .before .put-word3 .ensures .end)
+write-decimal-requires c κs = omega (arith, decimal-most (c .before .before .before .before .before .before .before .outcome .given .0 .0 .step), c .before .before .before .put-word3 .ensures .end)
 
 returns : tie.Need-returns
 unfolding ascii placeWords
@@ -24,7 +25,7 @@ returns-2 c = (put-as (ap (λ (o : Outcome). placeWords (outcome o)) (sym (c .be
 
 returns-3 : tie.Need-returns-3
 unfolding ascii placeWords
-returns-3 c = (put-as (ap (λ (o : Outcome). placeWords (outcome o)) (sym (c .before .before .before .before .before .before .before .before .before .before .outcome .given .1))) (c .before .before .before .before .before .before .put-word3 .ensures then number (c .before .before .before .before .before .before .before .before .before .before .outcome .given .0 .0) (c .before .before .write-decimal .ensures)), omega (arith, decimal-most (c .before .before .before .before .before .before .before .before .before .before .outcome .given .0 .0), c .before .before .before .before .before .before .put-word3 .ensures .end, c .before .before .write-decimal .ensures .0))
+returns-3 c = (put-as (ap (λ (o : Outcome). placeWords (outcome o)) (sym (c .before .before .before .before .before .before .before .before .before .before .outcome .given .1))) (c .before .before .before .before .before .before .put-word3 .ensures then number (c .before .before .before .before .before .before .before .before .before .before .outcome .given .0 .0 .step) (c .before .before .write-decimal .ensures)), omega (arith, decimal-most (c .before .before .before .before .before .before .before .before .before .before .outcome .given .0 .0 .step), c .before .before .before .before .before .before .put-word3 .ensures .end, c .before .before .write-decimal .ensures .0))
 
 pub put-place-spec : {M : Type 1} → statement M
 put-place-spec =
