@@ -11,7 +11,8 @@ use Rattle.model.specs.Action.{Action}
 use Rattle.model.specs.Read.{Read, reject, got, andThen, _>>=_, done}
 use Rattle.model.specs.ProblemBytes.{action, actions, actionAt}
 use Rattle.model.proofs.Laws.Reading.{then-got, got-inj}
-use Rattle.formula.specs.Readings.{nextOf}
+use Rattle.model.specs.declared.Refusal.{Refusal}
+use Rattle.formula.specs.Readings.{rejected, nextOf}
 use Rattle.formula.specs.declared.read.Reading.the-variants.{Refused, Next}
 use Rattle.formula.proofs.Readers.{next-got, next-refused}
 use Rattle.blocks.specs.Parts.{ActionStands, ActionsAt}
@@ -41,9 +42,9 @@ module _ (s : List ℕ) (facts : ℕ) where
   actions-more zero p h = absurd (omega arith)
   actions-more (suc k) p h = let e : suc k - 1 ≡ k = omega arith in rw e
 
-  actions-refused : (k p n q : ℕ) → 0 < k → action version1 s facts p ≡ reject n q → actions version1 s facts k p ≡ reject n q
+  actions-refused : (k p : ℕ) (r : Refusal) → 0 < k → action version1 s facts p ≡ rejected r → actions version1 s facts k p ≡ rejected r
   unfolding andThen
-  actions-refused k p n q h e = rw (actions-more k p h, e)
+  actions-refused k p r h e = rw (actions-more k p h, e)
 
   actions-next :
       (k p q : ℕ) (a : Action) → 0 < k → action version1 s facts p ≡ got a q →
@@ -71,10 +72,10 @@ module _ (s : List ℕ) (facts : ℕ) where
         }
 
     module _ (stand : List ℕ) (p i : ℕ) (h : i < m) (o : Sofar m at stand p i) where
-      pub sofar-refused : (n q : ℕ) → Refused n q ≡ nextOf (action version1 s facts p) → actions version1 s facts m at ≡ reject n q
-      sofar-refused n q e =
+      pub sofar-refused : (r : Refusal) → Refused r ≡ nextOf (action version1 s facts p) → actions version1 s facts m at ≡ rejected r
+      sofar-refused r e =
           o .rest ∙
-          ap (prepend (o .pre)) (actions-refused (m - i) p n q (omega arith) (next-refused (action version1 s facts p) n q (sym e)))
+          ap (prepend (o .pre)) (actions-refused (m - i) p r (omega arith) (next-refused (action version1 s facts p) r (sym e)))
 
       last-action : (a : Action) → actionAt (o .pre ++ (a ∷ [])) i ≡ a
       unfolding actionAt
@@ -118,11 +119,11 @@ module _ (s : List ℕ) (facts : ℕ) where
 
     -- the two answers
     pub refused-at :
-        (stand : List ℕ) (n q : ℕ) → actions version1 s facts m at ≡ reject n q →
-        ActionsAt s facts m at (record { reading = Refused n q; at = stand })
+        (stand : List ℕ) (r : Refusal) → actions version1 s facts m at ≡ rejected r →
+        ActionsAt s facts m at (record { reading = Refused r; at = stand })
     unfolding nextOf
-    refused-at stand n q e =
-        record { is = rw e; stand = λ as′ r g. let z : _≡_ {A = ℕ} 0 1 = cc in absurd (omega arith) }
+    refused-at stand r e =
+        record { is = rw e; stand = λ as′ q g. let z : _≡_ {A = ℕ} 0 1 = cc in absurd (omega arith) }
 
     pub done-at :
         (stand : List ℕ) (p i : ℕ) → m ≤ i → i ≤ m → (o : Sofar m at stand p i) →

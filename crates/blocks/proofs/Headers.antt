@@ -8,7 +8,8 @@ use lib.Seq.{drop-cons}
 use borrow.Author.Tests.{lt-ltb, le-ltb, le-leb, lt-leb, eq-eqb, ne-eqb}
 use Rattle.model.specs.Read.{reject, got, andThen, _>>=_, _>>_, done, position, require, bigEndianFrom, bigEndian, byte, header, count}
 use Rattle.model.proofs.Laws.Reading.{then-got, got-inj}
-use Rattle.formula.specs.Readings.{nextOf}
+use Rattle.model.specs.declared.Refusal.{Refusal}
+use Rattle.formula.specs.Readings.{refusalAt, rejected, nextOf}
 use Rattle.formula.proofs.Readers.{next-got}
 use Rattle.formula.specs.declared.read.Reading.the-variants.{Refused, Next}
 use Rattle.blocks.specs.Counts.{countOf, Bounded, Counts}
@@ -26,23 +27,23 @@ unfolding bigEndianFrom
 length-field s h = rw (four-bytes s h) (omega arith)
 
 module _ (s : List ℕ) (number most : ℕ) where
-  pub header-long : most < length s → Refused number most ≡ nextOf (header s number most 1 0)
+  pub header-long : most < length s → Refused (refusalAt number most) ≡ nextOf (header s number most 1 0)
   unfolding header _>>_ andThen require nextOf
   header-long h = rw (lt-leb (length s) most h)
 
   module _ (h : length s ≤ most) where
-    pub header-short : length s < 5 → Refused (number + 1) (length s) ≡ nextOf (header s number most 1 0)
+    pub header-short : length s < 5 → Refused (refusalAt (number + 1) (length s)) ≡ nextOf (header s number most 1 0)
     unfolding header _>>_ andThen require nextOf
     header-short k = rw (le-leb (length s) most h, lt-leb 5 (length s) k)
 
     module _ (k : 5 ≤ length s) where
-      pub header-version : (getD s 0 0 ≡ 1 → ⊥) → Refused (number + 2) 0 ≡ nextOf (header s number most 1 0)
+      pub header-version : (getD s 0 0 ≡ 1 → ⊥) → Refused (refusalAt (number + 2) 0) ≡ nextOf (header s number most 1 0)
       unfolding header _>>_ andThen require nextOf
       header-version v = rw (le-leb (length s) most h, le-leb 5 (length s) k, ne-eqb (getD s 0 0) 1 v)
 
       module _ (v : getD s 0 0 ≡ 1) where
         pub header-length :
-            (bigEndian (take 4 (drop 1 s)) ≡ length s - 5 → ⊥) → Refused (number + 3) 1 ≡ nextOf (header s number most 1 0)
+            (bigEndian (take 4 (drop 1 s)) ≡ length s - 5 → ⊥) → Refused (refusalAt (number + 3) 1) ≡ nextOf (header s number most 1 0)
         unfolding header _>>_ andThen require nextOf
         header-length l =
             rw
@@ -55,19 +56,21 @@ module _ (s : List ℕ) (number most : ℕ) where
             (le-leb (length s) most h, le-leb 5 (length s) k, eq-eqb (getD s 0 0) 1 v, eq-eqb (bigEndian (take 4 (drop 1 s))) (length s - 5) l)
 
 module _ (s : List ℕ) (number low high p : ℕ) where
-  pub count-past : length s ≤ p → Counts s number low high p (CountRefused 14 (length s))
+  pub count-refuses : {n q : ℕ} {r : Refusal} → r ≡ refusalAt n q → reject n q ≡ count s number low high p → Counts s number low high p (CountRefused r)
+  count-refuses e h = record { is = rw e h; bounded = tt }
+
+  pub count-past : length s ≤ p → reject 14 (length s) ≡ count s number low high p
   unfolding count _>>=_ _>>_ position byte andThen
-  count-past h = record { is = rw (le-ltb p (length s) h); bounded = tt }
+  count-past h = rw (le-ltb p (length s) h)
 
   module _ (h : p < length s) where
-    pub count-low : getD s p 0 < low → Counts s number low high p (CountRefused number p)
+    pub count-low : getD s p 0 < low → reject number p ≡ count s number low high p
     unfolding count _>>=_ _>>_ position byte andThen require
-    count-low l = record { is = rw (lt-ltb p (length s) h, lt-leb low (getD s p 0) l); bounded = tt }
+    count-low l = rw (lt-ltb p (length s) h, lt-leb low (getD s p 0) l)
 
-    pub count-high : low ≤ getD s p 0 → high < getD s p 0 → Counts s number low high p (CountRefused number p)
+    pub count-high : low ≤ getD s p 0 → high < getD s p 0 → reject number p ≡ count s number low high p
     unfolding count _>>=_ _>>_ position byte andThen require
-    count-high l g =
-        record { is = rw (lt-ltb p (length s) h, le-leb low (getD s p 0) l, lt-leb (getD s p 0) high g); bounded = tt }
+    count-high l g = rw (lt-ltb p (length s) h, le-leb low (getD s p 0) l, lt-leb (getD s p 0) high g)
 
     pub count-ok : low ≤ getD s p 0 → getD s p 0 ≤ high → Counts s number low high p (Count (getD s p 0))
     unfolding count _>>=_ _>>_ position byte andThen require done
@@ -76,8 +79,8 @@ module _ (s : List ℕ) (number low high p : ℕ) where
 
 -- what `count_at` answered
 module _ (s : List ℕ) (number low high p : ℕ) (r : Counted) (a : Counts s number low high p r) where
-  pub count-refused : (n q : ℕ) → r ≡ CountRefused n q → count s number low high p ≡ reject n q
-  count-refused n q e = sym (a .is) ∙ ap (countOf p) e
+  pub count-refused : (x : Refusal) → r ≡ CountRefused x → count s number low high p ≡ rejected x
+  count-refused x e = sym (a .is) ∙ ap (countOf p) e
 
   pub count-got : (n : ℕ) → r ≡ Count n → count s number low high p ≡ got n (p + 1)
   count-got n e = sym (a .is) ∙ ap (countOf p) e

@@ -1,7 +1,7 @@
 -- What was read stands there as the bytes that encode it, by the laws of the codec. Assumes nothing.
-use mathlib.Core.Path.{_≡_, refl, ap, _∙_}
+use mathlib.Core.Path.{_≡_, refl, _∙_}
 use mathlib.Core.List.{List, [], _∷_, map}
-use Prim.Native.Nat.{ℕ, zero, suc, _+_, _-_, _≤_, _<_}
+use Prim.Native.Nat.{ℕ, zero, suc, _-_, _≤_, _<_}
 use native.Mathlib.Nat.{le-of-suc-le-suc, not-suc-le-zero}
 use native.Mathlib.Omega.{arith}
 use lib.ListN.{length, getD, take, drop, length-map, length-drop}
@@ -12,13 +12,11 @@ use Rattle.model.specs.Answer.{answered}
 use Rattle.model.specs.Case.{Task}
 use Rattle.model.specs.Formula.{Formula}
 use Rattle.model.specs.Action.{Action}
-use Rattle.model.specs.Read.{headBytes, bytesOf}
-use Rattle.model.specs.FormulaBytes.{encodeFormula}
-use Rattle.model.specs.ProblemBytes.{actionAt, actionBytes}
+use Rattle.model.specs.Read.{headBytes}
+use Rattle.model.specs.ProblemBytes.{actionAt}
 use Rattle.model.specs.Operations.{taskOf, readTask}
 use Rattle.model.specs.WellFormed.{Bytes}
-use Rattle.model.specs.Stands.{Span, nothing, next, FormulaAt, ActionAt}
-use Rattle.model.proofs.Laws.Reading.{first}
+use Rattle.model.specs.Stands.{FormulaAt, ActionAt}
 use Rattle.model.proofs.Laws.FormulaCodec.{formula-got}
 use Rattle.model.proofs.Laws.ProblemCodec.{action-got}
 use Rattle.blocks.specs.declared.plan.Task as found

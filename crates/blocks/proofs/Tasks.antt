@@ -9,13 +9,15 @@ use borrow.Author.Tests.{ltb-true, leb-true}
 use Rattle.model.specs.Limits.{version1}
 use Rattle.model.specs.Answer as Answer
 use Rattle.model.specs.Answer.{refused, answered}
-use Rattle.model.specs.Read.{Read, reject, got, andThen, _>>=_, _>>_, done, position, counted, header, answerOf}
+use Rattle.model.specs.Answers.{refusal}
+use Rattle.model.specs.Read.{Read, got, andThen, _>>=_, _>>_, done, position, counted, header, answerOf}
 use Rattle.model.specs.ProblemBytes as bytes
 use Rattle.model.specs.ProblemBytes.{problemOf, steps, plan, planOf}
 use Rattle.model.specs.Operations.{readProblem, readPlan, readTask, taskOf}
 use Rattle.model.specs.WellFormed.{Bytes}
 use Rattle.model.proofs.Laws.Reading.{then-got, got-inj, needed}
-use Rattle.formula.specs.Readings.{nextOf}
+use Rattle.model.specs.declared.Refusal.{Refusal}
+use Rattle.formula.specs.Readings.{refusalAt, rejected, nextOf}
 use Rattle.formula.specs.declared.read.Reading.the-variants.{Refused, Next}
 use Rattle.formula.proofs.Readers.{next-got, next-refused}
 use Rattle.blocks.specs.declared.problem.Found.{Found}
@@ -77,21 +79,21 @@ plan-stepped t m bs q e =
 
 module _ (s : List ℕ) (r : Found) (f : Finds s (bytes.problem version1 s 0) r) where
   module _ (h : r .refused ≡ true) where
-    problem-refused : problemOf version1 s ≡ refused (r .number) (r .place)
+    problem-refused : problemOf version1 s ≡ refusal (r .refusal)
     unfolding problemOf answerOf
     problem-refused = rw (f .refusal h)
 
-    pub read-problem-refused : refused (r .number) (r .place) ≡ readProblem version1 s
+    pub read-problem-refused : refusal (r .refusal) ≡ readProblem version1 s
     unfolding readProblem Answer._>>=_
     read-problem-refused = rw problem-refused
 
-    task-refused : (t : List ℕ) → readTask version1 s t ≡ refused (r .number) (r .place)
+    task-refused : (t : List ℕ) → readTask version1 s t ≡ refusal (r .refusal)
     unfolding readTask Answer._>>=_
     task-refused t = rw problem-refused
 
     pub finds-no-problem :
         (t : List ℕ) (k : ℕ) →
-        FindsTask s t (record { refused = true; number = r .number; place = r .place; problem = r .problem; steps = k })
+        FindsTask s t (record { refused = true; refusal = r .refusal; problem = r .problem; steps = k })
     finds-no-problem t k =
         record { refusal = λ z. task-refused t; found = λ z. absurd (true≢false z); stands = λ z. absurd (true≢false z) }
 
@@ -121,16 +123,16 @@ module _ (s : List ℕ) (r : Found) (f : Finds s (bytes.problem version1 s 0) r)
       plan-is : (p : bytes.Problem) → Placed s (r .problem) p → plan t (length (p .actions)) 0 ≡ plan-as
       plan-is p w = ap (λ (m : ℕ). plan t m 0) (sym (w .actions))
 
-      task-plan-refused : (n q : ℕ) → plan-as ≡ reject n q → readTask version1 s t ≡ refused n q
+      task-plan-refused : (y : Refusal) → plan-as ≡ rejected y → readTask version1 s t ≡ refusal y
       unfolding readTask planOf answerOf Answer._>>=_
-      task-plan-refused n q e = let o = holds in rw (o .read, plan-is (o .problem) (o .placed) ∙ e)
+      task-plan-refused y e = let o = holds in rw (o .read, plan-is (o .problem) (o .placed) ∙ e)
 
       pub finds-no-plan :
-          (n q k : ℕ) → Refused n q ≡ nextOf plan-as →
-          FindsTask s t (record { refused = true; number = n; place = q; problem = r .problem; steps = k })
-      finds-no-plan n q k e =
+          (y : Refusal) (k : ℕ) → Refused y ≡ nextOf plan-as →
+          FindsTask s t (record { refused = true; refusal = y; problem = r .problem; steps = k })
+      finds-no-plan y k e =
           record {
-            refusal = λ z. task-plan-refused n q (next-refused plan-as n q (sym e));
+            refusal = λ z. task-plan-refused y (next-refused plan-as y (sym e));
             found = λ z. absurd (true≢false z);
             stands = λ z. absurd (true≢false z);
           }
@@ -150,7 +152,7 @@ module _ (s : List ℕ) (r : Found) (f : Finds s (bytes.problem version1 s 0) r)
         plan-read p w bs a = rw (plan-is p w ∙ a)
 
         abbrev pub result : Task
-        result = record { refused = false; number = 0; place = 0; problem = r .problem; steps = q - 5 }
+        result = record { refused = false; refusal = refusalAt 0 0; problem = r .problem; steps = q - 5 }
 
         task-at : TaskAt s t result
         task-at =
@@ -192,9 +194,9 @@ module _ (s t : List ℕ) (r : Task) (f : FindsTask s t r) where
       second (refused m k) g = cc
       second (answered bs) g = let z : _≡_ {A = ℕ} 0 1 = cc in absurd (omega arith)
 
-  pub read-plan-refused : r .refused ≡ true → refused (r .number) (r .place) ≡ readPlan version1 s t
+  pub read-plan-refused : r .refused ≡ true → refusal (r .refusal) ≡ readPlan version1 s t
   unfolding readPlan readTask
-  read-plan-refused h = sym (plan-as-task (problemOf version1 s) (λ p. planOf t (length (p .actions))) (r .number) (r .place) (f .refusal h))
+  read-plan-refused h = sym (plan-as-task (problemOf version1 s) (λ p. planOf t (length (p .actions))) (r .refusal .number) (r .refusal .place) (f .refusal h))
 
   pub read-plan-found : r .refused ≡ false → answered (r .steps) ≡ readPlan version1 s t
   unfolding readPlan Answer._>>=_

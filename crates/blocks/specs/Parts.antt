@@ -5,10 +5,11 @@ use mathlib.Core.List.{List}
 use Prim.Native.Nat.{ℕ, _+_, _<_, _≤_}
 use lib.ListN.{length, getD}
 use Rattle.model.specs.Limits.{version1, maxActions}
-use Rattle.model.specs.Answer.{refused, answered}
+use Rattle.model.specs.Answer.{answered}
+use Rattle.model.specs.Answers as Answers
 use Rattle.model.specs.Formula.{Formula}
 use Rattle.model.specs.Action.{Effect, Action}
-use Rattle.model.specs.Read.{Read, reject, got, headBytes}
+use Rattle.model.specs.Read.{Read, got, headBytes}
 use Rattle.model.specs.FormulaBytes.{literalByte, formula}
 use Rattle.model.specs.ProblemBytes as bytes
 use Rattle.model.specs.ProblemBytes.{effect, action, actions, problemOf, planOf, actionAt}
@@ -16,7 +17,7 @@ use Rattle.model.specs.Operations.{readTask}
 use Rattle.model.specs.declared.Problem.{Problem}
 use Rattle.formula.specs.declared.read.Reading.{Reading}
 use Rattle.formula.specs.declared.read.Reading.the-variants.{Refused, Next}
-use Rattle.formula.specs.Readings.{nextOf}
+use Rattle.formula.specs.Readings.{rejected, nextOf}
 use Rattle.blocks.specs.declared.problem.Actions.{Actions}
 use Rattle.blocks.specs.declared.problem.Found.{Found}
 use Rattle.blocks.specs.declared.plan.Task.{Task}
@@ -30,7 +31,7 @@ pub record EffectGot (s : List ℕ) (facts least p q : ℕ) : Type 0 where
   pub inside : p < length s
 
 abbrev pub EffectRead : List ℕ → ℕ → ℕ → ℕ → Reading → Type 0
-EffectRead s facts least p (Refused n q) = bytes.effect s facts least p ≡ reject n q
+EffectRead s facts least p (Refused r) = bytes.effect s facts least p ≡ rejected r
 EffectRead s facts least p (Next q) = EffectGot s facts least p q
 
 -- the formula f stands at p
@@ -62,7 +63,7 @@ pub record Placed (s : List ℕ) (r : Problem) (p : bytes.Problem) : Type 0 wher
 
 -- what a reader of a problem gives, as a `Found`
 pub record Finds (s : List ℕ) (x : Read bytes.Problem) (r : Found) : Type 0 where
-  pub refusal : r .refused ≡ true → x ≡ reject (r .number) (r .place)
+  pub refusal : r .refused ≡ true → x ≡ rejected (r .refusal)
   pub found : r .refused ≡ false → (p : bytes.Problem) × (q : ℕ) × (x ≡ got p q) × Placed s (r .problem) p
 
 -- what the end of a problem's reader gives, where the initial formula and the goal stand as said
@@ -84,6 +85,6 @@ pub record TaskAt (s t : List ℕ) (r : Task) : Type 0 where
 
 -- what is found of both; a found task is known by its bytes too, so that who runs it needs no reader
 pub record FindsTask (s t : List ℕ) (r : Task) : Type 0 where
-  pub refusal : r .refused ≡ true → readTask version1 s t ≡ refused (r .number) (r .place)
+  pub refusal : r .refused ≡ true → readTask version1 s t ≡ Answers.refusal (r .refusal)
   pub found : r .refused ≡ false → TaskAt s t r
   pub stands : r .refused ≡ false → StandsFound s t r

@@ -7,7 +7,9 @@ ghost use Rattle.model.specs.Read.{header};
 ghost use Rattle.formula.specs.Readings.{nextOf};
 ghost use Rattle.blocks.specs.Counts.{LengthField, Counts};
 use formula::Reading;
+use formula::refusal;
 use model::Limits;
+use model::Refusal;
 
 // The length field of a block that has one.
 fn length_field(s: &[u8]) -> usize
@@ -26,23 +28,23 @@ pub fn check_header(s: &[u8], number: u8, most: usize) -> Reading
 {
     let len = s.len();
     if most < len {
-        return Reading::Refused(number, most);
+        return Reading::Refused(refusal(number, most));
     }
     if len < Limits::HEAD_BYTES {
-        return Reading::Refused(number + 1, len);
+        return Reading::Refused(refusal(number + 1, len));
     }
     if s[0] != Limits::VERSION {
-        return Reading::Refused(number + 2, 0);
+        return Reading::Refused(refusal(number + 2, 0));
     }
     if length_field(s) != len - Limits::HEAD_BYTES {
-        return Reading::Refused(number + 3, 1);
+        return Reading::Refused(refusal(number + 3, 1));
     }
     Reading::Next(Limits::HEAD_BYTES)
 }
 
 // A count of one byte: a refusal, or the count.
 pub enum Counted {
-    Refused(u8, usize),
+    Refused(Refusal),
     Count(u8),
 }
 
@@ -51,14 +53,14 @@ pub fn count_at(s: &[u8], at: usize, number: u8, low: u8, high: u8) -> Counted
     ensures { λ r. ⌜ Counts (now (s .entry)) number low high at r ⌝ }
 {
     if s.len() <= at {
-        return Counted::Refused(14, s.len());
+        return Counted::Refused(refusal(14, s.len()));
     }
     let n = s[at];
     if n < low {
-        return Counted::Refused(number, at);
+        return Counted::Refused(refusal(number, at));
     }
     if high < n {
-        return Counted::Refused(number, at);
+        return Counted::Refused(refusal(number, at));
     }
     Counted::Count(n)
 }

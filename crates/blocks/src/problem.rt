@@ -14,6 +14,7 @@ use crate::header::check_header;
 use crate::header::count_at;
 use formula::Reading;
 use formula::read_formula;
+use formula::refusal;
 use model::Problem;
 use model::ProblemAnswer;
 use model::Refusal;
@@ -35,9 +36,9 @@ fn read_actions(s: &[u8], at: usize, facts: u8, m: usize) -> Actions
     while i < m {
         stand[i] = p;
         match read_action(s, p, facts) {
-            Reading::Refused(number, place) => {
+            Reading::Refused(r) => {
                 return Actions {
-                    reading: Reading::Refused(number, place),
+                    reading: Reading::Refused(r),
                     at: stand,
                 };
             }
@@ -56,13 +57,12 @@ fn read_actions(s: &[u8], at: usize, facts: u8, m: usize) -> Actions
 // A problem that was looked for in a block: its refusal, or its parts.
 pub struct Found {
     pub refused: bool,
-    pub number: u8,
-    pub place: usize,
+    pub refusal: Refusal,
     pub problem: Problem,
 }
 
-fn refused(number: u8, place: usize) -> Found
-    ensures { λ r. ⌜ (r .refused ≡ true) × (r .number ≡ number) × (r .place ≡ place) ⌝ }
+fn refused(refusal: Refusal) -> Found
+    ensures { λ r. ⌜ (r .refused ≡ true) × (r .refusal ≡ refusal) ⌝ }
 {
     let problem = Problem {
         facts: 0,
@@ -73,8 +73,7 @@ fn refused(number: u8, place: usize) -> Found
     };
     Found {
         refused: true,
-        number,
-        place,
+        refusal,
         problem,
     }
 }
@@ -87,10 +86,10 @@ fn find_actions(s: &[u8], initial: usize, goal: usize, at: usize, facts: u8, m: 
     let all = read_actions(s, at, facts, crate::wide(m));
     let reading = all.reading;
     match reading {
-        Reading::Refused(number, place) => refused(number, place),
+        Reading::Refused(r) => refused(r),
         Reading::Next(end) => {
             if end < s.len() {
-                return refused(25, end);
+                return refused(refusal(25, end));
             }
             let action = all.at;
             let problem = Problem {
@@ -102,8 +101,10 @@ fn find_actions(s: &[u8], initial: usize, goal: usize, at: usize, facts: u8, m: 
             };
             Found {
                 refused: false,
-                number: 0,
-                place: 0,
+                refusal: Refusal {
+                    number: 0,
+                    place: 0,
+                },
                 problem,
             }
         }
@@ -116,9 +117,9 @@ fn find_parts(s: &[u8], at: usize, facts: u8, m: u8) -> Found
     ensures { λ r. ⌜ Finds (now (s .entry)) (bytes.parts version1 (now (s .entry)) facts m at) r ⌝ }
 {
     match read_formula(s, at, facts) {
-        Reading::Refused(number, place) => refused(number, place),
+        Reading::Refused(r) => refused(r),
         Reading::Next(goal) => match read_formula(s, goal, facts) {
-            Reading::Refused(number, place) => refused(number, place),
+            Reading::Refused(r) => refused(r),
             Reading::Next(next) => find_actions(s, at, goal, next, facts, m),
         },
     }
@@ -129,9 +130,9 @@ fn find_body(s: &[u8], at: usize) -> Found
     ensures { λ r. ⌜ Finds (now (s .entry)) (bytes.body version1 (now (s .entry)) at) r ⌝ }
 {
     match count_at(s, at, 15, 1, Problem::MAX_FACTS) {
-        Counted::Refused(number, place) => refused(number, place),
+        Counted::Refused(r) => refused(r),
         Counted::Count(facts) => match count_at(s, at + 1, 16, 0, Problem::MAX_ACTIONS as u8) {
-            Counted::Refused(number, place) => refused(number, place),
+            Counted::Refused(r) => refused(r),
             Counted::Count(m) => find_parts(s, at + 2, facts, m),
         },
     }
@@ -142,7 +143,7 @@ pub fn find_problem(s: &[u8]) -> Found
     ensures { λ r. ⌜ Finds (now (s .entry)) (bytes.problem version1 (now (s .entry)) 0) r ⌝ }
 {
     match check_header(s, 10, Problem::MAX_BYTES) {
-        Reading::Refused(number, place) => refused(number, place),
+        Reading::Refused(r) => refused(r),
         Reading::Next(at) => find_body(s, at),
     }
 }
@@ -154,10 +155,8 @@ pub fn read_problem(s: &[u8]) -> ProblemAnswer
 {
     let found = find_problem(s);
     if found.refused {
-        return ProblemAnswer::Refused(Refusal {
-            number: found.number,
-            place: found.place as u64,
-        });
+        let refusal = found.refusal;
+        return ProblemAnswer::Refused(refusal);
     }
     let problem = found.problem;
     ProblemAnswer::Accepted {

@@ -15,7 +15,8 @@ use Rattle.model.specs.Answer as Answer
 use Rattle.model.specs.Answer.{Answer, refused, answered}
 use Rattle.model.specs.Read.{got, andThen, _>>_, done, require, answerOf, headBytes, header}
 use Rattle.model.specs.Operations.{followList}
-use Rattle.model.specs.Answers.{followAnswer}
+use Rattle.model.specs.Answers.{refusal, followAnswer}
+use Rattle.model.specs.declared.Refusal.{Refusal}
 use Rattle.model.specs.declared.FollowAnswer.{FollowAnswer}
 use Rattle.model.specs.declared.FollowAnswer.the-variants.{Refused as FollowRefused, Passes}
 use Rattle.model.specs.declared.Problem.{Problem}
@@ -353,9 +354,9 @@ module _ (problem steps : List ℕ) (parts : Problem) (list : List ℕ) where
 
 -- ---- the operation
 
-list-header-refused : (list : List ℕ) (n q : ℕ) → Refused n q ≡ nextOf (header list 60 65533 1 0) → listOf version1 list ≡ refused n q
+list-header-refused : (list : List ℕ) (r : Refusal) → Refused r ≡ nextOf (header list 60 65533 1 0) → listOf version1 list ≡ refusal r
 unfolding listOf caseList _>>_ andThen answerOf
-list-header-refused list n q e = rw (next-refused (header list 60 65533 1 0) n q (sym e))
+list-header-refused list r e = rw (next-refused (header list 60 65533 1 0) r (sym e))
 
 tested-list :
     (b : Bool) (n q : ℕ) (ls : List model.Line) →
@@ -378,7 +379,7 @@ header-five list q e =
     header-length list 60 65533 q (g .value) (g .is) .0
 
 pub follow-refused :
-    (s t list : List ℕ) (r : blocks.Task) → FindsTask s t r → r .refused ≡ true → refused (r .number) (r .place) ≡ followList version1 s t list
+    (s t list : List ℕ) (r : blocks.Task) → FindsTask s t r → r .refused ≡ true → refusal (r .refusal) ≡ followList version1 s t list
 unfolding followList Answer._>>=_
 follow-refused s t list r f h = rw (f .refusal h)
 
@@ -391,9 +392,9 @@ module _ (problem plan : List ℕ) (r : blocks.Task) (o : StandsFound problem pl
   facts-most = omega (arith, o .facts, o .stands .most)
 
 module _ (problem plan list : List ℕ) (r : blocks.Task) (o : StandsFound problem plan r) where
-  pub follow-header : (n q : ℕ) → Refused n q ≡ nextOf (header list 60 65533 1 0) → refused n q ≡ followList version1 problem plan list
+  pub follow-header : (y : Refusal) → Refused y ≡ nextOf (header list 60 65533 1 0) → refusal y ≡ followList version1 problem plan list
   unfolding Answer._>>=_
-  follow-header n q e = sym (follow-is version1 problem plan (o .task) (o .read) list ∙ rw (list-header-refused list n q e))
+  follow-header y e = sym (follow-is version1 problem plan (o .task) (o .read) list ∙ rw (list-header-refused list y e))
 
   body-is : (q : ℕ) → Reading-Next q ≡ nextOf (header list 60 65533 1 0) → followList version1 problem plan list ≡ bodyAnswer (o .task) list
   unfolding Answer._>>=_

@@ -14,7 +14,7 @@ use Rattle.model.specs.Answer as Answer
 use Rattle.model.specs.Answer.{refused, answered}
 use Rattle.model.specs.Case.{caseOf, runOf}
 use Rattle.model.specs.Operations.{isState, runState}
-use Rattle.model.specs.Answers.{outcome}
+use Rattle.model.specs.Answers.{refusal, outcome}
 use Rattle.model.specs.declared.Outcome.{Outcome}
 use Rattle.model.specs.Planes.{Table}
 use Rattle.model.proofs.Laws.Splitting.{length-case, case-known, case-past}
@@ -59,7 +59,7 @@ state-fixed s n c d rest h none x e =
 
 pub run-refused :
     (problem plan : List ℕ) (r : Task) → FindsTask problem plan r → r .refused ≡ true → (s : ℕ) →
-    refused (r .number) (r .place) ≡ runState version1 problem plan s
+    refusal (r .refusal) ≡ runState version1 problem plan s
 unfolding runState Answer._>>=_
 run-refused problem plan r f h s = rw (f .refusal h)
 

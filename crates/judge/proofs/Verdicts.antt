@@ -11,12 +11,12 @@ use borrow.Author.Tests.{lt-ltb, eq-eqb}
 use Rattle.model.specs.Limits.{version1}
 use Rattle.model.specs.Kleene.{Kleene, Unknown}
 use Rattle.model.specs.Answer as Answer
-use Rattle.model.specs.Answer.{refused, answered}
+use Rattle.model.specs.Answer.{answered}
 use Rattle.model.specs.Case.{caseOf, Task, runOf, IsState}
 use Rattle.model.specs.Walk.{Walked, covered, failed, visits, walkFrom, walk, lookAt, walked, right, wrong, undecided, found}
 use Rattle.model.specs.Operations.{lineCount, judge}
 use Rattle.model.specs.Read.{headBytes}
-use Rattle.model.specs.Answers.{outcome}
+use Rattle.model.specs.Answers.{refusal, outcome}
 use Rattle.model.specs.Planes.{Table}
 use Rattle.model.specs.declared.Problem.{Problem}
 use Rattle.model.specs.declared.Outcome.{Outcome}
@@ -104,7 +104,7 @@ module _ (problem steps : List ℕ) (parts : Problem) (x n : ℕ) (e : n ≡ par
 -- ---- the verdict
 
 pub judge-refused :
-    (s t : List ℕ) (r : blocks.Task) → FindsTask s t r → r .refused ≡ true → (g : ℕ) → refused (r .number) (r .place) ≡ judge version1 s t g
+    (s t : List ℕ) (r : blocks.Task) → FindsTask s t r → r .refused ≡ true → (g : ℕ) → refusal (r .refusal) ≡ judge version1 s t g
 unfolding judge Answer._>>=_
 judge-refused s t r f h g = rw (f .refusal h)
 

@@ -8,23 +8,11 @@ use borrow.Author.Needs.{needs}
 use Rattle.certificate.proofs.follow.follow_list.Statement.{statement}
 use Rattle.certificate.proofs.follow.follow_list.Tie as tie
 
-find-task-requires : tie.Need-find-task-requires
-find-task-requires c κs = search needs
-
 returns : tie.Need-returns
 returns c =
-    let e = follow-refused _ _ _ _ (c .before .find-task .ensures) (c .if1 .taken) in
-    let k = c .before .before in
+    let e = follow-refused _ _ _ _ (c .before .before .find-task .ensures) (c .before .if1 .taken) in
+    let k = c .before .before .before in
     (e, follow-promised _ _ _ (of-slice (k .before .before .before .args .list .now) (k .shared-slice-known3 .given)) _ e)
-
-check-header-requires : tie.Need-check-header-requires
-check-header-requires c κs = search needs
-
-enum-known-number : tie.Need-enum-known-number
-enum-known-number c = search needs
-
-enum-told : tie.Need-enum-told
-enum-told c = search needs
 
 sub-follow-body : tie.Need-sub-follow-body
 sub-follow-body c =
@@ -35,9 +23,6 @@ part-follow-body-start : tie.Need-part-follow-body-start
 part-follow-body-start c =
     let e = c .before .before .before .before in
     omega (arith, e .before .find-task .ensures .stands (e .if1 .left) .fits)
-
-part-follow-body-end : tie.Need-part-follow-body-end
-part-follow-body-end c = search needs
 
 follow-body-requires : tie.Need-follow-body-requires
 follow-body-requires c κs =
@@ -50,7 +35,7 @@ returns-2 c =
     let h = c .before .before .before in
     let t = h .before .before in
     let k = t .before in
-    let e = follow-header _ _ _ _ (t .find-task .ensures .stands (h .before .if1 .left)) _ _ (sym (c .before .number .given .1) ∙ h .check-header .ensures) in
+    let e = follow-header _ _ _ _ (t .find-task .ensures .stands (h .before .if1 .left)) _ (sym (c .before .r .given .1) ∙ h .check-header .ensures) in
     (e, follow-promised _ _ _ (of-slice (k .before .before .before .args .list .now) (k .shared-slice-known3 .given)) _ e)
 
 returns-3 : tie.Need-returns-3
@@ -66,14 +51,14 @@ pub follow-list-spec : {M : Type 1} → statement M
 follow-list-spec =
     tie.close
     (tie.spec
-    find-task-requires
+    (λ c κs. search needs)
     returns
-    check-header-requires
-    enum-known-number
-    enum-told
+    (λ c κs. search needs)
+    (λ c. search needs)
+    (λ c. search needs)
     sub-follow-body
     part-follow-body-start
-    part-follow-body-end
+    (λ c. search needs)
     follow-body-requires
     returns-2
     returns-3)

@@ -7,14 +7,8 @@ use Rattle.certificate.proofs.Lists.{left-as, list-refused, list-undeci
 use Rattle.certificate.proofs.write.write_list.Statement.{statement}
 use Rattle.certificate.proofs.write.write_list.Tie as tie
 
-find-task-requires : tie.Need-find-task-requires
-find-task-requires c κs = search needs
-
-refusal-requires : tie.Need-refusal-requires
-refusal-requires c κs = search needs
-
 returns : tie.Need-returns
-returns c = left-as (c .refusal .ensures) (list-refused _ _ _ (c .before .before .find-task .ensures) (c .before .if1 .taken) _ _)
+returns c = list-refused _ _ _ (c .before .before .find-task .ensures) (c .before .if1 .taken) _ _
 
 sub-walk-task : tie.Need-sub-walk-task
 sub-walk-task c = omega (arith, (c .before .before .find-task .ensures .stands (c .before .if1 .left)) .fits)
@@ -22,44 +16,11 @@ sub-walk-task c = omega (arith, (c .before .before .find-task .ensures .stands (
 part-walk-task-start : tie.Need-part-walk-task-start
 part-walk-task-start c = sub-walk-task c
 
-part-walk-task-end : tie.Need-part-walk-task-end
-part-walk-task-end c = search needs
-
-slice-aggregate-walk-task : tie.Need-slice-aggregate-walk-task
-slice-aggregate-walk-task c = search needs
-
 walk-task-requires : tie.Need-walk-task-requires
 walk-task-requires c κs = few-facts _ _ _ (c .before .before .before .before .find-task .ensures .stands (c .before .before .before .if1 .left))
 
-enum-told : tie.Need-enum-told
-enum-told c = search needs
-
-refusal-requires-2 : tie.Need-refusal-requires-2
-refusal-requires-2 c κs = search needs
-
-enum-known-visits : tie.Need-enum-known-visits
-enum-known-visits c = search needs
-
-refusal-requires-3 : tie.Need-refusal-requires-3
-refusal-requires-3 c κs = search needs
-
-enum-known-lines : tie.Need-enum-known-lines
-enum-known-lines c = search needs
-
-refusal-requires-4 : tie.Need-refusal-requires-4
-refusal-requires-4 c κs = search needs
-
 returns-2 : tie.Need-returns-2
 returns-2 c = left-as (c .refusal4 .ensures) (list-over _ _ _ (c .before .before .before .before .before .before .before .before .before .before .before .find-task .ensures .stands (c .before .before .before .before .before .before .before .before .before .before .if1 .left)) _ _ _ refl _ _ _ _ (c .before .before .before .before .before .before .walk-task .ensures) _ _ _ (c .before .before .before .lines .given .1) (omega arith))
-
-mul-body : tie.Need-mul-body
-mul-body c = search needs
-
-add-length : tie.Need-add-length
-add-length c = search needs
-
-refusal-requires-5 : tie.Need-refusal-requires-5
-refusal-requires-5 c κs = search needs
 
 returns-3 : tie.Need-returns-3
 returns-3 c = left-as (c .refusal5 .ensures) (list-short _ _ _ (c .before .before .before .before .before .before .before .before .before .before .before .before .find-task .ensures .stands (c .before .before .before .before .before .before .before .before .before .before .before .if1 .left)) _ _ _ refl _ _ _ _ (c .before .before .before .before .before .before .before .walk-task .ensures) _ _ _ (c .before .before .before .before .lines .given .1) (omega arith) (omega arith))
@@ -70,9 +31,6 @@ sub-write-task c = omega (arith, (c .before .before .before .before .before .bef
 part-write-task-start : tie.Need-part-write-task-start
 part-write-task-start c = sub-write-task c
 
-part-write-task-end : tie.Need-part-write-task-end
-part-write-task-end c = search needs
-
 write-task-requires : tie.Need-write-task-requires
 write-task-requires c κs = (few-facts _ _ _ (c .before .before .before .before .before .before .before .before .before .before .before .before .before .find-task .ensures .stands (c .before .before .before .before .before .before .before .before .before .before .before .before .if1 .left)), omega arith)
 
@@ -82,9 +40,6 @@ returns-4 c = left-as (c .refusal2 .ensures) (list-undecided _ _ _ (c .before .b
 returns-5 : tie.Need-returns-5
 returns-5 c = left-as (c .refusal3 .ensures) (list-wrong _ _ _ (c .before .before .before .before .before .before .before .before .before .before .find-task .ensures .stands (c .before .before .before .before .before .before .before .before .before .if1 .left)) _ _ _ refl _ _ _ _ (c .before .before .before .before .before .walk-task .ensures) _ _ (c .before .before .visits .given .1))
 
-same-length : tie.Need-same-length
-same-length c = search needs
-
 returns-6 : tie.Need-returns-6
 returns-6 c = list-written _ _ _ (c .before .before .before .before .before .before .before .before .before .before .before .before .before .before .before .before .find-task .ensures .stands (c .before .before .before .before .before .before .before .before .before .before .before .before .before .before .before .if1 .left)) _ _ _ refl _ _ _ _ (c .before .before .before .before .before .before .before .before .before .before .before .walk-task .ensures) _ _ _ (c .before .before .before .before .before .before .before .before .lines .given .1) _ _ _ (omega arith) refl refl (omega arith) (c .before .before .write-task .ensures)
 
@@ -92,30 +47,29 @@ pub write-list-spec : {M : Type 1} → statement M
 write-list-spec =
     tie.close
     (tie.spec
-    find-task-requires
-    refusal-requires
+    (λ c κs. search needs)
     returns
     sub-walk-task
     part-walk-task-start
-    part-walk-task-end
-    slice-aggregate-walk-task
+    (λ c. search needs)
+    (λ c. search needs)
     walk-task-requires
-    enum-told
-    refusal-requires-2
-    enum-known-visits
-    refusal-requires-3
-    enum-known-lines
-    refusal-requires-4
+    (λ c. search needs)
+    (λ c κs. search needs)
+    (λ c. search needs)
+    (λ c κs. search needs)
+    (λ c. search needs)
+    (λ c κs. search needs)
     returns-2
-    mul-body
-    add-length
-    refusal-requires-5
+    (λ c. search needs)
+    (λ c. search needs)
+    (λ c κs. search needs)
     returns-3
     sub-write-task
     part-write-task-start
-    part-write-task-end
+    (λ c. search needs)
     write-task-requires
     returns-4
     returns-5
-    same-length
+    (λ c. search needs)
     returns-6)

@@ -8,14 +8,8 @@ use Rattle.execute.proofs.Promise.{run-promised}
 use Rattle.execute.proofs.operation.run.Statement.{statement}
 use Rattle.execute.proofs.operation.run.Tie as tie
 
-find-task-requires : tie.Need-find-task-requires
-find-task-requires c κs = search needs
-
 returns : tie.Need-returns
-returns c = let e = run-refused _ _ _ (c .before .find-task .ensures) (c .if1 .taken) _ in (e, run-promised _ _ _ _ e)
-
-wide-requires : tie.Need-wide-requires
-wide-requires c κs = search needs
+returns c = let e = run-refused _ _ _ (c .before .before .find-task .ensures) (c .before .if1 .taken) _ in (e, run-promised _ _ _ _ e)
 
 state-table-requires : tie.Need-state-table-requires
 state-table-requires c κs =
@@ -37,12 +31,6 @@ sub-run-state c =
 part-run-state-start : tie.Need-part-run-state-start
 part-run-state-start c = sub-run-state c
 
-part-run-state-end : tie.Need-part-run-state-end
-part-run-state-end c = search needs
-
-run-state-requires : tie.Need-run-state-requires
-run-state-requires c κs = search needs
-
 returns-3 : tie.Need-returns-3
 returns-3 c =
     let f = c .before .before .before .before .before in
@@ -55,13 +43,13 @@ pub run-spec : {M : Type 1} → statement M
 run-spec =
     tie.close
     (tie.spec
-    find-task-requires
+    (λ c κs. search needs)
     returns
-    wide-requires
+    (λ c κs. search needs)
     state-table-requires
     returns-2
     sub-run-state
     part-run-state-start
-    part-run-state-end
-    run-state-requires
+    (λ c. search needs)
+    (λ c κs. search needs)
     returns-3)

@@ -7,11 +7,8 @@ use Rattle.judge.proofs.Promise.{judge-promised}
 use Rattle.judge.proofs.operation.judge.Statement.{statement}
 use Rattle.judge.proofs.operation.judge.Tie as tie
 
-find-task-requires : tie.Need-find-task-requires
-find-task-requires c κs = search needs
-
 returns : tie.Need-returns
-returns c = let e = judge-refused _ _ _ (c .before .find-task .ensures) (c .if1 .taken) _ in (e, judge-promised _ _ _ _ e)
+returns c = let e = judge-refused _ _ _ (c .before .before .find-task .ensures) (c .before .if1 .taken) _ in (e, judge-promised _ _ _ _ e)
 
 sub-walk-task : tie.Need-sub-walk-task
 sub-walk-task c = omega (arith, (c .before .before .find-task .ensures .stands (c .before .if1 .left)) .fits)
@@ -19,20 +16,8 @@ sub-walk-task c = omega (arith, (c .before .before .find-task .ensures .stands (
 part-walk-task-start : tie.Need-part-walk-task-start
 part-walk-task-start c = sub-walk-task c
 
-part-walk-task-end : tie.Need-part-walk-task-end
-part-walk-task-end c = search needs
-
-slice-aggregate-walk-task : tie.Need-slice-aggregate-walk-task
-slice-aggregate-walk-task c = search needs
-
 walk-task-requires : tie.Need-walk-task-requires
 walk-task-requires c κs = few-facts _ _ _ (c .before .before .before .before .find-task .ensures .stands (c .before .before .before .if1 .left))
-
-enum-told : tie.Need-enum-told
-enum-told c = search needs
-
-enum-known-state : tie.Need-enum-known-state
-enum-known-state c = search needs
 
 sub-outcome-of : tie.Need-sub-outcome-of
 sub-outcome-of c = omega (arith, (c .before .before .before .before .before .before .before .before .before .find-task .ensures .stands (c .before .before .before .before .before .before .before .before .if1 .left)) .fits)
@@ -40,14 +25,8 @@ sub-outcome-of c = omega (arith, (c .before .before .before .before .before .bef
 part-outcome-of-start : tie.Need-part-outcome-of-start
 part-outcome-of-start c = sub-outcome-of c
 
-part-outcome-of-end : tie.Need-part-outcome-of-end
-part-outcome-of-end c = search needs
-
 outcome-of-requires : tie.Need-outcome-of-requires
 outcome-of-requires c κs = few-facts _ _ _ (c .before .before .before .before .before .before .before .before .before .before .find-task .ensures .stands (c .before .before .before .before .before .before .before .before .before .if1 .left))
-
-enum-known-lines : tie.Need-enum-known-lines
-enum-known-lines c = search needs
 
 returns-2 : tie.Need-returns-2
 returns-2 c = let e = judge-undecided _ _ _ (c .before .before .before .before .before .before .before .before .find-task .ensures .stands (c .before .before .before .before .before .before .before .if1 .left)) _ _ refl _ _ _ _ (c .before .before .before .walk-task .ensures) (c .enum-told .given .1) in (e, judge-promised _ _ _ _ e)
@@ -62,20 +41,20 @@ pub judge-spec : {M : Type 1} → statement M
 judge-spec =
     tie.close
     (tie.spec
-    find-task-requires
+    (λ c κs. search needs)
     returns
     sub-walk-task
     part-walk-task-start
-    part-walk-task-end
-    slice-aggregate-walk-task
+    (λ c. search needs)
+    (λ c. search needs)
     walk-task-requires
-    enum-told
-    enum-known-state
+    (λ c. search needs)
+    (λ c. search needs)
     sub-outcome-of
     part-outcome-of-start
-    part-outcome-of-end
+    (λ c. search needs)
     outcome-of-requires
-    enum-known-lines
+    (λ c. search needs)
     returns-2
     returns-3
     returns-4)
