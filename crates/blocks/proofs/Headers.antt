@@ -1,12 +1,10 @@
 -- A block's header and a count, case by case. Assumes nothing.
 use mathlib.Core.Path.{_≡_, sym, ap, _∙_, subst}
-use mathlib.Core.List.{List, [], _∷_}
-use Prim.Native.Nat.{ℕ, _+_, _-_, _*_, _≤_, _<_}
-use native.Mathlib.Omega.{arith}
+use mathlib.Core.List.{List}
+use Prim.Native.Nat.{ℕ, _+_, _-_, _≤_, _<_}
 use lib.ListN.{length, getD, take, drop}
-use lib.Seq.{drop-cons}
 use borrow.Author.Tests.{lt-ltb, le-ltb, le-leb, lt-leb, eq-eqb, ne-eqb}
-use Rattle.model.specs.Read.{reject, got, andThen, _>>=_, _>>_, done, position, require, bigEndianFrom, bigEndian, byte, header, count}
+use Rattle.model.specs.Read.{reject, got, andThen, _>>=_, _>>_, done, position, require, bigEndian, byte, header, count}
 use Rattle.model.proofs.Laws.Reading.{then-got, got-inj}
 use Rattle.model.specs.declared.Refusal.{Refusal}
 use Rattle.formula.specs.Readings.{refusalAt, rejected, nextOf}
@@ -15,16 +13,6 @@ use Rattle.formula.specs.declared.read.Reading.the-variants.{Refused, Next}
 use Rattle.blocks.specs.Counts.{countOf, Bounded, Counts}
 use Rattle.blocks.specs.declared.header.Counted.{Counted}
 use Rattle.blocks.specs.declared.header.Counted.the-variants.{Refused as CountRefused, Count}
-
-four-bytes : (s : List ℕ) → 5 ≤ length s → take 4 (drop 1 s) ≡ getD s 1 0 ∷ getD s 2 0 ∷ getD s 3 0 ∷ getD s 4 0 ∷ []
-four-bytes s h =
-    rw (drop-cons s 1 0 (omega arith), drop-cons s 2 0 (omega arith), drop-cons s 3 0 (omega arith), drop-cons s 4 0 (omega arith))
-
-pub length-field :
-    (s : List ℕ) → 5 ≤ length s →
-    (getD s 1 0 * 256 + getD s 2 0) * 65536 + (getD s 3 0 * 256 + getD s 4 0) ≡ bigEndian (take 4 (drop 1 s))
-unfolding bigEndianFrom
-length-field s h = rw (four-bytes s h) (omega arith)
 
 module _ (s : List ℕ) (number most : ℕ) where
   pub header-long : most < length s → Refused (refusalAt number most) ≡ nextOf (header s number most 1 0)

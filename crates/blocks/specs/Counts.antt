@@ -2,15 +2,11 @@
 use mathlib.Core.Path.{_≡_}
 use mathlib.Core.List.{List}
 use Prim.Native.Nat.{ℕ, _+_, _≤_, _<_}
-use lib.ListN.{length, take, drop}
-use Rattle.model.specs.Read.{Read, got, bigEndian, count}
+use lib.ListN.{length}
+use Rattle.model.specs.Read.{Read, got, count}
 use Rattle.formula.specs.Readings.{rejected}
 use Rattle.blocks.specs.declared.header.Counted.{Counted}
 use Rattle.blocks.specs.declared.header.Counted.the-variants.{Refused, Count}
-
--- the four bytes of a length
-abbrev pub LengthField : List ℕ → ℕ → Type 0
-LengthField s r = r ≡ bigEndian (take 4 (drop 1 s))
 
 -- a count at p
 abbrev pub countOf : ℕ → Counted → Read ℕ

@@ -1,25 +1,15 @@
 // The five bytes before every block's body, and counts of one byte.
 ghost use mathlib.Core.Path.{_≡_};
-ghost use Prim.Native.Nat.{_≤_, _<_};
-ghost use lib.ListN.{length};
+ghost use Prim.Native.Nat.{_≤_};
 ghost use Rattle.model.specs.Limits.{version1};
 ghost use Rattle.model.specs.Read.{header};
 ghost use Rattle.formula.specs.Readings.{nextOf};
-ghost use Rattle.blocks.specs.Counts.{LengthField, Counts};
+ghost use Rattle.blocks.specs.Counts.{Counts};
 use formula::Reading;
 use formula::refusal;
 use model::Limits;
 use model::Refusal;
-
-// The length field of a block that has one.
-fn length_field(s: &[u8]) -> usize
-    requires { ⌜ 5 ≤ length (now s) ⌝ }
-    ensures { λ r. ⌜ LengthField (now (s .entry)) r ⌝ }
-{
-    let high = crate::wide(s[1]) * 256 + crate::wide(s[2]);
-    let low = crate::wide(s[3]) * 256 + crate::wide(s[4]);
-    high * 65536 + low
-}
+use numbers::read_number;
 
 // The first four refusals of a block of at most `most` bytes, numbered from `number` on, or the position of its body.
 pub fn check_header(s: &[u8], number: u8, most: usize) -> Reading
@@ -36,7 +26,7 @@ pub fn check_header(s: &[u8], number: u8, most: usize) -> Reading
     if s[0] != Limits::VERSION {
         return Reading::Refused(refusal(number + 2, 0));
     }
-    if length_field(s) != len - Limits::HEAD_BYTES {
+    if read_number(s, 1, 4) != (len - Limits::HEAD_BYTES) as u64 {
         return Reading::Refused(refusal(number + 3, 1));
     }
     Reading::Next(Limits::HEAD_BYTES)

@@ -2,7 +2,6 @@
 
 pub mod read;
 
-use numbers::wide;
 pub use read::Reading;
 pub use read::is_literal;
 pub use read::read_formula;

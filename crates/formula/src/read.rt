@@ -7,6 +7,7 @@ ghost use Rattle.model.specs.FormulaBytes.{isLiteral, members, item, formula};
 ghost use Rattle.formula.specs.Heads.{Headed};
 ghost use Rattle.formula.specs.Readings.{refusalAt, nextOf, Stated, afterOf};
 use model::Refusal;
+use numbers::read_number;
 
 // What a byte of a formula begins.
 pub enum Head {
@@ -192,7 +193,7 @@ fn stated_end(s: &[u8], at: usize) -> Reading
     if len - at < 2 {
         return Reading::Refused(refusal(14, len));
     }
-    let n = crate::wide(s[at]) * 256 + crate::wide(s[at + 1]);
+    let n = read_number(s, at, 2) as usize;
     if n == 0 {
         return Reading::Refused(refusal(17, at));
     }
