@@ -7,7 +7,7 @@ use native.Mathlib.Omega.{arith}
 use lib.ListN.{length, getD}
 use lib.Dec.{ltb}
 use borrow.Author.Tests.{lt-ltb, le-ltb, le-leb, lt-leb, ltb-false}
-use Rattle.model.specs.Limits.{version1}
+use Rattle.model.specs.declared.Limits.{Limits}
 use Rattle.model.specs.Formula.{fact, denial, Formula}
 use Rattle.model.specs.Action.{Effect, Action}
 use Rattle.model.specs.Read.{reject, got, andThen, _>>=_, _>>_, done, position, require, byte, count}
@@ -115,19 +115,20 @@ module _ (s : List ℕ) (facts : ℕ) where
   pub answered-next : (least p : ℕ) (r : Reading) → EffectRead s facts least p r → (q : ℕ) → r ≡ Next q → EffectGot s facts least p q
   answered-next least p r a q e = subst (EffectRead s facts least p) e a
 
-  -- ---- the effect list and the action
+-- ---- the effect list and the action
 
-  pub list-refused : (p : ℕ) (r : Refusal) → count s 22 0 (version1 .effects) p ≡ rejected r → Refused r ≡ nextOf (effectList version1 s facts p)
+module _ (F : Limits) (s : List ℕ) (facts : ℕ) where
+  pub list-refused : (p : ℕ) (r : Refusal) → count s 22 0 (F .effects) p ≡ rejected r → Refused r ≡ nextOf (effectList F s facts p)
   unfolding effectList _>>=_ andThen nextOf
   list-refused p r e = rw e
 
   pub list-next :
-      (p n q : ℕ) → count s 22 0 (version1 .effects) p ≡ got n q →
-      nextOf (effects s facts n 0 q) ≡ nextOf (effectList version1 s facts p)
+      (p n q : ℕ) → count s 22 0 (F .effects) p ≡ got n q →
+      nextOf (effects s facts n 0 q) ≡ nextOf (effectList F s facts p)
   unfolding effectList _>>=_ andThen
   list-next p n q e = rw e
 
-  pub action-refused : (p : ℕ) (r : Refusal) → Refused r ≡ nextOf (formula s facts p) → Refused r ≡ nextOf (action version1 s facts p)
+  pub action-refused : (p : ℕ) (r : Refusal) → Refused r ≡ nextOf (formula s facts p) → Refused r ≡ nextOf (action F s facts p)
   unfolding action _>>=_ andThen nextOf
   action-refused p r e = rw (next-refused (formula s facts p) r (sym e))
 
@@ -136,13 +137,13 @@ module _ (s : List ℕ) (facts : ℕ) where
 
   action-from :
       (p q : ℕ) (f : Formula) → formula s facts p ≡ got f q →
-      action version1 s facts p ≡ andThen (effectList version1 s facts q) (λ es r. got (made-action f es) r)
+      action F s facts p ≡ andThen (effectList F s facts q) (λ es r. got (made-action f es) r)
   unfolding action _>>=_ andThen done made-action
   action-from p q f e = rw e
 
   pub action-next :
       (p q : ℕ) → Next q ≡ nextOf (formula s facts p) →
-      nextOf (effectList version1 s facts q) ≡ nextOf (action version1 s facts p)
+      nextOf (effectList F s facts q) ≡ nextOf (action F s facts p)
   action-next p q e =
       let g = next-got _ q (sym e) in
-      sym (ap nextOf (action-from p q (g .value) (g .is)) ∙ then-next (effectList version1 s facts q) (made-action (g .value)))
+      sym (ap nextOf (action-from p q (g .value) (g .is)) ∙ then-next (effectList F s facts q) (made-action (g .value)))

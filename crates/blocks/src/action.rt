@@ -1,6 +1,5 @@
 // Reading an action: its precondition, its effect count and its effects.
 ghost use mathlib.Core.Path.{_≡_};
-ghost use Rattle.model.specs.Limits.{version1};
 ghost use Rattle.model.specs.ProblemBytes.{effects, effectList, action};
 ghost use Rattle.formula.specs.Readings.{nextOf};
 ghost use Rattle.blocks.specs.Parts.{EffectRead};
@@ -10,7 +9,7 @@ use formula::Reading;
 use formula::is_literal;
 use formula::read_formula;
 use formula::refusal;
-use model::Problem;
+use model::Limits;
 
 // The effect at `at`, whose literal's byte is `least` or more: a refusal, or the position after it.
 fn read_effect(s: &[u8], at: usize, facts: u8, least: usize) -> Reading
@@ -52,21 +51,21 @@ fn read_effects(s: &[u8], at: usize, facts: u8, n: u8) -> Reading
 }
 
 // The effect count at `at`, and the effects after it.
-fn read_effect_list(s: &[u8], at: usize, facts: u8) -> Reading
-    ensures { λ r. ⌜ r ≡ nextOf (effectList version1 (now (s .entry)) facts at) ⌝ }
+fn read_effect_list(s: &[u8], limits: Limits, at: usize, facts: u8) -> Reading
+    ensures { λ r. ⌜ r ≡ nextOf (effectList limits (now (s .entry)) facts at) ⌝ }
 {
-    match count_at(s, at, 22, 0, Problem::MAX_EFFECTS) {
+    match count_at(s, at, 22, 0, limits.effects) {
         Counted::Refused(r) => Reading::Refused(r),
         Counted::Count(n) => read_effects(s, at + 1, facts, n),
     }
 }
 
 // The action at `at`: a refusal, or the position after it.
-pub fn read_action(s: &[u8], at: usize, facts: u8) -> Reading
-    ensures { λ r. ⌜ r ≡ nextOf (action version1 (now (s .entry)) facts at) ⌝ }
+pub fn read_action(s: &[u8], limits: Limits, at: usize, facts: u8) -> Reading
+    ensures { λ r. ⌜ r ≡ nextOf (action limits (now (s .entry)) facts at) ⌝ }
 {
     match read_formula(s, at, facts) {
         Reading::Refused(r) => Reading::Refused(r),
-        Reading::Next(next) => read_effect_list(s, next, facts),
+        Reading::Next(next) => read_effect_list(s, limits, next, facts),
     }
 }

@@ -1,7 +1,6 @@
 // The five bytes before every block's body, and counts of one byte.
 ghost use mathlib.Core.Path.{_≡_};
 ghost use Prim.Native.Nat.{_≤_};
-ghost use Rattle.model.specs.Limits.{version1};
 ghost use Rattle.model.specs.Read.{header};
 ghost use Rattle.formula.specs.Readings.{nextOf};
 ghost use Rattle.blocks.specs.Counts.{Counts};
@@ -12,9 +11,9 @@ use model::Refusal;
 use numbers::read_number;
 
 // The first four refusals of a block of at most `most` bytes, numbered from `number` on, or the position of its body.
-pub fn check_header(s: &[u8], number: u8, most: usize) -> Reading
+pub fn check_header(s: &[u8], number: u8, most: usize, version: u8) -> Reading
     requires { ⌜ number ≤ 60 ⌝ }
-    ensures { λ r. ⌜ r ≡ nextOf (header (now (s .entry)) number most (version1 .version) 0) ⌝ }
+    ensures { λ r. ⌜ r ≡ nextOf (header (now (s .entry)) number most version 0) ⌝ }
 {
     let len = s.len();
     if most < len {
@@ -23,7 +22,7 @@ pub fn check_header(s: &[u8], number: u8, most: usize) -> Reading
     if len < Limits::HEAD_BYTES {
         return Reading::Refused(refusal(number + 1, len));
     }
-    if s[0] != Limits::VERSION {
+    if s[0] != version {
         return Reading::Refused(refusal(number + 2, 0));
     }
     if read_number(s, 1, 4) != (len - Limits::HEAD_BYTES) as u64 {

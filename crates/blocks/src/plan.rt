@@ -37,7 +37,7 @@ fn check_steps(s: &[u8], at: usize, actions: u8) -> Reading
 fn check_plan(s: &[u8], actions: u8) -> Reading
     ensures { λ r. ⌜ r ≡ nextOf (bytes.plan (now (s .entry)) actions 0) ⌝ }
 {
-    match check_header(s, 30, Plan::MAX_BYTES) {
+    match check_header(s, 30, Plan::MAX_BYTES, Limits::VERSION) {
         Reading::Refused(r) => Reading::Refused(r),
         Reading::Next(at) => check_steps(s, at, actions),
     }
@@ -47,21 +47,24 @@ fn check_plan(s: &[u8], actions: u8) -> Reading
 pub struct Task {
     pub refused: bool,
     pub refusal: Refusal,
+    pub limits: Limits,
     pub problem: Problem,
     pub steps: usize,
 }
 
 // Reads a problem and then a plan for it.
 pub fn find_task(problem: &[u8], plan: &[u8]) -> Task
-    ensures { λ r. ⌜ FindsTask (now (problem .entry)) (now (plan .entry)) r ⌝ }
+    ensures { λ r. ⌜ FindsTask version1 (now (problem .entry)) (now (plan .entry)) r ⌝ }
 {
-    let found = find_problem(problem);
+    let limits = Limits::version1();
+    let found = find_problem(problem, limits);
     let parts = found.problem;
     if found.refused {
         let refusal = found.refusal;
         return Task {
             refused: true,
             refusal,
+            limits,
             problem: parts,
             steps: 0,
         };
@@ -70,6 +73,7 @@ pub fn find_task(problem: &[u8], plan: &[u8]) -> Task
         Reading::Refused(refusal) => Task {
             refused: true,
             refusal,
+            limits,
             problem: parts,
             steps: 0,
         },
@@ -79,6 +83,7 @@ pub fn find_task(problem: &[u8], plan: &[u8]) -> Task
                 number: 0,
                 place: 0,
             },
+            limits,
             problem: parts,
             steps: end - Limits::HEAD_BYTES,
         },

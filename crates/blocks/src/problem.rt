@@ -15,6 +15,7 @@ use crate::header::count_at;
 use formula::Reading;
 use formula::read_formula;
 use formula::refusal;
+use model::Limits;
 use model::Problem;
 use model::ProblemAnswer;
 use model::Refusal;
@@ -26,16 +27,16 @@ pub struct Actions {
 }
 
 // Reads m actions from `at` on.
-fn read_actions(s: &[u8], at: usize, facts: u8, m: usize) -> Actions
+fn read_actions(s: &[u8], limits: Limits, at: usize, facts: u8, m: usize) -> Actions
     requires { ⌜ m ≤ maxActions ⌝ }
-    ensures { λ r. ⌜ ActionsAt (now (s .entry)) facts m at r ⌝ }
+    ensures { λ r. ⌜ ActionsAt limits (now (s .entry)) facts m at r ⌝ }
 {
     let mut stand = [0usize; Problem::MAX_ACTIONS];
     let mut p = at;
     let mut i: usize = 0;
     while i < m {
         stand[i] = p;
-        match read_action(s, p, facts) {
+        match read_action(s, limits, p, facts) {
             Reading::Refused(r) => {
                 return Actions {
                     reading: Reading::Refused(r),
@@ -79,11 +80,19 @@ fn refused(refusal: Refusal) -> Found
 }
 
 // The actions from `at` on, and the end of the block.
-fn find_actions(s: &[u8], initial: usize, goal: usize, at: usize, facts: u8, m: u8) -> Found
+fn find_actions(
+    s: &[u8],
+    limits: Limits,
+    initial: usize,
+    goal: usize,
+    at: usize,
+    facts: u8,
+    m: u8,
+) -> Found
     requires { ⌜ m ≤ maxActions ⌝ }
-    ensures { λ r. ⌜ Ends (now (s .entry)) initial goal at facts m r ⌝ }
+    ensures { λ r. ⌜ Ends limits (now (s .entry)) initial goal at facts m r ⌝ }
 {
-    let all = read_actions(s, at, facts, crate::wide(m));
+    let all = read_actions(s, limits, at, facts, crate::wide(m));
     let reading = all.reading;
     match reading {
         Reading::Refused(r) => refused(r),
@@ -112,39 +121,39 @@ fn find_actions(s: &[u8], initial: usize, goal: usize, at: usize, facts: u8, m: 
 }
 
 // The initial formula, the goal and the actions, from `at` on.
-fn find_parts(s: &[u8], at: usize, facts: u8, m: u8) -> Found
-    requires { ⌜ (facts ≤ version1 .facts) × (m ≤ maxActions) ⌝ }
-    ensures { λ r. ⌜ Finds (now (s .entry)) (bytes.parts version1 (now (s .entry)) facts m at) r ⌝ }
+fn find_parts(s: &[u8], limits: Limits, at: usize, facts: u8, m: u8) -> Found
+    requires { ⌜ (facts ≤ limits .facts) × (m ≤ maxActions) ⌝ }
+    ensures { λ r. ⌜ Finds limits (now (s .entry)) (bytes.parts limits (now (s .entry)) facts m at) r ⌝ }
 {
     match read_formula(s, at, facts) {
         Reading::Refused(r) => refused(r),
         Reading::Next(goal) => match read_formula(s, goal, facts) {
             Reading::Refused(r) => refused(r),
-            Reading::Next(next) => find_actions(s, at, goal, next, facts, m),
+            Reading::Next(next) => find_actions(s, limits, at, goal, next, facts, m),
         },
     }
 }
 
 // The counts from `at` on, and what follows them.
-fn find_body(s: &[u8], at: usize) -> Found
-    ensures { λ r. ⌜ Finds (now (s .entry)) (bytes.body version1 (now (s .entry)) at) r ⌝ }
+fn find_body(s: &[u8], limits: Limits, at: usize) -> Found
+    ensures { λ r. ⌜ Finds limits (now (s .entry)) (bytes.body limits (now (s .entry)) at) r ⌝ }
 {
-    match count_at(s, at, 15, 1, Problem::MAX_FACTS) {
+    match count_at(s, at, 15, 1, limits.facts) {
         Counted::Refused(r) => refused(r),
         Counted::Count(facts) => match count_at(s, at + 1, 16, 0, Problem::MAX_ACTIONS as u8) {
             Counted::Refused(r) => refused(r),
-            Counted::Count(m) => find_parts(s, at + 2, facts, m),
+            Counted::Count(m) => find_parts(s, limits, at + 2, facts, m),
         },
     }
 }
 
 // The problem in a block: its refusal, or where its parts stand.
-pub fn find_problem(s: &[u8]) -> Found
-    ensures { λ r. ⌜ Finds (now (s .entry)) (bytes.problem version1 (now (s .entry)) 0) r ⌝ }
+pub fn find_problem(s: &[u8], limits: Limits) -> Found
+    ensures { λ r. ⌜ Finds limits (now (s .entry)) (bytes.problem limits (now (s .entry)) 0) r ⌝ }
 {
-    match check_header(s, 10, Problem::MAX_BYTES) {
+    match check_header(s, 10, Problem::MAX_BYTES, limits.version) {
         Reading::Refused(r) => refused(r),
-        Reading::Next(at) => find_body(s, at),
+        Reading::Next(at) => find_body(s, limits, at),
     }
 }
 
@@ -153,7 +162,7 @@ pub fn read_problem(s: &[u8]) -> ProblemAnswer
     ensures { λ r. ⌜ problemAnswer r ≡ readProblem version1 (now (s .entry)) ⌝ }
     ensures { λ r. ⌜ ProblemPromised (now (s .entry)) (problemAnswer r) ⌝ }
 {
-    let found = find_problem(s);
+    let found = find_problem(s, Limits::version1());
     if found.refused {
         let refusal = found.refusal;
         return ProblemAnswer::Refused(refusal);

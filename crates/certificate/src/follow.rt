@@ -179,7 +179,7 @@ pub fn follow_list(problem: &[u8], plan: &[u8], list: &[u8]) -> FollowAnswer
         let refusal = task.refusal;
         return FollowAnswer::Refused(refusal);
     }
-    match check_header(list, 60, CaseList::MAX_BYTES) {
+    match check_header(list, 60, CaseList::MAX_BYTES, Limits::VERSION) {
         Reading::Refused(r) => FollowAnswer::Refused(r),
         Reading::Next(_) => {
             let from = Limits::HEAD_BYTES;

@@ -68,7 +68,7 @@ walks-task problem steps parts g n levels e L c₀ c N F r before to after W =
           (W .is T
           (record {
             stands = p .stands;
-            case-at = record { left-facts = omega arith; begins = zero-mod (2 ^ (T .width - 0)) };
+            case-at = record { width = p .width; left-facts = omega arith; begins = zero-mod (2 ^ (T .width - 0)) };
             table =
                 subst (λ (v : List Kleene). Table c (λ j. blockCase v 0 levels j)) (ap (λ (m : ℕ). replicate m Unknown) i ∙ sym (case-first (T .width) (T .facts)))
                 (F .is (replicate n Unknown) (omega (arith, L .inside, length-replicate n Unknown)) (N .is));
@@ -81,7 +81,7 @@ module _ (problem steps : List ℕ) (parts : Problem) (x n : ℕ) (e : n ≡ par
   valid-state : (T : Task) → PartsOf problem steps parts T → IsState T x → d .valid ≡ true
   valid-state T p st =
       D .is ∙
-      ap₂ (λ (w m : ℕ). ltb x (2 ^ w) && eqb (x % 2 ^ (w - m)) 0) (sym (p .stands .width)) (e ∙ p .facts) ∙
+      ap₂ (λ (w m : ℕ). ltb x (2 ^ w) && eqb (x % 2 ^ (w - m)) 0) (sym (p .width)) (e ∙ p .facts) ∙
       rw (lt-ltb x (2 ^ T .width) (st .in-width), eq-eqb (x % 2 ^ (T .width - T .facts)) 0 (st .no-bits))
 
   pub outcome-none : (u : Outcome) → d .valid ≡ false → OutcomeOf problem steps parts x u
@@ -94,7 +94,7 @@ module _ (problem steps : List ℕ) (parts : Problem) (x n : ℕ) (e : n ≡ par
         is =
             λ T p st.
             let t : Table (d .table) (λ j. caseOf (T .width) (T .facts) (T .facts) x) =
-            subst (λ (w : ℕ). Table (d .table) (λ j. caseOf w (T .facts) (T .facts) x)) (sym (p .stands .width))
+            subst (λ (w : ℕ). Table (d .table) (λ j. caseOf w (T .facts) (T .facts) x)) (sym (p .width))
             (subst (λ (m : ℕ). Table (d .table) (λ j. caseOf (version1 .width) m m x)) (e ∙ p .facts) (D .table (valid-state T p st)))
             in
             R .is (parts .initial) T (p .stands) (λ j. caseOf (T .width) (T .facts) (T .facts) x) (λ j l. length-case (T .width) (T .facts) (T .facts) x) t ∙
@@ -104,22 +104,22 @@ module _ (problem steps : List ℕ) (parts : Problem) (x n : ℕ) (e : n ≡ par
 -- ---- the verdict
 
 pub judge-refused :
-    (s t : List ℕ) (r : blocks.Task) → FindsTask s t r → r .refused ≡ true → (g : ℕ) → refusal (r .refusal) ≡ judge version1 s t g
+    (s t : List ℕ) (r : blocks.Task) → FindsTask version1 s t r → r .refused ≡ true → (g : ℕ) → refusal (r .refusal) ≡ judge version1 s t g
 unfolding judge Answer._>>=_
 judge-refused s t r f h g = rw (f .refusal h)
 
-module _ (s t : List ℕ) (r : blocks.Task) (F : StandsFound s t r) where
+module _ (s t : List ℕ) (r : blocks.Task) (F : StandsFound version1 s t r) where
   abbrev T : Task
   T = F .task
 
   n≤w : T .facts ≤ T .width
-  n≤w = omega (arith, F .stands .most, F .stands .width)
+  n≤w = omega (arith, F .few, F .width)
 
   pub few-facts : r .problem .facts ≤ 48
-  few-facts = omega (arith, F .facts, F .stands .most)
+  few-facts = omega (arith, F .facts, F .few)
 
   pub parts-of : (steps : List ℕ) → steps ≡ take (length t - headBytes) (drop headBytes t) → PartsOf s steps (r .problem) T
-  parts-of steps e = record { facts = F .facts; stands = rw (e, part-from) (F .stands) }
+  parts-of steps e = record { width = F .width; facts = F .facts; stands = rw (e, part-from) (F .stands) }
 
   module _ (g : ℕ) (steps : List ℕ) (own : steps ≡ take (length t - headBytes) (drop headBytes t)) (w : Ending) (before : List ℕ) (to : ℕ) (after : List ℕ) (W : WalksTask s steps (r .problem) g w before to after) where
     ended : endingOf w ≡ cut g (walked T)

@@ -3,6 +3,7 @@ use mathlib.Core.Path.{_≡_}
 use mathlib.Core.Bool.{true}
 use mathlib.Core.List.{List}
 use Prim.Native.Nat.{ℕ}
+use Rattle.model.specs.Limits.{version1}
 use Rattle.model.specs.Case.{Task, runOf, IsState}
 use Rattle.model.specs.Walk.{walked}
 use Rattle.model.specs.Answers.{outcome}
@@ -14,6 +15,7 @@ use Rattle.judge.specs.Walks.{Walks}
 
 -- the task T stands in the blocks, where `parts` says
 pub record PartsOf (problem steps : List ℕ) (parts : Problem) (T : Task) : Type 0 where
+  pub width : T .width ≡ version1 .width
   pub facts : parts .facts ≡ T .facts
   pub stands : TaskStands problem steps (parts .action) (parts .initial) (parts .goal) T
 

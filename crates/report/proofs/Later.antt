@@ -94,11 +94,11 @@ module _ (T : Task) where
   told out (undecided a) k q h e = let i : 50 ≡ k = cc in ((λ z. absurd (omega arith)), (λ z. refl))
 
 module _ (s t : List ℕ) where
-  pub none-later : (r : blocks.Task) → FindsTask s t r → r .refused ≡ true → (list : List ℕ) → 65533 ≤ length list → RestOf s t list Nothing
+  pub none-later : (r : blocks.Task) → FindsTask version1 s t r → r .refused ≡ true → (list : List ℕ) → 65533 ≤ length list → RestOf s t list Nothing
   unfolding laterLines answerRest
   none-later r f e list h = record { within = omega arith; text = λ n x. rw (f .refusal e) }
 
-  module _ (r : blocks.Task) (o : StandsFound s t r) (out : List ℕ) (h : 65533 ≤ length out) where
+  module _ (r : blocks.Task) (o : StandsFound version1 s t r) (out : List ℕ) (h : 65533 ≤ length out) where
     abbrev T : Task
     T = o .task
 

@@ -88,19 +88,19 @@ line-parts n l = append-assoc (kindText (l .kind)) (32 ∷ []) _
 
 -- ---- the facts of the task
 
-pub no-facts : (s t : List ℕ) (r : blocks.Task) → FindsTask s t r → r .refused ≡ true → Facts s t 0
+pub no-facts : (s t : List ℕ) (r : blocks.Task) → FindsTask version1 s t r → r .refused ≡ true → Facts s t 0
 no-facts s t r f e =
     record {
       most = omega arith;
       is = λ T h. let g = f .refusal e in let z : _≡_ {A = ℕ} 0 1 = cc in absurd (omega arith);
     }
 
-pub facts-are : (s t : List ℕ) (r : blocks.Task) → StandsFound s t r → Facts s t (r .problem .facts)
+pub facts-are : (s t : List ℕ) (r : blocks.Task) → StandsFound version1 s t r → Facts s t (r .problem .facts)
 unfolding taskOf
 facts-are s t r o =
     record {
-      most = omega (arith, o .facts, o .stands .most);
-      is = λ T h. let g : o .task ≡ T = same (sym (o .read) ∙ h) in (sym (ap (λ (X : Task). X .facts) g) ∙ sym (o .facts), sym (ap (λ (X : Task). X .width) g) ∙ o .stands .width);
+      most = omega (arith, o .facts, o .few);
+      is = λ T h. let g : o .task ≡ T = same (sym (o .read) ∙ h) in (sym (ap (λ (X : Task). X .facts) g) ∙ sym (o .facts), sym (ap (λ (X : Task). X .width) g) ∙ o .width);
     }
   where
     same : {X Y : Task} → answered X ≡ answered Y → X ≡ Y

@@ -11,10 +11,10 @@ add-read-effects : tie.Need-add-read-effects
 add-read-effects c = omega (arith, count-within _ _ _ _ _ _ (c .before .before .before .count-at .ensures) _ (c .before .n .given .1) .1)
 
 returns : tie.Need-returns
-returns c = list-refused _ _ _ _ (count-refused _ _ _ _ _ _ (c .before .before .before .count-at .ensures) _ (c .before .r .given .1))
+returns c = list-refused _ _ _ _ _ (count-refused _ _ _ _ _ _ (c .before .before .before .count-at .ensures) _ (c .before .r .given .1))
 
 returns-2 : tie.Need-returns-2
-returns-2 c = c .read-effects .ensures ∙ list-next _ _ _ _ _ (count-got _ _ _ _ _ _ (c .before .before .before .before .count-at .ensures) _ (c .before .before .n .given .1))
+returns-2 c = c .read-effects .ensures ∙ list-next _ _ _ _ _ _ (count-got _ _ _ _ _ _ (c .before .before .before .before .count-at .ensures) _ (c .before .before .n .given .1))
 
 pub read-effect-list-spec : {M : Type 1} → statement M
 read-effect-list-spec =

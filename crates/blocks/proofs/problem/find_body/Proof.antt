@@ -17,13 +17,13 @@ find-parts-requires : tie.Need-find-parts-requires
 find-parts-requires c κs = (count-within _ _ _ _ _ _ (c .before .before .before .before .before .before .before .count-at .ensures) _ (c .before .before .before .before .before .facts .given .1) .0, count-within _ _ _ _ _ _ (c .before .before .before .count-at2 .ensures) _ (c .before .m .given .1) .0)
 
 returns : tie.Need-returns
-returns c = finds-refused _ _ _ _ (c .refused .ensures) (body-refused _ _ _ (count-refused _ _ _ _ _ _ (c .before .before .before .before .count-at .ensures) _ (c .before .before .r .given .1)))
+returns c = finds-refused _ _ _ _ _ (c .refused .ensures) (body-refused _ _ _ _ (count-refused _ _ _ _ _ _ (c .before .before .before .before .count-at .ensures) _ (c .before .before .r .given .1)))
 
 returns-2 : tie.Need-returns-2
-returns-2 c = finds-refused _ _ _ _ (c .refused2 .ensures) (body-actions-refused _ _ _ _ (count-got _ _ _ _ _ _ (c .before .before .before .before .before .before .before .before .count-at .ensures) _ (c .before .before .before .before .before .before .facts .given .1)) _ (count-refused _ _ _ _ _ _ (c .before .before .before .before .count-at2 .ensures) _ (c .before .before .r2 .given .1)))
+returns-2 c = finds-refused _ _ _ _ _ (c .refused2 .ensures) (body-actions-refused _ _ _ _ _ (count-got _ _ _ _ _ _ (c .before .before .before .before .before .before .before .before .count-at .ensures) _ (c .before .before .before .before .before .before .facts .given .1)) _ (count-refused _ _ _ _ _ _ (c .before .before .before .before .count-at2 .ensures) _ (c .before .before .r2 .given .1)))
 
 returns-3 : tie.Need-returns-3
-returns-3 c = finds-as _ _ _ _ (body-got _ _ _ _ (count-got _ _ _ _ _ _ (c .before .before .before .before .before .before .before .before .count-at .ensures) _ (c .before .before .before .before .before .before .facts .given .1)) _ refl (count-got _ _ _ _ _ _ (c .before .before .before .before .count-at2 .ensures) _ (c .before .before .m .given .1))) (c .find-parts .ensures)
+returns-3 c = finds-as _ _ _ _ _ (body-got _ _ _ _ _ (count-got _ _ _ _ _ _ (c .before .before .before .before .before .before .before .before .count-at .ensures) _ (c .before .before .before .before .before .before .facts .given .1)) _ refl (count-got _ _ _ _ _ _ (c .before .before .before .before .count-at2 .ensures) _ (c .before .before .m .given .1))) (c .find-parts .ensures)
 
 pub find-body-spec : {M : Type 1} → statement M
 find-body-spec =
