@@ -5,15 +5,16 @@ use mathlib.Core.List.{List, _∷_}
 use Prim.Native.Nat.{ℕ, zero, suc, _+_, _-_, _≤_, _<_}
 use native.Mathlib.Omega.{arith}
 use lib.ListN.{length, getD}
-use lib.Dec.{ltb, leb}
+use lib.Dec.{ltb}
 use borrow.Author.Tests.{lt-ltb, le-ltb, le-leb, lt-leb, ltb-false}
-use Rattle.model.specs.Limits.{version1}
+use Rattle.model.specs.declared.Limits.{Limits}
 use Rattle.model.specs.Formula.{fact, denial, Formula}
 use Rattle.model.specs.Action.{Effect, Action}
-use Rattle.model.specs.Read.{Read, reject, got, andThen, _>>=_, _>>_, done, position, require, byte, count}
+use Rattle.model.specs.Read.{reject, got, andThen, _>>=_, _>>_, done, position, require, byte, count}
 use Rattle.model.specs.FormulaBytes.{isLiteral, literalOf, literalByte, formula}
-use Rattle.model.specs.ProblemBytes.{effect, effects, effectList, action, actions}
-use Rattle.formula.specs.Readings.{nextOf}
+use Rattle.model.specs.ProblemBytes.{effect, effects, effectList, action}
+use Rattle.model.specs.declared.Refusal.{Refusal}
+use Rattle.formula.specs.Readings.{rejected, nextOf}
 use Rattle.formula.specs.declared.read.Reading.{Reading}
 use Rattle.formula.specs.declared.read.Reading.the-variants.{Refused, Next}
 use Rattle.formula.proofs.Readers.{next-got, next-refused, then-next}
@@ -60,7 +61,7 @@ module _ (s : List ℕ) (facts least p : ℕ) where
       pub effect-formula :
           least ≤ getD s p 0 → (r : Reading) → r ≡ nextOf (formula s facts (p + 1)) → EffectRead s facts least p r
       unfolding andThen made
-      effect-formula l (Refused n q) e = effect-from l ∙ rw (next-refused _ n q (sym e))
+      effect-formula l (Refused r) e = effect-from l ∙ rw (next-refused _ r (sym e))
       effect-formula l (Next q) e =
           let g = next-got _ q (sym e) in
           record {
@@ -86,10 +87,10 @@ module _ (s : List ℕ) (facts : ℕ) where
   effects-none k least p h = rw h
 
   pub effects-refused :
-      (k least p n q : ℕ) → 0 < k → effect s facts least p ≡ reject n q →
-      Refused n q ≡ nextOf (effects s facts k least p)
+      (k least p : ℕ) (r : Refusal) → 0 < k → effect s facts least p ≡ rejected r →
+      Refused r ≡ nextOf (effects s facts k least p)
   unfolding andThen nextOf
-  effects-refused k least p n q h e = rw (effects-more k least p h, e)
+  effects-refused k least p r h e = rw (effects-more k least p h, e)
 
   effects-go-on :
       (k least p q : ℕ) (e : Effect) → 0 < k → effect s facts least p ≡ got e q →
@@ -107,41 +108,42 @@ module _ (s : List ℕ) (facts : ℕ) where
 
   -- what the reader of one effect answered
   pub answered-refused :
-      (k least p : ℕ) (r : Reading) → 0 < k → EffectRead s facts least p r → (n q : ℕ) → r ≡ Refused n q →
-      Refused n q ≡ nextOf (effects s facts k least p)
-  answered-refused k least p r h a n q e = effects-refused k least p n q h (subst (EffectRead s facts least p) e a)
+      (k least p : ℕ) (r : Reading) → 0 < k → EffectRead s facts least p r → (x : Refusal) → r ≡ Refused x →
+      Refused x ≡ nextOf (effects s facts k least p)
+  answered-refused k least p r h a x e = effects-refused k least p x h (subst (EffectRead s facts least p) e a)
 
   pub answered-next : (least p : ℕ) (r : Reading) → EffectRead s facts least p r → (q : ℕ) → r ≡ Next q → EffectGot s facts least p q
   answered-next least p r a q e = subst (EffectRead s facts least p) e a
 
-  -- ---- the effect list and the action
+-- ---- the effect list and the action
 
-  pub list-refused : (p n q : ℕ) → count s 22 0 (version1 .effects) p ≡ reject n q → Refused n q ≡ nextOf (effectList version1 s facts p)
+module _ (F : Limits) (s : List ℕ) (facts : ℕ) where
+  pub list-refused : (p : ℕ) (r : Refusal) → count s 22 0 (F .effects) p ≡ rejected r → Refused r ≡ nextOf (effectList F s facts p)
   unfolding effectList _>>=_ andThen nextOf
-  list-refused p n q e = rw e
+  list-refused p r e = rw e
 
   pub list-next :
-      (p n q : ℕ) → count s 22 0 (version1 .effects) p ≡ got n q →
-      nextOf (effects s facts n 0 q) ≡ nextOf (effectList version1 s facts p)
+      (p n q : ℕ) → count s 22 0 (F .effects) p ≡ got n q →
+      nextOf (effects s facts n 0 q) ≡ nextOf (effectList F s facts p)
   unfolding effectList _>>=_ andThen
   list-next p n q e = rw e
 
-  pub action-refused : (p n q : ℕ) → Refused n q ≡ nextOf (formula s facts p) → Refused n q ≡ nextOf (action version1 s facts p)
+  pub action-refused : (p : ℕ) (r : Refusal) → Refused r ≡ nextOf (formula s facts p) → Refused r ≡ nextOf (action F s facts p)
   unfolding action _>>=_ andThen nextOf
-  action-refused p n q e = rw (next-refused (formula s facts p) n q (sym e))
+  action-refused p r e = rw (next-refused (formula s facts p) r (sym e))
 
   made-action : Formula → List Effect → Action
   made-action f es = record { precondition = f; effects = es }
 
   action-from :
       (p q : ℕ) (f : Formula) → formula s facts p ≡ got f q →
-      action version1 s facts p ≡ andThen (effectList version1 s facts q) (λ es r. got (made-action f es) r)
+      action F s facts p ≡ andThen (effectList F s facts q) (λ es r. got (made-action f es) r)
   unfolding action _>>=_ andThen done made-action
   action-from p q f e = rw e
 
   pub action-next :
       (p q : ℕ) → Next q ≡ nextOf (formula s facts p) →
-      nextOf (effectList version1 s facts q) ≡ nextOf (action version1 s facts p)
+      nextOf (effectList F s facts q) ≡ nextOf (action F s facts p)
   action-next p q e =
       let g = next-got _ q (sym e) in
-      sym (ap nextOf (action-from p q (g .value) (g .is)) ∙ then-next (effectList version1 s facts q) (made-action (g .value)))
+      sym (ap nextOf (action-from p q (g .value) (g .is)) ∙ then-next (effectList F s facts q) (made-action (g .value)))

@@ -1,73 +1,63 @@
 -- A block's header and a count, case by case. Assumes nothing.
 use mathlib.Core.Path.{_≡_, sym, ap, _∙_, subst}
-use mathlib.Core.List.{List, [], _∷_}
-use Prim.Native.Nat.{ℕ, _+_, _-_, _*_, _≤_, _<_}
-use native.Mathlib.Omega.{arith}
+use mathlib.Core.List.{List}
+use Prim.Native.Nat.{ℕ, _+_, _-_, _≤_, _<_}
 use lib.ListN.{length, getD, take, drop}
-use lib.Seq.{drop-cons}
-use borrow.Author.Tests.{lt-ltb, le-ltb, le-leb, lt-leb, eq-eqb, ne-eqb}
-use Rattle.model.specs.Read.{reject, got, andThen, _>>=_, _>>_, done, position, require, bigEndianFrom, bigEndian, byte, header, count}
-use Rattle.model.proofs.Laws.Reading.{then-got, got-inj}
-use Rattle.formula.specs.Readings.{nextOf}
-use Rattle.formula.proofs.Readers.{next-got}
+use borrow.Author.Tests.{lt-ltb, le-ltb, le-leb, lt-leb, eq-eqb, ne-eqb, leb-true}
+use Rattle.model.specs.Read.{reject, got, andThen, _>>=_, _>>_, done, position, require, headBytes, bigEndian, byte, header, count}
+use Rattle.model.proofs.Laws.Reading.{got-inj, needed}
+use Rattle.model.specs.declared.Refusal.{Refusal}
+use Rattle.formula.specs.Readings.{refusalAt, rejected, nextOf}
 use Rattle.formula.specs.declared.read.Reading.the-variants.{Refused, Next}
 use Rattle.blocks.specs.Counts.{countOf, Bounded, Counts}
 use Rattle.blocks.specs.declared.header.Counted.{Counted}
 use Rattle.blocks.specs.declared.header.Counted.the-variants.{Refused as CountRefused, Count}
 
-four-bytes : (s : List ℕ) → 5 ≤ length s → take 4 (drop 1 s) ≡ getD s 1 0 ∷ getD s 2 0 ∷ getD s 3 0 ∷ getD s 4 0 ∷ []
-four-bytes s h =
-    rw (drop-cons s 1 0 (omega arith), drop-cons s 2 0 (omega arith), drop-cons s 3 0 (omega arith), drop-cons s 4 0 (omega arith))
-
-pub length-field :
-    (s : List ℕ) → 5 ≤ length s →
-    (getD s 1 0 * 256 + getD s 2 0) * 65536 + (getD s 3 0 * 256 + getD s 4 0) ≡ bigEndian (take 4 (drop 1 s))
-unfolding bigEndianFrom
-length-field s h = rw (four-bytes s h) (omega arith)
-
-module _ (s : List ℕ) (number most : ℕ) where
-  pub header-long : most < length s → Refused number most ≡ nextOf (header s number most 1 0)
+module _ (s : List ℕ) (number most version : ℕ) where
+  pub header-long : most < length s → Refused (refusalAt number most) ≡ nextOf (header s number most version 0)
   unfolding header _>>_ andThen require nextOf
   header-long h = rw (lt-leb (length s) most h)
 
   module _ (h : length s ≤ most) where
-    pub header-short : length s < 5 → Refused (number + 1) (length s) ≡ nextOf (header s number most 1 0)
+    pub header-short : length s < headBytes → Refused (refusalAt (number + 1) (length s)) ≡ nextOf (header s number most version 0)
     unfolding header _>>_ andThen require nextOf
-    header-short k = rw (le-leb (length s) most h, lt-leb 5 (length s) k)
+    header-short k = rw (le-leb (length s) most h, lt-leb headBytes (length s) k)
 
-    module _ (k : 5 ≤ length s) where
-      pub header-version : (getD s 0 0 ≡ 1 → ⊥) → Refused (number + 2) 0 ≡ nextOf (header s number most 1 0)
+    module _ (k : headBytes ≤ length s) where
+      pub header-version : (getD s 0 0 ≡ version → ⊥) → Refused (refusalAt (number + 2) 0) ≡ nextOf (header s number most version 0)
       unfolding header _>>_ andThen require nextOf
-      header-version v = rw (le-leb (length s) most h, le-leb 5 (length s) k, ne-eqb (getD s 0 0) 1 v)
+      header-version v = rw (le-leb (length s) most h, le-leb headBytes (length s) k, ne-eqb (getD s 0 0) version v)
 
-      module _ (v : getD s 0 0 ≡ 1) where
+      module _ (v : getD s 0 0 ≡ version) where
         pub header-length :
-            (bigEndian (take 4 (drop 1 s)) ≡ length s - 5 → ⊥) → Refused (number + 3) 1 ≡ nextOf (header s number most 1 0)
+            (bigEndian (take 4 (drop 1 s)) ≡ length s - headBytes → ⊥) → Refused (refusalAt (number + 3) 1) ≡ nextOf (header s number most version 0)
         unfolding header _>>_ andThen require nextOf
         header-length l =
             rw
-            (le-leb (length s) most h, le-leb 5 (length s) k, eq-eqb (getD s 0 0) 1 v, ne-eqb (bigEndian (take 4 (drop 1 s))) (length s - 5) l)
+            (le-leb (length s) most h, le-leb headBytes (length s) k, eq-eqb (getD s 0 0) version v, ne-eqb (bigEndian (take 4 (drop 1 s))) (length s - headBytes) l)
 
-        pub header-ok : bigEndian (take 4 (drop 1 s)) ≡ length s - 5 → Next 5 ≡ nextOf (header s number most 1 0)
+        pub header-ok : bigEndian (take 4 (drop 1 s)) ≡ length s - headBytes → Next headBytes ≡ nextOf (header s number most version 0)
         unfolding header _>>_ andThen require nextOf
         header-ok l =
             rw
-            (le-leb (length s) most h, le-leb 5 (length s) k, eq-eqb (getD s 0 0) 1 v, eq-eqb (bigEndian (take 4 (drop 1 s))) (length s - 5) l)
+            (le-leb (length s) most h, le-leb headBytes (length s) k, eq-eqb (getD s 0 0) version v, eq-eqb (bigEndian (take 4 (drop 1 s))) (length s - headBytes) l)
 
 module _ (s : List ℕ) (number low high p : ℕ) where
-  pub count-past : length s ≤ p → Counts s number low high p (CountRefused 14 (length s))
+  pub count-refuses : {n q : ℕ} {r : Refusal} → r ≡ refusalAt n q → reject n q ≡ count s number low high p → Counts s number low high p (CountRefused r)
+  count-refuses e h = record { is = rw e h; bounded = tt }
+
+  pub count-past : length s ≤ p → reject 14 (length s) ≡ count s number low high p
   unfolding count _>>=_ _>>_ position byte andThen
-  count-past h = record { is = rw (le-ltb p (length s) h); bounded = tt }
+  count-past h = rw (le-ltb p (length s) h)
 
   module _ (h : p < length s) where
-    pub count-low : getD s p 0 < low → Counts s number low high p (CountRefused number p)
+    pub count-low : getD s p 0 < low → reject number p ≡ count s number low high p
     unfolding count _>>=_ _>>_ position byte andThen require
-    count-low l = record { is = rw (lt-ltb p (length s) h, lt-leb low (getD s p 0) l); bounded = tt }
+    count-low l = rw (lt-ltb p (length s) h, lt-leb low (getD s p 0) l)
 
-    pub count-high : low ≤ getD s p 0 → high < getD s p 0 → Counts s number low high p (CountRefused number p)
+    pub count-high : low ≤ getD s p 0 → high < getD s p 0 → reject number p ≡ count s number low high p
     unfolding count _>>=_ _>>_ position byte andThen require
-    count-high l g =
-        record { is = rw (lt-ltb p (length s) h, le-leb low (getD s p 0) l, lt-leb (getD s p 0) high g); bounded = tt }
+    count-high l g = rw (lt-ltb p (length s) h, le-leb low (getD s p 0) l, lt-leb (getD s p 0) high g)
 
     pub count-ok : low ≤ getD s p 0 → getD s p 0 ≤ high → Counts s number low high p (Count (getD s p 0))
     unfolding count _>>=_ _>>_ position byte andThen require done
@@ -76,8 +66,8 @@ module _ (s : List ℕ) (number low high p : ℕ) where
 
 -- what `count_at` answered
 module _ (s : List ℕ) (number low high p : ℕ) (r : Counted) (a : Counts s number low high p r) where
-  pub count-refused : (n q : ℕ) → r ≡ CountRefused n q → count s number low high p ≡ reject n q
-  count-refused n q e = sym (a .is) ∙ ap (countOf p) e
+  pub count-refused : (x : Refusal) → r ≡ CountRefused x → count s number low high p ≡ rejected x
+  count-refused x e = sym (a .is) ∙ ap (countOf p) e
 
   pub count-got : (n : ℕ) → r ≡ Count n → count s number low high p ≡ got n (p + 1)
   count-got n e = sym (a .is) ∙ ap (countOf p) e
@@ -85,13 +75,13 @@ module _ (s : List ℕ) (number low high p : ℕ) (r : Counted) (a : Counts s nu
   pub count-within : (n : ℕ) → r ≡ Count n → (n ≤ high) × (p < length s)
   count-within n e = subst (Bounded s p high) e (a .bounded)
 
--- a block whose header is right begins its body at byte 5
-pub header-five : (s : List ℕ) (number most q : ℕ) → Next q ≡ nextOf (header s number most 1 0) → q ≡ 5
+-- a block whose header is right has one, and begins its body after it
+pub header-got :
+    (s : List ℕ) (number most version q : ℕ) (u : Unit {0}) → header s number most version 0 ≡ got u q → (headBytes ≤ length s) × (q ≡ headBytes)
 unfolding header _>>_
-header-five s number most q e =
-    let g = next-got (header s number most 1 0) q (sym e) in
-    then-got (g .is) λ u₁ p₁ e₁ h₁.
-    then-got h₁ λ u₂ p₂ e₂ h₂.
-    then-got h₂ λ u₃ p₃ e₃ h₃.
-    then-got h₃ λ u₄ p₄ e₄ h₄.
-    sym (got-inj h₄ .1)
+header-got s number most version q u e =
+    needed _ _ _ _ _ e λ t₁ h₁.
+    needed _ _ _ _ _ h₁ λ t₂ h₂.
+    needed _ _ _ _ _ h₂ λ t₃ h₃.
+    needed _ _ _ _ _ h₃ λ t₄ h₄.
+    (leb-true headBytes (length s) t₂, sym (got-inj h₄ .1))

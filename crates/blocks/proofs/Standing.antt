@@ -1,24 +1,22 @@
 -- What was read stands there as the bytes that encode it, by the laws of the codec. Assumes nothing.
-use mathlib.Core.Path.{_≡_, refl, ap, _∙_}
+use mathlib.Core.Path.{_≡_, refl, _∙_}
 use mathlib.Core.List.{List, [], _∷_, map}
-use Prim.Native.Nat.{ℕ, zero, suc, _+_, _-_, _≤_, _<_}
+use Prim.Native.Nat.{ℕ, zero, suc, _-_, _≤_, _<_}
 use native.Mathlib.Nat.{le-of-suc-le-suc, not-suc-le-zero}
 use native.Mathlib.Omega.{arith}
 use lib.ListN.{length, getD, take, drop, length-map, length-drop}
 use lib.Seq.{getD-drop, take-all}
-use Rattle.model.specs.Limits.{version1}
+use Rattle.model.specs.declared.Limits.{Limits}
 use Rattle.model.specs.Answer as Answer
 use Rattle.model.specs.Answer.{answered}
 use Rattle.model.specs.Case.{Task}
 use Rattle.model.specs.Formula.{Formula}
 use Rattle.model.specs.Action.{Action}
-use Rattle.model.specs.Read.{headBytes, bytesOf}
-use Rattle.model.specs.FormulaBytes.{encodeFormula}
-use Rattle.model.specs.ProblemBytes.{actionAt, actionBytes}
+use Rattle.model.specs.Read.{headBytes}
+use Rattle.model.specs.ProblemBytes.{actionAt}
 use Rattle.model.specs.Operations.{taskOf, readTask}
-use Rattle.model.specs.WellFormed.{Bytes}
-use Rattle.model.specs.Stands.{Span, nothing, next, FormulaAt, ActionAt}
-use Rattle.model.proofs.Laws.Reading.{first}
+use Rattle.model.specs.WellFormed.{Bytes, Sensible}
+use Rattle.model.specs.Stands.{FormulaAt, ActionAt}
 use Rattle.model.proofs.Laws.FormulaCodec.{formula-got}
 use Rattle.model.proofs.Laws.ProblemCodec.{action-got}
 use Rattle.blocks.specs.declared.plan.Task as found
@@ -27,16 +25,16 @@ use Rattle.blocks.specs.Parts.{FormulaStands, ActionStands, TaskAt}
 
 -- ---- from a reader to the bytes
 
-module _ {s : List ℕ} {facts : ℕ} (b : Bytes s) (most : facts ≤ version1 .facts) where
+module _ {F : Limits} (S : Sensible F) {s : List ℕ} {facts : ℕ} (b : Bytes s) (most : facts ≤ F .facts) where
   pub formula-stands : {p : ℕ} {f : Formula} → FormulaStands s facts p f → (q : ℕ) × FormulaAt s facts p f q
   formula-stands {p} {f} k =
-      let (o, r) = formula-got s facts (omega arith) p f (k .next) b (k .read) in
+      let (o, r) = formula-got s facts (omega (arith, S .facts)) p f (k .next) b (k .read) in
       (k .next, record { ok = o; bytes = r })
 
-  pub action-stands : {p : ℕ} {a : Action} → ActionStands s facts p a → (q : ℕ) × ActionAt s facts p a q
+  pub action-stands : {p : ℕ} {a : Action} → ActionStands F s facts p a → (q : ℕ) × ActionAt s facts p a q
   action-stands {p} {a} k =
-      let (o, r) = action-got version1 s facts (omega arith) p a (k .next) b (k .read) in
-      (k .next, record { precondition = o .precondition; few = omega (arith, o .count); effects = o .effects; bytes = r })
+      let (o, r) = action-got F s facts (omega (arith, S .facts)) p a (k .next) b (k .read) in
+      (k .next, record { precondition = o .precondition; few = omega (arith, o .count, S .effects); effects = o .effects; bytes = r })
 
 -- the action of a plan's step is the one that the step names
 step-action : (as′ : List Action) (bs : List ℕ) (i : ℕ) → i < length bs → actionAt (map (actionAt as′) bs) i ≡ actionAt as′ (getD bs i 0)
@@ -45,11 +43,11 @@ step-action as′ [] i h = absurd (not-suc-le-zero h)
 step-action as′ (b ∷ bs) zero h = refl
 step-action as′ (b ∷ bs) (suc i) h = step-action as′ bs i (le-of-suc-le-suc h)
 
-module _ (s t : List ℕ) (r : found.Task) (b : Bytes s) (o : TaskAt s t r) where
+module _ {F : Limits} (S : Sensible F) (s t : List ℕ) (r : found.Task) (b : Bytes s) (o : TaskAt F s t r) where
   abbrev task : Task
-  task = taskOf version1 (o .problem) (o .steps)
+  task = taskOf F (o .problem) (o .steps)
 
-  read-task : readTask version1 s t ≡ answered task
+  read-task : readTask F s t ≡ answered task
   unfolding readTask Answer._>>=_
   read-task = rw (o .problem-read, Answer._>>=_, o .plan-read)
 
@@ -65,21 +63,20 @@ module _ (s t : List ℕ) (r : found.Task) (b : Bytes s) (o : TaskAt s t r) wher
   unfolding taskOf
   task-stands =
       record {
-        width = refl;
-        most = o .placed .most;
-        starting = formula-stands b (o .placed .most) (o .placed .initial);
-        reaching = formula-stands b (o .placed .most) (o .placed .goal);
+        most = omega (arith, o .placed .most, S .facts);
+        starting = formula-stands S b (o .placed .most) (o .placed .initial);
+        reaching = formula-stands S b (o .placed .most) (o .placed .goal);
         counted = length-map (o .steps) (actionAt (o .problem .actions)) ∙ omega (arith, length-drop headBytes t, o .fits, o .count);
         named = λ i h. let (l, e, k) = at-step i h in omega (arith, o .placed .few);
         acting =
             λ i h.
             let (l, e, k) = at-step i h in
-            rw (e, step-action (o .problem .actions) (o .steps) i l) (action-stands b (o .placed .most) (o .placed .action (getD (o .steps) i 0) k));
+            rw (e, step-action (o .problem .actions) (o .steps) i l) (action-stands S b (o .placed .most) (o .placed .action (getD (o .steps) i 0) k));
       }
 
-  pub stands-found : StandsFound s t r
+  pub stands-found : StandsFound F s t r
   unfolding taskOf
-  stands-found = record { task = task; read = read-task; facts = o .placed .facts; fits = o .fits; stands = task-stands }
+  stands-found = record { task = task; read = read-task; width = refl; few = o .placed .most; facts = o .placed .facts; fits = o .fits; stands = task-stands }
 
 -- ---- what a slice has from p on
 

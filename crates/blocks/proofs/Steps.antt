@@ -5,12 +5,14 @@ use Prim.Native.Nat.{ℕ, zero, suc, _+_, _-_, _≤_, _<_}
 use native.Mathlib.Omega.{arith}
 use lib.ListN.{length, getD}
 use borrow.Author.Tests.{lt-ltb, le-ltb}
-use Rattle.model.specs.Read.{reject, got, andThen, _>>=_, _>>_, done, position, require, counted, header}
+use Rattle.model.specs.Limits.{maxSteps}
+use Rattle.model.specs.Read.{reject, got, andThen, _>>=_, _>>_, done, position, require, headBytes, counted, header}
 use Rattle.model.specs.ProblemBytes.{steps, plan}
-use Rattle.formula.specs.Readings.{nextOf}
+use Rattle.model.specs.declared.Refusal.{Refusal}
+use Rattle.formula.specs.Readings.{refusalAt, nextOf}
 use Rattle.formula.specs.declared.read.Reading.the-variants.{Refused, Next}
 use Rattle.formula.proofs.Readers.{next-got, next-refused, then-next}
-use Rattle.blocks.proofs.Headers.{header-five}
+use Rattle.blocks.proofs.Headers.{header-got}
 
 module _ (s : List ℕ) (m : ℕ) where
   pub steps-none : (n p : ℕ) → n ≡ 0 → Next p ≡ nextOf (steps s m n p)
@@ -21,7 +23,7 @@ module _ (s : List ℕ) (m : ℕ) where
   unfolding steps _>>=_ _>>_ andThen position counted require
   steps-bad n p g = rw (le-ltb (getD s p 0) m g)
 
-  pub steps-refused : (n p : ℕ) → 0 < n → m ≤ getD s p 0 → Refused 34 p ≡ nextOf (steps s m n p)
+  pub steps-refused : (n p : ℕ) → 0 < n → m ≤ getD s p 0 → Refused (refusalAt 34 p) ≡ nextOf (steps s m n p)
   unfolding nextOf
   steps-refused zero p h g = absurd (omega arith)
   steps-refused (suc n) p h g = rw (steps-bad n p g)
@@ -37,14 +39,14 @@ module _ (s : List ℕ) (m : ℕ) where
   steps-next n k p e g = rw (e, steps-more k p g) (then-next (steps s m k (p + 1)) (λ bs. getD s p 0 ∷ bs))
 
   pub plan-refused :
-      (n q : ℕ) → Refused n q ≡ nextOf (header s 30 261 1 0) → Refused n q ≡ nextOf (plan s m 0)
+      (r : Refusal) → Refused r ≡ nextOf (header s 30 (headBytes + maxSteps) 1 0) → Refused r ≡ nextOf (plan s m 0)
   unfolding plan _>>_ andThen nextOf
-  plan-refused n q e = rw (next-refused (header s 30 261 1 0) n q (sym e))
+  plan-refused r e = rw (next-refused (header s 30 (headBytes + maxSteps) 1 0) r (sym e))
 
   pub plan-next :
-      (q : ℕ) → Next q ≡ nextOf (header s 30 261 1 0) →
+      (q : ℕ) → Next q ≡ nextOf (header s 30 (headBytes + maxSteps) 1 0) →
       nextOf (steps s m (length s - q) q) ≡ nextOf (plan s m 0)
   unfolding plan _>>_ andThen
   plan-next q e =
-      let g = next-got (header s 30 261 1 0) q (sym e) in
-      rw (g .is) (ap (λ (x : ℕ). nextOf (steps s m (length s - x) q)) (header-five s 30 261 q e))
+      let g = next-got (header s 30 (headBytes + maxSteps) 1 0) q (sym e) in
+      rw (g .is) (ap (λ (x : ℕ). nextOf (steps s m (length s - x) q)) (header-got s 30 (headBytes + maxSteps) 1 q (g .value) (g .is) .1))

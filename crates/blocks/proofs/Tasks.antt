@@ -1,26 +1,30 @@
 -- What is found of a problem and a plan, as the operations have it. Assumes nothing.
-use mathlib.Core.Path.{_≡_, sym, ap, _∙_, subst}
+use mathlib.Core.Path.{_≡_, refl, sym, ap, _∙_, subst}
 use mathlib.Core.Bool.{true, false, true≢false}
 use mathlib.Core.List.{List, _∷_}
 use Prim.Native.Nat.{ℕ, zero, suc, _+_, _-_, _≤_, _<_}
 use native.Mathlib.Omega.{arith}
 use lib.ListN.{length, getD}
-use borrow.Author.Tests.{ltb-true, leb-true}
-use Rattle.model.specs.Limits.{version1}
+use borrow.Author.Tests.{ltb-true}
+use Rattle.model.specs.declared.Limits.{Limits}
+use Rattle.model.specs.Limits.{maxSteps}
 use Rattle.model.specs.Answer as Answer
 use Rattle.model.specs.Answer.{refused, answered}
-use Rattle.model.specs.Read.{Read, reject, got, andThen, _>>=_, _>>_, done, position, counted, header, answerOf}
+use Rattle.model.specs.Answers.{refusal}
+use Rattle.model.specs.Read.{Read, got, andThen, _>>=_, _>>_, done, position, headBytes, counted, answerOf}
 use Rattle.model.specs.ProblemBytes as bytes
 use Rattle.model.specs.ProblemBytes.{problemOf, steps, plan, planOf}
 use Rattle.model.specs.Operations.{readProblem, readPlan, readTask, taskOf}
-use Rattle.model.specs.WellFormed.{Bytes}
+use Rattle.model.specs.WellFormed.{Bytes, Sensible}
 use Rattle.model.proofs.Laws.Reading.{then-got, got-inj, needed}
-use Rattle.formula.specs.Readings.{nextOf}
+use Rattle.model.specs.declared.Refusal.{Refusal}
+use Rattle.formula.specs.Readings.{refusalAt, rejected, nextOf}
 use Rattle.formula.specs.declared.read.Reading.the-variants.{Refused, Next}
 use Rattle.formula.proofs.Readers.{next-got, next-refused}
 use Rattle.blocks.specs.declared.problem.Found.{Found}
 use Rattle.blocks.specs.declared.plan.Task.{Task}
 use Rattle.blocks.specs.Parts.{Placed, Finds, TaskAt, FindsTask}
+use Rattle.blocks.proofs.Headers.{header-got}
 use Rattle.blocks.proofs.Standing.{stands-found}
 
 -- ---- a plan's steps
@@ -56,50 +60,41 @@ steps-got s m (suc n) p bs q e =
     subst (λ (x : List ℕ). Stepped s m (suc n) p x q) a
     (subst (Stepped s m (suc n) p (getD s p 0 ∷ rest)) b (stepped-more s m n p rest k (ltb-true _ _ t) r))
 
-pub header-length : (s : List ℕ) (number most q : ℕ) (u : Unit {0}) → header s number most 1 0 ≡ got u q → (5 ≤ length s) × (q ≡ 5)
-unfolding header _>>_
-header-length s number most q u e =
-    needed _ _ _ _ _ e λ t₁ h₁.
-    needed _ _ _ _ _ h₁ λ t₂ h₂.
-    needed _ _ _ _ _ h₂ λ t₃ h₃.
-    needed _ _ _ _ _ h₃ λ t₄ h₄.
-    (leb-true 5 (length s) t₂, sym (got-inj h₄ .1))
-
 pub plan-stepped :
-    (t : List ℕ) (m : ℕ) (bs : List ℕ) (q : ℕ) → plan t m 0 ≡ got bs q → (5 ≤ length t) × Stepped t m (length t - 5) 5 bs q
+    (t : List ℕ) (m : ℕ) (bs : List ℕ) (q : ℕ) → plan t m 0 ≡ got bs q → (headBytes ≤ length t) × Stepped t m (length t - headBytes) headBytes bs q
 unfolding plan _>>_
 plan-stepped t m bs q e =
     then-got e λ u k e₁ h.
-    let (a, b) = header-length t 30 261 k u e₁ in
-    (a, steps-got t m (length t - 5) 5 bs q (subst (λ (x : ℕ). steps t m (length t - 5) x ≡ got bs q) b h))
+    let (a, b) = header-got t 30 (headBytes + maxSteps) 1 k u e₁ in
+    (a, steps-got t m (length t - headBytes) headBytes bs q (subst (λ (x : ℕ). steps t m (length t - headBytes) x ≡ got bs q) b h))
 
 -- ---- the problem alone
 
-module _ (s : List ℕ) (r : Found) (f : Finds s (bytes.problem version1 s 0) r) where
+module _ (F : Limits) (s : List ℕ) (r : Found) (f : Finds F s (bytes.problem F s 0) r) where
   module _ (h : r .refused ≡ true) where
-    problem-refused : problemOf version1 s ≡ refused (r .number) (r .place)
+    problem-refused : problemOf F s ≡ refusal (r .refusal)
     unfolding problemOf answerOf
     problem-refused = rw (f .refusal h)
 
-    pub read-problem-refused : refused (r .number) (r .place) ≡ readProblem version1 s
+    pub read-problem-refused : refusal (r .refusal) ≡ readProblem F s
     unfolding readProblem Answer._>>=_
     read-problem-refused = rw problem-refused
 
-    task-refused : (t : List ℕ) → readTask version1 s t ≡ refused (r .number) (r .place)
+    task-refused : (t : List ℕ) → readTask F s t ≡ refusal (r .refusal)
     unfolding readTask Answer._>>=_
     task-refused t = rw problem-refused
 
     pub finds-no-problem :
         (t : List ℕ) (k : ℕ) →
-        FindsTask s t (record { refused = true; number = r .number; place = r .place; problem = r .problem; steps = k })
+        FindsTask F s t (record { refused = true; refusal = r .refusal; limits = F; problem = r .problem; steps = k })
     finds-no-problem t k =
-        record { refusal = λ z. task-refused t; found = λ z. absurd (true≢false z); stands = λ z. absurd (true≢false z) }
+        record { limits = refl; refusal = λ z. task-refused t; found = λ z. absurd (true≢false z); stands = λ z. absurd (true≢false z) }
 
   -- the problem that was found
   pub record Holds : Type 0 where
     pub problem : bytes.Problem
-    pub read : problemOf version1 s ≡ answered problem
-    pub placed : Placed s (r .problem) problem
+    pub read : problemOf F s ≡ answered problem
+    pub placed : Placed F s (r .problem) problem
 
   module _ (h : r .refused ≡ false) where
     holds : Holds
@@ -107,7 +102,7 @@ module _ (s : List ℕ) (r : Found) (f : Finds s (bytes.problem version1 s 0) r)
     holds = let (p, q, e, w) = f .found h in record { problem = p; read = ap answerOf e; placed = w }
 
     pub read-problem-found :
-        answered (record { facts = r .problem .facts; actions = r .problem .actions }) ≡ readProblem version1 s
+        answered (record { facts = r .problem .facts; actions = r .problem .actions }) ≡ readProblem F s
     unfolding readProblem Answer._>>=_
     read-problem-found =
         let o = holds in
@@ -118,41 +113,42 @@ module _ (s : List ℕ) (r : Found) (f : Finds s (bytes.problem version1 s 0) r)
       abbrev pub plan-as : Read (List ℕ)
       plan-as = plan t (r .problem .actions) 0
 
-      plan-is : (p : bytes.Problem) → Placed s (r .problem) p → plan t (length (p .actions)) 0 ≡ plan-as
+      plan-is : (p : bytes.Problem) → Placed F s (r .problem) p → plan t (length (p .actions)) 0 ≡ plan-as
       plan-is p w = ap (λ (m : ℕ). plan t m 0) (sym (w .actions))
 
-      task-plan-refused : (n q : ℕ) → plan-as ≡ reject n q → readTask version1 s t ≡ refused n q
+      task-plan-refused : (y : Refusal) → plan-as ≡ rejected y → readTask F s t ≡ refusal y
       unfolding readTask planOf answerOf Answer._>>=_
-      task-plan-refused n q e = let o = holds in rw (o .read, plan-is (o .problem) (o .placed) ∙ e)
+      task-plan-refused y e = let o = holds in rw (o .read, plan-is (o .problem) (o .placed) ∙ e)
 
       pub finds-no-plan :
-          (n q k : ℕ) → Refused n q ≡ nextOf plan-as →
-          FindsTask s t (record { refused = true; number = n; place = q; problem = r .problem; steps = k })
-      finds-no-plan n q k e =
+          (y : Refusal) (k : ℕ) → Refused y ≡ nextOf plan-as →
+          FindsTask F s t (record { refused = true; refusal = y; limits = F; problem = r .problem; steps = k })
+      finds-no-plan y k e =
           record {
-            refusal = λ z. task-plan-refused n q (next-refused plan-as n q (sym e));
+            limits = refl;
+            refusal = λ z. task-plan-refused y (next-refused plan-as y (sym e));
             found = λ z. absurd (true≢false z);
             stands = λ z. absurd (true≢false z);
           }
 
       module _ (q : ℕ) (e : Next q ≡ nextOf plan-as) where
-        pub found-plan : (bs : List ℕ) × (plan-as ≡ got bs q) × (5 ≤ length t) × Stepped t (r .problem .actions) (length t - 5) 5 bs q
+        pub found-plan : (bs : List ℕ) × (plan-as ≡ got bs q) × (headBytes ≤ length t) × Stepped t (r .problem .actions) (length t - headBytes) headBytes bs q
         found-plan =
             let o = next-got plan-as q (sym e) in
             let (a, b) = plan-stepped t (r .problem .actions) (o .value) q (o .is) in
             (o .value, o .is, a, b)
 
-        pub five-first : 5 ≤ q
-        five-first = let (bs, a, b, d) = found-plan in omega (arith, d .end)
+        pub head-first : headBytes ≤ q
+        head-first = let (bs, a, b, d) = found-plan in omega (arith, d .end)
 
-        plan-read : (p : bytes.Problem) → Placed s (r .problem) p → (bs : List ℕ) → plan-as ≡ got bs q → planOf t (length (p .actions)) ≡ answered bs
+        plan-read : (p : bytes.Problem) → Placed F s (r .problem) p → (bs : List ℕ) → plan-as ≡ got bs q → planOf t (length (p .actions)) ≡ answered bs
         unfolding planOf answerOf
         plan-read p w bs a = rw (plan-is p w ∙ a)
 
         abbrev pub result : Task
-        result = record { refused = false; number = 0; place = 0; problem = r .problem; steps = q - 5 }
+        result = record { refused = false; refusal = refusalAt 0 0; limits = F; problem = r .problem; steps = q - headBytes }
 
-        task-at : TaskAt s t result
+        task-at : TaskAt F s t result
         task-at =
             let o = holds in
             let (bs, a, b, d) = found-plan in
@@ -168,34 +164,39 @@ module _ (s : List ℕ) (r : Found) (f : Finds s (bytes.problem version1 s 0) r)
               step = λ i l. let k = d .step i (omega (arith, d .end)) in (k .0, omega (arith, k .1, w .actions));
             }
 
-        pub finds-task : Bytes s → FindsTask s t result
-        finds-task b =
+        pub finds-task : Sensible F → Bytes s → FindsTask F s t result
+        finds-task S b =
             record {
+              limits = refl;
               refusal = λ z. absurd (true≢false (sym z));
               found = λ z. task-at;
-              stands = λ z. stands-found s t result b task-at;
+              stands = λ z. stands-found S s t result b task-at;
             }
+
+-- what is found by numbers that are a version's
+pub finds-by : {F G : Limits} {s t : List ℕ} {r : Task} → F ≡ G → FindsTask F s t r → FindsTask G s t r
+finds-by {s = s} {t = t} {r = r} e = subst (λ (H : Limits). FindsTask H s t r) e
 
 -- ---- the plan beside its problem
 
-module _ (s t : List ℕ) (r : Task) (f : FindsTask s t r) where
+module _ (F : Limits) (s t : List ℕ) (r : Task) (f : FindsTask F s t r) where
   -- a task is refused with the problem's refusal or the plan's, and so is a plan
   plan-as-task : (x : Answer.Answer bytes.Problem) (y : bytes.Problem → Answer.Answer (List ℕ)) (n q : ℕ) →
-      Answer._>>=_ x (λ p. Answer._>>=_ (y p) (λ bs. answered (taskOf version1 p bs))) ≡ refused n q →
+      Answer._>>=_ x (λ p. Answer._>>=_ (y p) (λ bs. answered (taskOf F p bs))) ≡ refused n q →
       Answer._>>=_ x (λ p. Answer._>>=_ (y p) (λ bs. answered (length bs))) ≡ refused n q
   unfolding Answer._>>=_
   plan-as-task (refused m k) y n q e = cc
   plan-as-task (answered p) y n q e = second (y p) e
     where
-      second : (z : Answer.Answer (List ℕ)) → Answer._>>=_ z (λ bs. answered (taskOf version1 p bs)) ≡ refused n q →
+      second : (z : Answer.Answer (List ℕ)) → Answer._>>=_ z (λ bs. answered (taskOf F p bs)) ≡ refused n q →
           Answer._>>=_ z (λ bs. answered (length bs)) ≡ refused n q
       second (refused m k) g = cc
       second (answered bs) g = let z : _≡_ {A = ℕ} 0 1 = cc in absurd (omega arith)
 
-  pub read-plan-refused : r .refused ≡ true → refused (r .number) (r .place) ≡ readPlan version1 s t
+  pub read-plan-refused : r .refused ≡ true → refusal (r .refusal) ≡ readPlan F s t
   unfolding readPlan readTask
-  read-plan-refused h = sym (plan-as-task (problemOf version1 s) (λ p. planOf t (length (p .actions))) (r .number) (r .place) (f .refusal h))
+  read-plan-refused h = sym (plan-as-task (problemOf F s) (λ p. planOf t (length (p .actions))) (r .refusal .number) (r .refusal .place) (f .refusal h))
 
-  pub read-plan-found : r .refused ≡ false → answered (r .steps) ≡ readPlan version1 s t
+  pub read-plan-found : r .refused ≡ false → answered (r .steps) ≡ readPlan F s t
   unfolding readPlan Answer._>>=_
   read-plan-found h = let o = f .found h in rw (o .problem-read, Answer._>>=_, o .plan-read) (ap answered (o .count))

@@ -2,22 +2,19 @@
 use mathlib.Core.Path.{_≡_}
 use mathlib.Core.List.{List}
 use Prim.Native.Nat.{ℕ, _+_, _≤_, _<_}
-use lib.ListN.{length, take, drop}
-use Rattle.model.specs.Read.{Read, reject, got, bigEndian, count}
+use lib.ListN.{length}
+use Rattle.model.specs.Read.{Read, got, count}
+use Rattle.formula.specs.Readings.{rejected}
 use Rattle.blocks.specs.declared.header.Counted.{Counted}
 use Rattle.blocks.specs.declared.header.Counted.the-variants.{Refused, Count}
 
--- the four bytes of a length
-abbrev pub LengthField : List ℕ → ℕ → Type 0
-LengthField s r = r ≡ bigEndian (take 4 (drop 1 s))
-
 -- a count at p
 abbrev pub countOf : ℕ → Counted → Read ℕ
-countOf p (Refused n q) = reject n q
+countOf p (Refused r) = rejected r
 countOf p (Count n) = got n (p + 1)
 
 abbrev pub Bounded : List ℕ → ℕ → ℕ → Counted → Type 0
-Bounded s p high (Refused n q) = Unit {0}
+Bounded s p high (Refused r) = Unit {0}
 Bounded s p high (Count n) = (n ≤ high) × (p < length s)
 
 pub record Counts (s : List ℕ) (number low high p : ℕ) (r : Counted) : Type 0 where

@@ -3,7 +3,8 @@ use mathlib.Core.Path.{_≡_}
 use mathlib.Core.List.{List}
 use Prim.Native.Nat.{ℕ, _+_, _<_, _≤_}
 use lib.ListN.{length, getD, drop}
-use Rattle.model.specs.Limits.{version1}
+use Rattle.model.specs.declared.Limits.{Limits}
+use Rattle.model.specs.Limits.{maxFacts, maxActions}
 use Rattle.model.specs.Answer.{answered}
 use Rattle.model.specs.Case.{Task}
 use Rattle.model.specs.Read.{headBytes}
@@ -12,23 +13,25 @@ use Rattle.model.specs.Operations.{readTask}
 use Rattle.model.specs.Stands.{FormulaAt, ActionAt}
 use Rattle.blocks.specs.declared.plan.Task as found
 
--- T stands in `problem` and `steps`: its formulas where `initial` and `goal` say, and the action of each step, a number of one of 64
--- slots, where `actions` says
+-- T stands in `problem` and `steps`: its formulas where `initial` and `goal` say, and the action of each step, a number of a slot,
+-- where `actions` says
 pub record TaskStands (problem steps actions : List ℕ) (initial goal : ℕ) (T : Task) : Type 0 where
-  pub width : T .width ≡ version1 .width
-  pub most : T .facts ≤ version1 .facts
+  pub most : T .facts ≤ maxFacts
   pub starting : (q : ℕ) × FormulaAt problem (T .facts) initial (T .initial) q
   pub reaching : (q : ℕ) × FormulaAt problem (T .facts) goal (T .goal) q
   pub counted : length (T .plan) ≡ length steps
-  pub named : (i : ℕ) → i < length steps → getD steps i 0 < 64
+  pub named : (i : ℕ) → i < length steps → getD steps i 0 < maxActions
   pub acting :
       (i : ℕ) → i < length steps →
       (q : ℕ) × ActionAt problem (T .facts) (getD actions (getD steps i 0) 0) (actionAt (T .plan) i) q
 
--- a problem and a plan that were found are read as some task, which stands there; a plan's steps are all that follows its header
-pub record StandsFound (problem plan : List ℕ) (r : found.Task) : Type 0 where
+-- a problem and a plan that were found are read as some task of the version whose numbers are F, which stands there; a plan's steps are
+-- all that follows its header
+pub record StandsFound (F : Limits) (problem plan : List ℕ) (r : found.Task) : Type 0 where
   pub task : Task
-  pub read : readTask version1 problem plan ≡ answered task
+  pub read : readTask F problem plan ≡ answered task
+  pub width : task .width ≡ F .width
+  pub few : task .facts ≤ F .facts
   pub facts : r .problem .facts ≡ task .facts
   pub fits : headBytes + r .steps ≡ length plan
   pub stands :

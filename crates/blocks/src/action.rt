@@ -1,6 +1,5 @@
 // Reading an action: its precondition, its effect count and its effects.
 ghost use mathlib.Core.Path.{_≡_};
-ghost use Rattle.model.specs.Limits.{version1};
 ghost use Rattle.model.specs.ProblemBytes.{effects, effectList, action};
 ghost use Rattle.formula.specs.Readings.{nextOf};
 ghost use Rattle.blocks.specs.Parts.{EffectRead};
@@ -9,21 +8,22 @@ use crate::header::count_at;
 use formula::Reading;
 use formula::is_literal;
 use formula::read_formula;
-use model::Problem;
+use formula::refusal;
+use model::Limits;
 
 // The effect at `at`, whose literal's byte is `least` or more: a refusal, or the position after it.
 fn read_effect(s: &[u8], at: usize, facts: u8, least: usize) -> Reading
     ensures { λ r. ⌜ EffectRead (now (s .entry)) facts least at r ⌝ }
 {
     if s.len() <= at {
-        return Reading::Refused(14, s.len());
+        return Reading::Refused(refusal(14, s.len()));
     }
     let b = s[at];
     if !is_literal(b, facts) {
-        return Reading::Refused(23, at);
+        return Reading::Refused(refusal(23, at));
     }
     if crate::wide(b) < least {
-        return Reading::Refused(24, at);
+        return Reading::Refused(refusal(24, at));
     }
     read_formula(s, at + 1, facts)
 }
@@ -37,8 +37,8 @@ fn read_effects(s: &[u8], at: usize, facts: u8, n: u8) -> Reading
     let mut least: usize = 0;
     while 0 < k {
         match read_effect(s, p, facts, least) {
-            Reading::Refused(number, place) => {
-                return Reading::Refused(number, place);
+            Reading::Refused(r) => {
+                return Reading::Refused(r);
             }
             Reading::Next(next) => {
                 least = crate::wide(s[p]) + 1;
@@ -51,21 +51,21 @@ fn read_effects(s: &[u8], at: usize, facts: u8, n: u8) -> Reading
 }
 
 // The effect count at `at`, and the effects after it.
-fn read_effect_list(s: &[u8], at: usize, facts: u8) -> Reading
-    ensures { λ r. ⌜ r ≡ nextOf (effectList version1 (now (s .entry)) facts at) ⌝ }
+fn read_effect_list(s: &[u8], limits: Limits, at: usize, facts: u8) -> Reading
+    ensures { λ r. ⌜ r ≡ nextOf (effectList limits (now (s .entry)) facts at) ⌝ }
 {
-    match count_at(s, at, 22, 0, Problem::MAX_EFFECTS) {
-        Counted::Refused(number, place) => Reading::Refused(number, place),
+    match count_at(s, at, 22, 0, limits.effects) {
+        Counted::Refused(r) => Reading::Refused(r),
         Counted::Count(n) => read_effects(s, at + 1, facts, n),
     }
 }
 
 // The action at `at`: a refusal, or the position after it.
-pub fn read_action(s: &[u8], at: usize, facts: u8) -> Reading
-    ensures { λ r. ⌜ r ≡ nextOf (action version1 (now (s .entry)) facts at) ⌝ }
+pub fn read_action(s: &[u8], limits: Limits, at: usize, facts: u8) -> Reading
+    ensures { λ r. ⌜ r ≡ nextOf (action limits (now (s .entry)) facts at) ⌝ }
 {
     match read_formula(s, at, facts) {
-        Reading::Refused(number, place) => Reading::Refused(number, place),
-        Reading::Next(next) => read_effect_list(s, next, facts),
+        Reading::Refused(r) => Reading::Refused(r),
+        Reading::Next(next) => read_effect_list(s, limits, next, facts),
     }
 }

@@ -12,6 +12,7 @@ ghost use Rattle.blocks.specs.Promise.{PlanPromised};
 use crate::header::check_header;
 use crate::problem::find_problem;
 use formula::Reading;
+use formula::refusal;
 use model::Limits;
 use model::Plan;
 use model::PlanAnswer;
@@ -25,7 +26,7 @@ fn check_steps(s: &[u8], at: usize, actions: u8) -> Reading
     let mut p = at;
     while p < s.len() {
         if actions <= s[p] {
-            return Reading::Refused(34, p);
+            return Reading::Refused(refusal(34, p));
         }
         p = p + 1;
     }
@@ -36,8 +37,8 @@ fn check_steps(s: &[u8], at: usize, actions: u8) -> Reading
 fn check_plan(s: &[u8], actions: u8) -> Reading
     ensures { λ r. ⌜ r ≡ nextOf (bytes.plan (now (s .entry)) actions 0) ⌝ }
 {
-    match check_header(s, 30, Plan::MAX_BYTES) {
-        Reading::Refused(number, place) => Reading::Refused(number, place),
+    match check_header(s, 30, Plan::MAX_BYTES, Limits::VERSION) {
+        Reading::Refused(r) => Reading::Refused(r),
         Reading::Next(at) => check_steps(s, at, actions),
     }
 }
@@ -45,39 +46,44 @@ fn check_plan(s: &[u8], actions: u8) -> Reading
 // A problem and a plan that were looked for in their blocks: the refusal, or where their parts stand.
 pub struct Task {
     pub refused: bool,
-    pub number: u8,
-    pub place: usize,
+    pub refusal: Refusal,
+    pub limits: Limits,
     pub problem: Problem,
     pub steps: usize,
 }
 
 // Reads a problem and then a plan for it.
 pub fn find_task(problem: &[u8], plan: &[u8]) -> Task
-    ensures { λ r. ⌜ FindsTask (now (problem .entry)) (now (plan .entry)) r ⌝ }
+    ensures { λ r. ⌜ FindsTask version1 (now (problem .entry)) (now (plan .entry)) r ⌝ }
 {
-    let found = find_problem(problem);
+    let limits = Limits::version1();
+    let found = find_problem(problem, limits);
     let parts = found.problem;
     if found.refused {
+        let refusal = found.refusal;
         return Task {
             refused: true,
-            number: found.number,
-            place: found.place,
+            refusal,
+            limits,
             problem: parts,
             steps: 0,
         };
     }
     match check_plan(plan, parts.actions) {
-        Reading::Refused(number, place) => Task {
+        Reading::Refused(refusal) => Task {
             refused: true,
-            number,
-            place,
+            refusal,
+            limits,
             problem: parts,
             steps: 0,
         },
         Reading::Next(end) => Task {
             refused: false,
-            number: 0,
-            place: 0,
+            refusal: Refusal {
+                number: 0,
+                place: 0,
+            },
+            limits,
             problem: parts,
             steps: end - Limits::HEAD_BYTES,
         },
@@ -91,10 +97,8 @@ pub fn read_plan(problem: &[u8], plan: &[u8]) -> PlanAnswer
 {
     let task = find_task(problem, plan);
     if task.refused {
-        return PlanAnswer::Refused(Refusal {
-            number: task.number,
-            place: task.place as u64,
-        });
+        let refusal = task.refusal;
+        return PlanAnswer::Refused(refusal);
     }
     PlanAnswer::Accepted { steps: task.steps }
 }

@@ -14,6 +14,8 @@ use crate::header::check_header;
 use crate::header::count_at;
 use formula::Reading;
 use formula::read_formula;
+use formula::refusal;
+use model::Limits;
 use model::Problem;
 use model::ProblemAnswer;
 use model::Refusal;
@@ -25,19 +27,19 @@ pub struct Actions {
 }
 
 // Reads m actions from `at` on.
-fn read_actions(s: &[u8], at: usize, facts: u8, m: usize) -> Actions
+fn read_actions(s: &[u8], limits: Limits, at: usize, facts: u8, m: usize) -> Actions
     requires { ⌜ m ≤ maxActions ⌝ }
-    ensures { λ r. ⌜ ActionsAt (now (s .entry)) facts m at r ⌝ }
+    ensures { λ r. ⌜ ActionsAt limits (now (s .entry)) facts m at r ⌝ }
 {
     let mut stand = [0usize; Problem::MAX_ACTIONS];
     let mut p = at;
     let mut i: usize = 0;
     while i < m {
         stand[i] = p;
-        match read_action(s, p, facts) {
-            Reading::Refused(number, place) => {
+        match read_action(s, limits, p, facts) {
+            Reading::Refused(r) => {
                 return Actions {
-                    reading: Reading::Refused(number, place),
+                    reading: Reading::Refused(r),
                     at: stand,
                 };
             }
@@ -56,13 +58,12 @@ fn read_actions(s: &[u8], at: usize, facts: u8, m: usize) -> Actions
 // A problem that was looked for in a block: its refusal, or its parts.
 pub struct Found {
     pub refused: bool,
-    pub number: u8,
-    pub place: usize,
+    pub refusal: Refusal,
     pub problem: Problem,
 }
 
-fn refused(number: u8, place: usize) -> Found
-    ensures { λ r. ⌜ (r .refused ≡ true) × (r .number ≡ number) × (r .place ≡ place) ⌝ }
+fn refused(refusal: Refusal) -> Found
+    ensures { λ r. ⌜ (r .refused ≡ true) × (r .refusal ≡ refusal) ⌝ }
 {
     let problem = Problem {
         facts: 0,
@@ -73,24 +74,31 @@ fn refused(number: u8, place: usize) -> Found
     };
     Found {
         refused: true,
-        number,
-        place,
+        refusal,
         problem,
     }
 }
 
 // The actions from `at` on, and the end of the block.
-fn find_actions(s: &[u8], initial: usize, goal: usize, at: usize, facts: u8, m: u8) -> Found
+fn find_actions(
+    s: &[u8],
+    limits: Limits,
+    initial: usize,
+    goal: usize,
+    at: usize,
+    facts: u8,
+    m: u8,
+) -> Found
     requires { ⌜ m ≤ maxActions ⌝ }
-    ensures { λ r. ⌜ Ends (now (s .entry)) initial goal at facts m r ⌝ }
+    ensures { λ r. ⌜ Ends limits (now (s .entry)) initial goal at facts m r ⌝ }
 {
-    let all = read_actions(s, at, facts, crate::wide(m));
+    let all = read_actions(s, limits, at, facts, crate::wide(m));
     let reading = all.reading;
     match reading {
-        Reading::Refused(number, place) => refused(number, place),
+        Reading::Refused(r) => refused(r),
         Reading::Next(end) => {
             if end < s.len() {
-                return refused(25, end);
+                return refused(refusal(25, end));
             }
             let action = all.at;
             let problem = Problem {
@@ -102,8 +110,10 @@ fn find_actions(s: &[u8], initial: usize, goal: usize, at: usize, facts: u8, m: 
             };
             Found {
                 refused: false,
-                number: 0,
-                place: 0,
+                refusal: Refusal {
+                    number: 0,
+                    place: 0,
+                },
                 problem,
             }
         }
@@ -111,39 +121,39 @@ fn find_actions(s: &[u8], initial: usize, goal: usize, at: usize, facts: u8, m: 
 }
 
 // The initial formula, the goal and the actions, from `at` on.
-fn find_parts(s: &[u8], at: usize, facts: u8, m: u8) -> Found
-    requires { ⌜ (facts ≤ version1 .facts) × (m ≤ maxActions) ⌝ }
-    ensures { λ r. ⌜ Finds (now (s .entry)) (bytes.parts version1 (now (s .entry)) facts m at) r ⌝ }
+fn find_parts(s: &[u8], limits: Limits, at: usize, facts: u8, m: u8) -> Found
+    requires { ⌜ (facts ≤ limits .facts) × (m ≤ maxActions) ⌝ }
+    ensures { λ r. ⌜ Finds limits (now (s .entry)) (bytes.parts limits (now (s .entry)) facts m at) r ⌝ }
 {
     match read_formula(s, at, facts) {
-        Reading::Refused(number, place) => refused(number, place),
+        Reading::Refused(r) => refused(r),
         Reading::Next(goal) => match read_formula(s, goal, facts) {
-            Reading::Refused(number, place) => refused(number, place),
-            Reading::Next(next) => find_actions(s, at, goal, next, facts, m),
+            Reading::Refused(r) => refused(r),
+            Reading::Next(next) => find_actions(s, limits, at, goal, next, facts, m),
         },
     }
 }
 
 // The counts from `at` on, and what follows them.
-fn find_body(s: &[u8], at: usize) -> Found
-    ensures { λ r. ⌜ Finds (now (s .entry)) (bytes.body version1 (now (s .entry)) at) r ⌝ }
+fn find_body(s: &[u8], limits: Limits, at: usize) -> Found
+    ensures { λ r. ⌜ Finds limits (now (s .entry)) (bytes.body limits (now (s .entry)) at) r ⌝ }
 {
-    match count_at(s, at, 15, 1, Problem::MAX_FACTS) {
-        Counted::Refused(number, place) => refused(number, place),
+    match count_at(s, at, 15, 1, limits.facts) {
+        Counted::Refused(r) => refused(r),
         Counted::Count(facts) => match count_at(s, at + 1, 16, 0, Problem::MAX_ACTIONS as u8) {
-            Counted::Refused(number, place) => refused(number, place),
-            Counted::Count(m) => find_parts(s, at + 2, facts, m),
+            Counted::Refused(r) => refused(r),
+            Counted::Count(m) => find_parts(s, limits, at + 2, facts, m),
         },
     }
 }
 
 // The problem in a block: its refusal, or where its parts stand.
-pub fn find_problem(s: &[u8]) -> Found
-    ensures { λ r. ⌜ Finds (now (s .entry)) (bytes.problem version1 (now (s .entry)) 0) r ⌝ }
+pub fn find_problem(s: &[u8], limits: Limits) -> Found
+    ensures { λ r. ⌜ Finds limits (now (s .entry)) (bytes.problem limits (now (s .entry)) 0) r ⌝ }
 {
-    match check_header(s, 10, Problem::MAX_BYTES) {
-        Reading::Refused(number, place) => refused(number, place),
-        Reading::Next(at) => find_body(s, at),
+    match check_header(s, 10, Problem::MAX_BYTES, limits.version) {
+        Reading::Refused(r) => refused(r),
+        Reading::Next(at) => find_body(s, limits, at),
     }
 }
 
@@ -152,12 +162,10 @@ pub fn read_problem(s: &[u8]) -> ProblemAnswer
     ensures { λ r. ⌜ problemAnswer r ≡ readProblem version1 (now (s .entry)) ⌝ }
     ensures { λ r. ⌜ ProblemPromised (now (s .entry)) (problemAnswer r) ⌝ }
 {
-    let found = find_problem(s);
+    let found = find_problem(s, Limits::version1());
     if found.refused {
-        return ProblemAnswer::Refused(Refusal {
-            number: found.number,
-            place: found.place as u64,
-        });
+        let refusal = found.refusal;
+        return ProblemAnswer::Refused(refusal);
     }
     let problem = found.problem;
     ProblemAnswer::Accepted {

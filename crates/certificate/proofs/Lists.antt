@@ -9,6 +9,7 @@ use lib.Seq.{sets, sets-eq, length-sets}
 use borrow.Author.Tests.{lt-ltb, le-ltb}
 use Rattle.model.specs.Limits.{version1}
 use Rattle.model.specs.Answer as Answer
+use Rattle.model.specs.Answers.{refusal}
 use Rattle.model.specs.Answer.{Answer, refused, answered}
 use Rattle.model.specs.Case.{Task}
 use Rattle.model.specs.Walk.{Line, Walked, covered, failed, visits, walked, judged, found}
@@ -102,19 +103,19 @@ unfolding writeList written listBytes
 left-answered s t g before after ls e h = rw e (refl, h)
 
 pub list-refused :
-    (s t : List ℕ) (r : blocks.Task) → FindsTask s t r → r .refused ≡ true → (g : ℕ) (before : List ℕ) →
-    Left s t g before (refused (r .number) (r .place)) before
+    (s t : List ℕ) (r : blocks.Task) → FindsTask version1 s t r → r .refused ≡ true → (g : ℕ) (before : List ℕ) →
+    Left s t g before (refusal (r .refusal)) before
 unfolding listFor Answer._>>=_
-list-refused s t r f h g before = left-refused s t g before (r .number) (r .place) (rw (f .refusal h))
+list-refused s t r f h g before = left-refused s t g before (r .refusal .number) (r .refusal .place) (rw (f .refusal h))
 
-module _ (s t : List ℕ) (r : blocks.Task) (F : StandsFound s t r) (g : ℕ) (before steps : List ℕ)
+module _ (s t : List ℕ) (r : blocks.Task) (F : StandsFound version1 s t r) (g : ℕ) (before steps : List ℕ)
     (own : steps ≡ take (length t - headBytes) (drop headBytes t)) (w : Ending) (room : List ℕ) (to : ℕ) (full : List ℕ)
     (W : WalksTask s steps (r .problem) g w room to full) where
   abbrev T : Task
   T = F .task
 
   n≤w : T .facts ≤ T .width
-  n≤w = omega (arith, F .stands .most, F .stands .width)
+  n≤w = omega (arith, F .few, F .width)
 
   ended : endingOf w ≡ cut g (walked T)
   ended = W .is T (parts-of s t r F steps own) .ending

@@ -52,7 +52,8 @@ pub fn write_list(problem: &[u8], plan: &[u8], grant: u64, out: &mut [u8]) -> Wr
 {
     let task = find_task(problem, plan);
     if task.refused {
-        return refusal(task.number, task.place as u64);
+        let refusal = task.refusal;
+        return WriteAnswer::Refused(refusal);
     }
     let parts = task.problem;
     let head = Limits::HEAD_BYTES;

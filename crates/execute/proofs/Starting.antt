@@ -14,7 +14,7 @@ use Rattle.model.specs.Answer as Answer
 use Rattle.model.specs.Answer.{refused, answered}
 use Rattle.model.specs.Case.{caseOf, runOf}
 use Rattle.model.specs.Operations.{isState, runState}
-use Rattle.model.specs.Answers.{outcome}
+use Rattle.model.specs.Answers.{refusal, outcome}
 use Rattle.model.specs.declared.Outcome.{Outcome}
 use Rattle.model.specs.Planes.{Table}
 use Rattle.model.proofs.Laws.Splitting.{length-case, case-known, case-past}
@@ -58,15 +58,15 @@ state-fixed s n c d rest h none x e =
 -- ---- the answers
 
 pub run-refused :
-    (problem plan : List ℕ) (r : Task) → FindsTask problem plan r → r .refused ≡ true → (s : ℕ) →
-    refused (r .number) (r .place) ≡ runState version1 problem plan s
+    (problem plan : List ℕ) (r : Task) → FindsTask version1 problem plan r → r .refused ≡ true → (s : ℕ) →
+    refusal (r .refusal) ≡ runState version1 problem plan s
 unfolding runState Answer._>>=_
 run-refused problem plan r f h s = rw (f .refusal h)
 
-module _ (problem plan : List ℕ) (r : Task) (o : StandsFound problem plan r) where
+module _ (problem plan : List ℕ) (r : Task) (o : StandsFound version1 problem plan r) where
   -- the count of facts as the code's wider number
   pub few-facts : (n : ℕ) → n ≡ r .problem .facts → n ≤ 48
-  few-facts n e = omega (arith, o .facts, o .stands .most)
+  few-facts n e = omega (arith, o .facts, o .few)
 
   module _ (s n : ℕ) (e : n ≡ r .problem .facts) (d : StateTable) (D : HoldsState s n d) where
     same-facts : n ≡ o .task .facts
@@ -75,7 +75,7 @@ module _ (problem plan : List ℕ) (r : Task) (o : StandsFound problem plan r) w
     state-is : d .valid ≡ isState (o .task) s
     unfolding isState
     state-is =
-        D .is ∙ rw (o .stands .width)
+        D .is ∙ rw (o .width)
         (ap (λ (m : ℕ). ltb s (2 ^ version1 .width) && eqb (s % 2 ^ (version1 .width - m)) 0) same-facts)
 
     pub run-no-state : d .valid ≡ false → refused 40 0 ≡ runState version1 problem plan s
@@ -89,7 +89,7 @@ module _ (problem plan : List ℕ) (r : Task) (o : StandsFound problem plan r) w
           let T = o .task in
           let t = subst (λ (m : ℕ). Table (d .table) (λ j. caseOf 48 m m s)) same-facts (D .table h) in
           R .is (r .problem .initial) T (rw (own, part-from) (o .stands)) (λ j. caseOf 48 (T .facts) (T .facts) s) (λ j l. length-case 48 (T .facts) (T .facts) s) t ∙
-          rw (o .stands .width) (run-full 48 (T .facts) (T .goal) (T .plan) s)
+          rw (o .width) (run-full 48 (T .facts) (T .goal) (T .plan) s)
 
       pub run-ended : answered (outcome u) ≡ runState version1 problem plan s
       unfolding runState Answer._>>=_

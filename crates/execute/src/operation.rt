@@ -18,10 +18,8 @@ pub fn run(problem: &[u8], plan: &[u8], state: u64) -> RunAnswer
 {
     let task = find_task(problem, plan);
     if task.refused {
-        return RunAnswer::Refused(Refusal {
-            number: task.number,
-            place: task.place as u64,
-        });
+        let refusal = task.refusal;
+        return RunAnswer::Refused(refusal);
     }
     let parts = task.problem;
     let start = state_table(state, crate::wide(parts.facts));

@@ -15,7 +15,8 @@ use Rattle.model.specs.Answer as Answer
 use Rattle.model.specs.Answer.{Answer, refused, answered}
 use Rattle.model.specs.Read.{got, andThen, _>>_, done, require, answerOf, headBytes, header}
 use Rattle.model.specs.Operations.{followList}
-use Rattle.model.specs.Answers.{followAnswer}
+use Rattle.model.specs.Answers.{refusal, followAnswer}
+use Rattle.model.specs.declared.Refusal.{Refusal}
 use Rattle.model.specs.declared.FollowAnswer.{FollowAnswer}
 use Rattle.model.specs.declared.FollowAnswer.the-variants.{Refused as FollowRefused, Passes}
 use Rattle.model.specs.declared.Problem.{Problem}
@@ -35,8 +36,8 @@ use Rattle.formula.specs.declared.read.Reading.the-variants.{Refused, Next as R
 use Rattle.formula.proofs.Readers.{next-got, next-refused}
 use Rattle.blocks.specs.declared.plan.Task as blocks
 use Rattle.blocks.specs.Parts.{FindsTask}
-use Rattle.blocks.specs.Standing.{TaskStands, StandsFound}
-use Rattle.blocks.proofs.Tasks.{header-length}
+use Rattle.blocks.specs.Standing.{StandsFound}
+use Rattle.blocks.proofs.Headers.{header-got}
 use Rattle.table.specs.Tables.{NoneFixed}
 use Rattle.table.specs.Cases.{SetsCase}
 use Rattle.execute.specs.declared.cases.Looks.{Looks}
@@ -49,7 +50,7 @@ use Rattle.follow.specs.declared.Before.{Before}
 use Rattle.follow.specs.declared.Followed.{Followed}
 use Rattle.follow.specs.declared.Followed.the-variants.{Fault, Next}
 use Rattle.lines.specs.Lines.{lineNumber, Reads, formFault, Found, ChecksForm}
-use Rattle.follow.specs.Follows.{Lanes, Claims, Within, LineIs, NextWithin, FollowsLine, FollowsLines, bodyAnswer, FollowsBody}
+use Rattle.follow.specs.Follows.{Lanes, Stands, Claims, Within, LineIs, NextWithin, FollowsLine, FollowsLines, bodyAnswer, FollowsBody}
 
 -- ---- a claim
 
@@ -67,11 +68,11 @@ look-open a b e f = rw (e, f)
 module _ (problem steps actions : List ℕ) (at : Parts) (kind : ℕ) (c : List ℕ) (r : Looks)
     (L : LooksAtCases problem steps actions (at .initial) (at .goal) c r) where
   look-is :
-      (T : Task) → TaskStands problem steps actions (at .initial) (at .goal) T → (k v : ℕ) → Lanes c T k v →
+      (T : Task) → Stands problem steps actions (at .initial) (at .goal) T → (k v : ℕ) → Lanes c T k v →
       lookBits (laneBit 0 (r .empty)) (laneBit 0 (r .carries)) ≡ lookAt T k v
   unfolding lookAt
   look-is T S k v t =
-      L .is T S _ (λ j l. length-case (version1 .width) (T .facts) k v) t 0 (omega arith) ∙
+      L .is T (S .stands) _ (λ j l. length-case (version1 .width) (T .facts) k v) t 0 (omega arith) ∙
       ap (λ (w : ℕ). lookOf (eval three (caseOf w (T .facts) k v) (T .initial)) (run three (T .facts) (T .goal) (T .plan) 0 (caseOf w (T .facts) k v)))
       (sym (S .width))
 
@@ -182,7 +183,7 @@ module _ (problem steps actions : List ℕ) (at : Parts) (list : List ℕ) (i : 
     moved T m t = D .is (T .facts) (omega (arith, W .k)) (omega (arith, fits)) t
 
     told :
-        (T : Task) → TaskStands problem steps actions (at .initial) (at .goal) T → at .facts ≡ T .facts → Lanes c T (b .k) (b .value) →
+        (T : Task) → Stands problem steps actions (at .initial) (at .goal) T → at .facts ≡ T .facts → Lanes c T (b .k) (b .value) →
         y ≡ claims (r .kind) (lookAt T (r .k) (r .value))
     told T S m t = C .is T S k (r .value) (moved T m t) ∙ ap (λ (z : ℕ). claims (r .kind) (lookAt T z (r .value))) k-as
 
@@ -262,7 +263,7 @@ module _ (w : ℕ) (look : ℕ → ℕ → model.Look) (n : ℕ) (list : List �
 -- i of m lines are followed, the last of them b, whose case the table c has: what is left answers for all
 pub record Followed-so-far (problem steps actions : List ℕ) (at : Parts) (list : List ℕ) (m : ℕ) (c : List ℕ) (b : Before) (i : ℕ) : Type 0 where
   pub same :
-      (T : Task) → TaskStands problem steps actions (at .initial) (at .goal) T → at .facts ≡ T .facts →
+      (T : Task) → Stands problem steps actions (at .initial) (at .goal) T → at .facts ≡ T .facts →
       (follow (version1 .width) (lookAt T) (at .facts) (linesFrom version1 list m 5) 0 0 ≡
       follow (version1 .width) (lookAt T) (at .facts) (linesFrom version1 list (m - i) (5 + 8 * i)) i (b .end)) ×
       Lanes c T (b .k) (b .value)
@@ -358,16 +359,16 @@ module _ (problem steps : List ℕ) (parts : Problem) (list : List ℕ) where
   body-lines r h y = record { is = λ T S g. y .is T S g ∙ rw (eq-eqb ((length list - 5) % 8) 0 h) (over T S g) }
     where
       over :
-          (T : Task) → TaskStands problem steps (parts .action) (parts .initial) (parts .goal) T → parts .facts ≡ T .facts →
+          (T : Task) → Stands problem steps (parts .action) (parts .initial) (parts .goal) T → parts .facts ≡ T .facts →
           follow (version1 .width) (lookAt T) (parts .facts) (linesFrom version1 list ((length list - 5) / 8) 5) 0 0 ≡
           follow (T .width) (lookAt T) (T .facts) (linesFrom version1 list ((length list - 5) / 8) 5) 0 0
       over T S = ap₂ (λ (w n : ℕ). follow w (lookAt T) n (linesFrom version1 list ((length list - 5) / 8) 5) 0 0) (sym (S .width))
 
 -- ---- the operation
 
-list-header-refused : (list : List ℕ) (n q : ℕ) → Refused n q ≡ nextOf (header list 60 65533 1 0) → listOf version1 list ≡ refused n q
+list-header-refused : (list : List ℕ) (r : Refusal) → Refused r ≡ nextOf (header list 60 65533 1 0) → listOf version1 list ≡ refusal r
 unfolding listOf caseList _>>_ andThen answerOf
-list-header-refused list n q e = rw (next-refused (header list 60 65533 1 0) n q (sym e))
+list-header-refused list r e = rw (next-refused (header list 60 65533 1 0) r (sym e))
 
 tested-list :
     (b : Bool) (n q : ℕ) (ls : List model.Line) →
@@ -387,10 +388,10 @@ list-body list q u e =
 pub header-five : (list : List ℕ) (q : ℕ) → Reading-Next q ≡ nextOf (header list 60 65533 1 0) → 5 ≤ length list
 header-five list q e =
     let g = next-got (header list 60 65533 1 0) q (sym e) in
-    header-length list 60 65533 q (g .value) (g .is) .0
+    header-got list 60 65533 1 q (g .value) (g .is) .0
 
 pub follow-refused :
-    (s t list : List ℕ) (r : blocks.Task) → FindsTask s t r → r .refused ≡ true → refused (r .number) (r .place) ≡ followList version1 s t list
+    (s t list : List ℕ) (r : blocks.Task) → FindsTask version1 s t r → r .refused ≡ true → refusal (r .refusal) ≡ followList version1 s t list
 unfolding followList Answer._>>=_
 follow-refused s t list r f h = rw (f .refusal h)
 
@@ -398,14 +399,14 @@ follow-refused s t list r f h = rw (f .refusal h)
 part-from : (plan : List ℕ) → take (length plan - headBytes) (drop headBytes plan) ≡ drop headBytes plan
 part-from plan = take-all (length plan - headBytes) (drop headBytes plan) (omega (arith, length-drop headBytes plan))
 
-module _ (problem plan : List ℕ) (r : blocks.Task) (o : StandsFound problem plan r) where
+module _ (problem plan : List ℕ) (r : blocks.Task) (o : StandsFound version1 problem plan r) where
   pub facts-most : r .problem .facts ≤ 48
-  facts-most = omega (arith, o .facts, o .stands .most)
+  facts-most = omega (arith, o .facts, o .few)
 
-module _ (problem plan list : List ℕ) (r : blocks.Task) (o : StandsFound problem plan r) where
-  pub follow-header : (n q : ℕ) → Refused n q ≡ nextOf (header list 60 65533 1 0) → refused n q ≡ followList version1 problem plan list
+module _ (problem plan list : List ℕ) (r : blocks.Task) (o : StandsFound version1 problem plan r) where
+  pub follow-header : (y : Refusal) → Refused y ≡ nextOf (header list 60 65533 1 0) → refusal y ≡ followList version1 problem plan list
   unfolding Answer._>>=_
-  follow-header n q e = sym (follow-is version1 problem plan (o .task) (o .read) list ∙ rw (list-header-refused list n q e))
+  follow-header y e = sym (follow-is version1 problem plan (o .task) (o .read) list ∙ rw (list-header-refused list y e))
 
   body-is : (q : ℕ) → Reading-Next q ≡ nextOf (header list 60 65533 1 0) → followList version1 problem plan list ≡ bodyAnswer (o .task) list
   unfolding Answer._>>=_
@@ -428,4 +429,4 @@ module _ (problem plan list : List ℕ) (r : blocks.Task) (o : StandsFound probl
       (u : FollowAnswer) (q : ℕ) → Reading-Next q ≡ nextOf (header list 60 65533 1 0) → (steps : List ℕ) →
       steps ≡ take (length plan - headBytes) (drop headBytes plan) → FollowsBody problem steps (r .problem) list u →
       followAnswer u ≡ followList version1 problem plan list
-  follow-body u q e steps p y = y .is (o .task) (rw (p, part-from plan) (o .stands)) (o .facts) ∙ sym (body-is q e)
+  follow-body u q e steps p y = y .is (o .task) (record { width = o .width; stands = rw (p, part-from plan) (o .stands) }) (o .facts) ∙ sym (body-is q e)

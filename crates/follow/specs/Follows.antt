@@ -26,10 +26,15 @@ use Rattle.lines.specs.Lines.{lineNumber}
 abbrev pub Lanes : List ℕ → Task → ℕ → ℕ → Type 0
 Lanes c T k v = Table c (λ j. caseOf (version1 .width) (T .facts) k v)
 
+-- the task T stands so, and its states are as wide as the code has them
+pub record Stands (problem steps actions : List ℕ) (initial goal : ℕ) (T : Task) : Type 0 where
+  pub width : T .width ≡ version1 .width
+  pub stands : TaskStands problem steps actions initial goal T
+
 -- whether a claim of that kind is so, of the case in the table
 pub record Claims (problem steps actions : List ℕ) (at : Parts) (kind : ℕ) (c : List ℕ) (r : Bool) : Type 0 where
   pub is :
-      (T : Task) → TaskStands problem steps actions (at .initial) (at .goal) T → (k v : ℕ) → Lanes c T k v →
+      (T : Task) → Stands problem steps actions (at .initial) (at .goal) T → (k v : ℕ) → Lanes c T k v →
       r ≡ claims kind (lookAt T k v)
 
 -- a line before, over n facts
@@ -53,7 +58,7 @@ NextWithin n (Next b) = Within n b
 -- from the table c, which has the case of the line before, to d
 pub record FollowsLine (problem steps actions : List ℕ) (at : Parts) (list : List ℕ) (i : ℕ) (b : Before) (c : List ℕ) (r : Followed) (d : List ℕ) : Type 0 where
   pub is :
-      (T : Task) → TaskStands problem steps actions (at .initial) (at .goal) T → at .facts ≡ T .facts → Lanes c T (b .k) (b .value) →
+      (T : Task) → Stands problem steps actions (at .initial) (at .goal) T → at .facts ≡ T .facts → Lanes c T (b .k) (b .value) →
       LineIs list (at .facts) i (b .end) T r d
   pub within : NextWithin (at .facts) r
   pub size : length d ≡ 256
@@ -61,7 +66,7 @@ pub record FollowsLine (problem steps actions : List ℕ) (at : Parts) (list : L
 -- all lines, so many
 pub record FollowsLines (problem steps actions : List ℕ) (at : Parts) (list : List ℕ) (m : ℕ) (r : FollowAnswer) : Type 0 where
   pub is :
-      (T : Task) → TaskStands problem steps actions (at .initial) (at .goal) T → at .facts ≡ T .facts →
+      (T : Task) → Stands problem steps actions (at .initial) (at .goal) T → at .facts ≡ T .facts →
       followAnswer r ≡ follow (version1 .width) (lookAt T) (at .facts) (linesFrom version1 list m 5) 0 0
 
 -- the body of a list block: 64, or its lines
@@ -73,5 +78,5 @@ bodyAnswer T list =
 
 pub record FollowsBody (problem steps : List ℕ) (parts : Problem) (list : List ℕ) (r : FollowAnswer) : Type 0 where
   pub is :
-      (T : Task) → TaskStands problem steps (parts .action) (parts .initial) (parts .goal) T → parts .facts ≡ T .facts →
+      (T : Task) → Stands problem steps (parts .action) (parts .initial) (parts .goal) T → parts .facts ≡ T .facts →
       followAnswer r ≡ bodyAnswer T list

@@ -183,16 +183,11 @@ pub fn follow_list(problem: &[u8], plan: &[u8], list: &[u8]) -> FollowAnswer
 {
     let task = find_task(problem, plan);
     if task.refused {
-        return FollowAnswer::Refused(Refusal {
-            number: task.number,
-            place: task.place as u64,
-        });
+        let refusal = task.refusal;
+        return FollowAnswer::Refused(refusal);
     }
-    match check_header(list, 60, CaseList::MAX_BYTES) {
-        Reading::Refused(number, place) => FollowAnswer::Refused(Refusal {
-            number,
-            place: place as u64,
-        }),
+    match check_header(list, 60, CaseList::MAX_BYTES, Limits::VERSION) {
+        Reading::Refused(r) => FollowAnswer::Refused(r),
         Reading::Next(_) => {
             let from = Limits::HEAD_BYTES;
             let parts = task.problem;

@@ -1,15 +1,19 @@
 -- What a formula begins with: the cases of `head` under the tests that lead to them, and back. Assumes nothing.
 use mathlib.Core.Path.{_≡_, refl, sym, ap, _∙_}
-use mathlib.Core.Logic.{_⊎_, inl, inr, ⊎-elim}
+use mathlib.Core.Logic.{_⊎_, inl, inr}
 use mathlib.Core.Bool.{Bool, true, false, cond, _&&_, _||_, not}
 use mathlib.Core.List.{List}
 use Prim.Native.Nat.{ℕ, _+_, _-_, _<_, _≤_}
 use native.Mathlib.Omega.{arith}
 use lib.ListN.{getD}
 use lib.Dec.{eqb, ltb}
-use borrow.Author.Tests.{lt-ltb, le-ltb, le-leb, lt-leb, eq-eqb, ne-eqb, ltb-true, ltb-false, eqb-true, eqb-false}
+use borrow.Author.Tests.{lt-ltb, le-ltb, le-leb, lt-leb, eq-eqb, ne-eqb, ltb-true, ltb-false, eqb-false}
 use Rattle.model.specs.Read.{reject, got, andThen, done, position, require, byte, _>>=_, _>>_}
-use Rattle.model.specs.FormulaBytes.{isLiteral, literalOf, Group, conjunction, disjunction, mark, Head, leaf, group, groupHead, headFrom, head}
+use Rattle.model.specs.FormulaBytes.{isLiteral, literalOf, Group, conjunction, disjunction, Head, leaf, group, groupHead, headFrom, head}
+use Rattle.model.specs.declared.Refusal.{Refusal}
+use Rattle.formula.specs.Readings.{refusalAt}
+use Rattle.formula.specs.Heads.{Headed}
+use Rattle.formula.specs.declared.read.Head.the-variants.{Refused}
 use Rattle.formula.proofs.Readers.{then-got, require-got, byte-got}
 
 and-false : (t : Bool) → t && false ≡ false
@@ -34,15 +38,6 @@ module _ (facts b : ℕ) where
       go true e = simp (le-ltb b facts h, le-leb 64 b k, lt-ltb b (64 + facts) (omega (arith, ltb-true (b - 64) facts e)))
       go false e = simp (le-ltb b facts h, le-leb 64 b k, le-ltb b (64 + facts) (omega (arith, ltb-false (b - 64) facts e)))
 
-  pub literal-below : facts ≤ 64 → isLiteral facts b ≡ true → b < 128
-  unfolding isLiteral
-  literal-below f h = go (ltb b facts) refl (ltb b (64 + facts)) refl
-    where
-      go : (t : Bool) → ltb b facts ≡ t → (u : Bool) → ltb b (64 + facts) ≡ u → b < 128
-      go true e u d = omega (arith, ltb-true b facts e)
-      go false e true d = omega (arith, ltb-true b (64 + facts) d)
-      go false e false d = let w = simp (e, d, and-false) at h in let z : _≡_ {A = ℕ} 0 1 = cc in absurd (omega arith)
-
 -- the test of a mark
 abbrev marks : ℕ → ℕ → Bool
 marks b parent = (eqb b 0x80 || eqb b 0x81) && not (eqb b parent)
@@ -65,6 +60,9 @@ module _ (b parent : ℕ) where
       go false e = let d = eqb-false b 0x80 e in simp (e, eq-eqb b 0x81 (omega arith), ne-eqb b parent n)
 
 module _ (s : List ℕ) (end facts left parent p : ℕ) where
+  pub head-refuses : {n q : ℕ} {r : Refusal} → r ≡ refusalAt n q → reject n q ≡ head s end facts left parent p → Headed s end facts left parent p (Refused r)
+  head-refuses e h = record { is = rw e h; placed = tt }
+
   pub head-end : end ≤ p → reject 20 end ≡ head s end facts left parent p
   unfolding head _>>=_ andThen position byte
   head-end h = simp (le-ltb p end h)
@@ -123,21 +121,9 @@ module _ (s : List ℕ) (end facts left parent p : ℕ) where
         head-any d e b = rw (ne-eqb (getD s p 0) 0x80 b) at (head-opens d e)
 
 -- back: what is known where a head was read
-mark-of : (b parent : ℕ) → marks b parent ≡ true → ((b ≡ 0x80) ⊎ (b ≡ 0x81)) × (b ≡ parent → ⊥)
-mark-of b parent h = (go (eqb b 0x80) refl (eqb b 0x81) refl, λ q. again (mark-repeated b parent q))
-  where
-    go : (t : Bool) → eqb b 0x80 ≡ t → (u : Bool) → eqb b 0x81 ≡ u → (b ≡ 0x80) ⊎ (b ≡ 0x81)
-    go true e u d = inl (eqb-true b 0x80 e)
-    go false e true d = inr (eqb-true b 0x81 d)
-    go false e false d = let w = simp (e, d) at h in let z : _≡_ {A = ℕ} 0 1 = cc in absurd (omega arith)
-
-    again : marks b parent ≡ false → ⊥
-    again e = let z : _≡_ {A = ℕ} 0 1 = cc in absurd (omega arith)
-
 module _ (s : List ℕ) (end facts left parent p : ℕ) where
   pub record Leaf (h : Head) (q : ℕ) : Type 0 where
     pub inside : p < end
-    pub declared : isLiteral facts (getD s p 0) ≡ true
     pub is : h ≡ leaf (literalOf (getD s p 0))
     pub next : q ≡ p + 1
 
@@ -145,8 +131,6 @@ module _ (s : List ℕ) (end facts left parent p : ℕ) where
     pub kind : Group
     pub inside : p + 1 < end
     pub nests : 0 < left
-    pub marked : getD s p 0 ≡ mark kind
-    pub other : mark kind ≡ parent → ⊥
     pub is : h ≡ group kind (getD s (p + 1) 0)
     pub next : q ≡ p + 2
 
@@ -162,21 +146,13 @@ module _ (s : List ℕ) (end facts left parent p : ℕ) where
       let at : b .at ≡ p + 1 = omega arith in
       let m : c .value ≡ getD s (p + 1) 0 = c′ .1 ∙ ap (λ (x : ℕ). getD s x 0) at in
       let z : c .at ≡ q = cc in
-      let new = mark-of (getD s p 0) parent (a′ .0) in
-      let opens : (k : Group) → getD s p 0 ≡ mark k → h ≡ group k (getD s (p + 1) 0) → Opens h q =
-      λ k i g.
       record {
-        kind = k;
+        kind = cond (eqb (getD s p 0) 0x80) conjunction disjunction;
         inside = omega arith;
         nests = ltb-true 0 left (b′ .0);
-        marked = i;
-        other = λ o. new .1 (i ∙ o);
-        is = g;
+        is = cc;
         next = omega (arith, c′);
-      } in
-      ⊎-elim (λ k. opens conjunction k (cc (eq-eqb (getD s p 0) 0x80 k)))
-      (λ k. opens disjunction k (cc (ne-eqb (getD s p 0) 0x80 (λ j. omega arith))))
-      (new .0)
+      }
 
   pub head-got : (h : Head) (q : ℕ) → head s end facts left parent p ≡ got h q → Leaf h q ⊎ Opens h q
   unfolding head _>>=_ andThen position
@@ -188,5 +164,5 @@ module _ (s : List ℕ) (end facts left parent p : ℕ) where
       go : (t : Bool) → isLiteral facts (getD s p 0) ≡ t → p < end → Leaf h q ⊎ Opens h q
       go true l i =
           let d = head-literal s end facts left parent p i l in
-          inl (record { inside = i; declared = l; is = cc; next = cc })
+          inl (record { inside = i; is = cc; next = cc })
       go false l i = inr (group-got h q (sym (head-group s end facts left parent p i l) ∙ e))

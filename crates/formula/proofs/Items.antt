@@ -1,16 +1,16 @@
 -- One formula by its head, and the members of a group one after the other, in both directions. Assumes nothing.
 use mathlib.Core.Path.{_≡_, refl, sym, ap, _∙_}
 use mathlib.Core.Logic.{_⊎_, inl, inr, ⊎-elim}
-use mathlib.Core.Bool.{true}
 use mathlib.Core.List.{List}
 use Prim.Native.Nat.{ℕ, zero, suc, _+_, _-_, _<_}
 use native.Mathlib.Omega.{arith}
 use lib.ListN.{getD}
 use Rattle.model.specs.Formula.{Formula, Formulas, lit, none, more}
 use Rattle.model.specs.Read.{reject, got, Reader, andThen, done, _>>=_}
-use Rattle.model.specs.FormulaBytes.{isLiteral, literalOf, Group, conjunction, disjunction, mark, grouped, Head, leaf, group, head, members, whole, item}
+use Rattle.model.specs.FormulaBytes.{literalOf, Group, conjunction, disjunction, mark, grouped, Head, leaf, group, head, members, whole, item}
+use Rattle.model.specs.declared.Refusal.{Refusal}
 use Rattle.formula.specs.Heads.{Headed}
-use Rattle.formula.specs.Readings.{nextOf}
+use Rattle.formula.specs.Readings.{rejected, nextOf}
 use Rattle.formula.specs.declared.read.Reading.the-variants.{Refused, Next}
 use Rattle.formula.specs.declared.read.Head as read
 use Rattle.formula.specs.declared.read.Head.the-variants as heads
@@ -34,9 +34,9 @@ module _ (s : List ℕ) (end facts : ℕ) where
   item-by (suc left) parent p = refl
 
   module _ (left parent p : ℕ) where
-    pub item-refused : (n q : ℕ) → head s end facts left parent p ≡ reject n q → item s end facts left parent p ≡ reject n q
+    pub item-refused : (r : Refusal) → head s end facts left parent p ≡ rejected r → item s end facts left parent p ≡ rejected r
     unfolding andThen
-    item-refused n q h = rw (item-by, h)
+    item-refused r h = rw (item-by, h)
 
     pub item-leaf : (l : _) (q : ℕ) → head s end facts left parent p ≡ got (leaf l) q → item s end facts left parent p ≡ got (lit l) q
     unfolding andThen whole done
@@ -67,9 +67,9 @@ module _ (s : List ℕ) (end facts : ℕ) where
     row-ends n p h = got-next _ none p (members-none n p h)
 
     module _ (n p : ℕ) (h : n ≡ 0 → ⊥) where
-      pub row-refuses : (k q : ℕ) → nextOf (one p) ≡ Refused k q → nextOf (members s end facts one n p) ≡ Refused k q
+      pub row-refuses : (r : Refusal) → nextOf (one p) ≡ Refused r → nextOf (members s end facts one n p) ≡ Refused r
       unfolding andThen nextOf
-      row-refuses k q e = rw (members-more n p h, next-refused (one p) k q e)
+      row-refuses r e = rw (members-more n p h, next-refused (one p) r e)
 
       pub row-goes-on : (q : ℕ) → nextOf (one p) ≡ Next q → nextOf (members s end facts one n p) ≡ nextOf (members s end facts one (n - 1) q)
       unfolding andThen
@@ -95,8 +95,6 @@ module _ (s : List ℕ) (end facts : ℕ) where
   module _ (left parent p : ℕ) (f : Formula) (q : ℕ) where
     pub record IsLiteral : Type 0 where
       pub inside : p < end
-      pub declared : isLiteral facts (getD s p 0) ≡ true
-      pub is : f ≡ lit (literalOf (getD s p 0))
       pub next : q ≡ p + 1
 
     pub record IsGroup : Type 0 where
@@ -104,9 +102,6 @@ module _ (s : List ℕ) (end facts : ℕ) where
       pub rest : Formulas
       pub inside : p + 1 < end
       pub nests : 0 < left
-      pub marked : getD s p 0 ≡ mark kind
-      pub other : mark kind ≡ parent → ⊥
-      pub is : f ≡ grouped kind rest
       pub read : members s end facts (item s end facts (left - 1) (mark kind)) (getD s (p + 1) 0) (p + 2) ≡ got rest q
 
     pub item-got : item s end facts left parent p ≡ got f q → IsLiteral ⊎ IsGroup
@@ -118,7 +113,7 @@ module _ (s : List ℕ) (end facts : ℕ) where
         leaf-case : (h : Head) (r : ℕ) → head s end facts left parent p ≡ got h r → Leaf s end facts left parent p h r → IsLiteral
         leaf-case h r g l =
             let i = item-leaf left parent p (literalOf (getD s p 0)) (p + 1) (cc) in
-            record { inside = l .inside; declared = l .declared; is = cc; next = cc }
+            record { inside = l .inside; next = cc }
 
         group-case : (h : Head) (r : ℕ) → head s end facts left parent p ≡ got h r → Opens s end facts left parent p h r → IsGroup
         group-case h r g o =
@@ -131,17 +126,14 @@ module _ (s : List ℕ) (end facts : ℕ) where
               rest = b .value;
               inside = o .inside;
               nests = o .nests;
-              marked = o .marked;
-              other = o .other;
-              is = cc;
               read = b .first ∙ ap (λ (x : ℕ). got (b .value) x) k;
             }
 
 -- what `head_at` found, by the variant of its answer
 module _ (s : List ℕ) (end facts left parent p : ℕ) (r : read.Head) (h : Headed s end facts left parent p r) where
-  pub next-refused-head : (n q : ℕ) → r ≡ heads.Refused n q → nextOf (item s end facts left parent p) ≡ Refused n q
+  pub next-refused-head : (x : Refusal) → r ≡ heads.Refused x → nextOf (item s end facts left parent p) ≡ Refused x
   unfolding nextOf
-  next-refused-head n q e = rw (item-refused s end facts left parent p n q (sym (rw e at (h .is))))
+  next-refused-head x e = rw (item-refused s end facts left parent p x (sym (rw e at (h .is))))
 
   pub next-literal : (b : ℕ) → r ≡ heads.Literal b → nextOf (item s end facts left parent p) ≡ Next (p + 1)
   unfolding nextOf

@@ -7,7 +7,8 @@ use native.Mathlib.Omega.{arith}
 use lib.ListN.{getD}
 use Rattle.model.specs.Read.{Read, reject, got, Reader, andThen, require, byte}
 use Rattle.model.proofs.Laws.Reading as Reading
-use Rattle.formula.specs.Readings.{nextOf}
+use Rattle.model.specs.declared.Refusal.{Refusal}
+use Rattle.formula.specs.Readings.{refusalAt, rejected, nextOf}
 use Rattle.formula.specs.declared.read.Reading.the-variants.{Refused, Next}
 
 module _ {A B : Type 0} where
@@ -36,10 +37,10 @@ module _ {A : Type 0} where
   next-got (reject n k) q h = let z : _≡_ {A = ℕ} 0 1 = cc in absurd (omega arith)
   next-got (got a k) q h = record { value = a; is = cc }
 
-  pub next-refused : (x : Read A) (n q : ℕ) → nextOf x ≡ Refused n q → x ≡ reject n q
+  pub next-refused : (x : Read A) (r : Refusal) → nextOf x ≡ Refused r → x ≡ rejected r
   unfolding nextOf
-  next-refused (reject m k) n q h = cc
-  next-refused (got a k) n q h = let z : _≡_ {A = ℕ} 0 1 = cc in absurd (omega arith)
+  next-refused (reject m k) r h = let e : refusalAt m k ≡ r = cc in rw (← e)
+  next-refused (got a k) r h = let z : _≡_ {A = ℕ} 0 1 = cc in absurd (omega arith)
 
   pub got-next : (x : Read A) (a : A) (q : ℕ) → x ≡ got a q → nextOf x ≡ Next q
   unfolding nextOf

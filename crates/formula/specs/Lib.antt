@@ -1,3 +1,3 @@
 -- What the functions of this crate answer, in the words of model/specs.
-pub mod Heads
 pub mod Readings
+pub mod Heads

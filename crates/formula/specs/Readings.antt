@@ -8,12 +8,19 @@ use Rattle.model.specs.Limits.{maxDepth}
 use Rattle.model.specs.Formula.{Formula}
 use Rattle.model.specs.Read.{Read, reject, got, Reader, done, position, require, _>>=_, _>>_}
 use Rattle.model.specs.FormulaBytes.{item, stated}
+use Rattle.model.specs.declared.Refusal.{Refusal}
 use Rattle.formula.specs.declared.read.Reading.{Reading}
 use Rattle.formula.specs.declared.read.Reading.the-variants.{Refused, Next}
 
+abbrev pub refusalAt : ℕ → ℕ → Refusal
+refusalAt n q = record { number = n; place = q }
+
+abbrev pub rejected : {A : Type 0} → Refusal → Read A
+rejected r = reject (r .number) (r .place)
+
 -- the refusal, or the position after what was read
 unfoldable pub nextOf : {A : Type 0} → Read A → Reading
-nextOf (reject n q) = Refused n q
+nextOf (reject n q) = Refused (refusalAt n q)
 nextOf (got a q) = Next q
 
 -- what follows a length field whose stated bytes end at `end`, as `formula` has it
@@ -26,11 +33,11 @@ afterOf s end facts = do
 
 -- the length field at p, two bytes: the refusal, or where the stated bytes end
 abbrev pub statedOf : ℕ → Reading → Read ℕ
-statedOf p (Refused n q) = reject n q
+statedOf p (Refused r) = rejected r
 statedOf p (Next end) = got end (p + 2)
 
 abbrev pub Within : List ℕ → ℕ → Reading → Type 0
-Within s p (Refused n q) = Unit {0}
+Within s p (Refused r) = Unit {0}
 Within s p (Next end) = (p + 2 < end) × (end ≤ length s)
 
 pub record Stated (s : List ℕ) (p : ℕ) (r : Reading) : Type 0 where

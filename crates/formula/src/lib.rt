@@ -2,10 +2,10 @@
 
 pub mod read;
 
-use numbers::wide;
 pub use read::Reading;
 pub use read::is_literal;
 pub use read::read_formula;
+pub use read::refusal;
 
 // The marks that begin a group.
 const ALL: u8 = 0x80;

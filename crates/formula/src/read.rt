@@ -5,12 +5,13 @@ ghost use lib.ListN.{length};
 ghost use Rattle.model.specs.Limits.{maxDepth};
 ghost use Rattle.model.specs.FormulaBytes.{isLiteral, members, item, formula};
 ghost use Rattle.formula.specs.Heads.{Headed};
-ghost use Rattle.formula.specs.Readings.{nextOf, Stated, afterOf};
+ghost use Rattle.formula.specs.Readings.{refusalAt, nextOf, Stated, afterOf};
+use model::Refusal;
+use numbers::read_number;
 
 // What a byte of a formula begins.
 pub enum Head {
-    // A refusal's number and place.
-    Refused(u8, usize),
+    Refused(Refusal),
     // A fact or the denial of one: its byte.
     Literal(u8),
     // A group and its member count.
@@ -18,10 +19,20 @@ pub enum Head {
     Any(u8),
 }
 
-// What reading gives: a refusal's number and place, or the position after what was read.
+// What reading gives: a refusal, or the position after what was read.
 pub enum Reading {
-    Refused(u8, usize),
+    Refused(Refusal),
     Next(usize),
+}
+
+// A refusal at a position.
+pub fn refusal(number: u8, place: usize) -> Refusal
+    ensures { λ r. ⌜ r ≡ refusalAt number place ⌝ }
+{
+    Refusal {
+        number,
+        place: place as u64,
+    }
 }
 
 // Whether b is the byte of a declared fact or of the denial of one.
@@ -43,28 +54,28 @@ fn head_at(s: &[u8], at: usize, end: usize, left: u8, parent: u8, facts: u8) -> 
     ensures { λ r. ⌜ Headed (now (s .entry)) end facts left parent at r ⌝ }
 {
     // What ends too soon is refused at the first byte after what was stated.
-    let cut = Head::Refused(20, end);
+    let cut = refusal(20, end);
     if end <= at {
-        return cut;
+        return Head::Refused(cut);
     }
     let b = s[at];
     if is_literal(b, facts) {
         return Head::Literal(b);
     }
     if b == parent {
-        return Head::Refused(18, at);
+        return Head::Refused(refusal(18, at));
     }
     if b < crate::ALL {
-        return Head::Refused(18, at);
+        return Head::Refused(refusal(18, at));
     }
     if crate::ANY < b {
-        return Head::Refused(18, at);
+        return Head::Refused(refusal(18, at));
     }
     if left == 0 {
-        return Head::Refused(19, at);
+        return Head::Refused(refusal(19, at));
     }
     if end - at < 2 {
-        return cut;
+        return Head::Refused(cut);
     }
     let members = s[at + 1];
     if b == crate::ALL {
@@ -83,19 +94,19 @@ fn read_all(s: &[u8], at: usize, end: usize, left: u8, n: u8, facts: u8) -> Read
     let mut k = n;
     while 0 < k {
         match head_at(s, p, end, left, crate::ALL, facts) {
-            Head::Refused(number, place) => {
-                return Reading::Refused(number, place);
+            Head::Refused(r) => {
+                return Reading::Refused(r);
             }
             Head::Literal(_) => {
                 p = p + 1;
             }
             // Never: an "all" in an "all" is refused.
             Head::All(_) => {
-                return Reading::Refused(18, p);
+                return Reading::Refused(refusal(18, p));
             }
             Head::Any(m) => match read_any(s, p + 2, end, left - 1, m, facts) {
-                Reading::Refused(number, place) => {
-                    return Reading::Refused(number, place);
+                Reading::Refused(r) => {
+                    return Reading::Refused(r);
                 }
                 Reading::Next(next) => {
                     p = next;
@@ -116,19 +127,19 @@ fn read_any(s: &[u8], at: usize, end: usize, left: u8, n: u8, facts: u8) -> Read
     let mut k = n;
     while 0 < k {
         match head_at(s, p, end, left, crate::ANY, facts) {
-            Head::Refused(number, place) => {
-                return Reading::Refused(number, place);
+            Head::Refused(r) => {
+                return Reading::Refused(r);
             }
             Head::Literal(_) => {
                 p = p + 1;
             }
             // Never: an "any" in an "any" is refused.
             Head::Any(_) => {
-                return Reading::Refused(18, p);
+                return Reading::Refused(refusal(18, p));
             }
             Head::All(m) => match read_all(s, p + 2, end, left - 1, m, facts) {
-                Reading::Refused(number, place) => {
-                    return Reading::Refused(number, place);
+                Reading::Refused(r) => {
+                    return Reading::Refused(r);
                 }
                 Reading::Next(next) => {
                     p = next;
@@ -147,7 +158,7 @@ fn read_outermost(s: &[u8], at: usize, end: usize, facts: u8) -> Reading
 {
     let depth = model::Problem::MAX_DEPTH;
     match head_at(s, at, end, depth, 0, facts) {
-        Head::Refused(number, place) => Reading::Refused(number, place),
+        Head::Refused(r) => Reading::Refused(r),
         Head::Literal(_) => Reading::Next(at + 1),
         Head::All(m) => read_all(s, at + 2, end, depth - 1, m, facts),
         Head::Any(m) => read_any(s, at + 2, end, depth - 1, m, facts),
@@ -160,10 +171,10 @@ fn read_stated(s: &[u8], at: usize, end: usize, facts: u8) -> Reading
     ensures { λ r. ⌜ r ≡ nextOf (afterOf (now (s .entry)) end facts at) ⌝ }
 {
     match read_outermost(s, at, end, facts) {
-        Reading::Refused(number, place) => Reading::Refused(number, place),
+        Reading::Refused(r) => Reading::Refused(r),
         Reading::Next(next) => {
             if next < end {
-                Reading::Refused(21, next)
+                Reading::Refused(refusal(21, next))
             } else {
                 Reading::Next(next)
             }
@@ -177,21 +188,21 @@ fn stated_end(s: &[u8], at: usize) -> Reading
 {
     let len = s.len();
     if len <= at {
-        return Reading::Refused(14, len);
+        return Reading::Refused(refusal(14, len));
     }
     if len - at < 2 {
-        return Reading::Refused(14, len);
+        return Reading::Refused(refusal(14, len));
     }
-    let n = crate::wide(s[at]) * 256 + crate::wide(s[at + 1]);
+    let n = read_number(s, at, 2) as usize;
     if n == 0 {
-        return Reading::Refused(17, at);
+        return Reading::Refused(refusal(17, at));
     }
     if model::Problem::MAX_FORMULA_BYTES < n {
-        return Reading::Refused(17, at);
+        return Reading::Refused(refusal(17, at));
     }
     let begin = at + 2;
     if len - begin < n {
-        return Reading::Refused(14, len);
+        return Reading::Refused(refusal(14, len));
     }
     Reading::Next(begin + n)
 }
@@ -201,7 +212,7 @@ pub fn read_formula(s: &[u8], at: usize, facts: u8) -> Reading
     ensures { λ r. ⌜ r ≡ nextOf (formula (now (s .entry)) facts at) ⌝ }
 {
     match stated_end(s, at) {
-        Reading::Refused(number, place) => Reading::Refused(number, place),
+        Reading::Refused(r) => Reading::Refused(r),
         Reading::Next(end) => read_stated(s, at + 2, end, facts),
     }
 }

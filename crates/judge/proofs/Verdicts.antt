@@ -11,12 +11,12 @@ use borrow.Author.Tests.{lt-ltb, eq-eqb}
 use Rattle.model.specs.Limits.{version1}
 use Rattle.model.specs.Kleene.{Kleene, Unknown}
 use Rattle.model.specs.Answer as Answer
-use Rattle.model.specs.Answer.{refused, answered}
+use Rattle.model.specs.Answer.{answered}
 use Rattle.model.specs.Case.{caseOf, Task, runOf, IsState}
 use Rattle.model.specs.Walk.{Line, covered, failed, visits, walkFrom, walk, lookAt, walked, Verdict, right, wrong, undecided, judged}
 use Rattle.model.specs.Operations.{judge}
 use Rattle.model.specs.Read.{headBytes}
-use Rattle.model.specs.Answers.{judgeAnswer}
+use Rattle.model.specs.Answers.{refusal, judgeAnswer}
 use Rattle.model.specs.Planes.{Table}
 use Rattle.model.specs.declared.Problem.{Problem}
 use Rattle.model.specs.declared.Outcome.{Outcome}
@@ -71,7 +71,7 @@ walks-task problem steps parts g n levels e L c₀ c N F r before to after W =
           (W .is T
           (record {
             stands = p .stands;
-            case-at = record { left-facts = omega arith; begins = zero-mod (2 ^ (T .width - 0)) };
+            case-at = record { width = p .width; left-facts = omega arith; begins = zero-mod (2 ^ (T .width - 0)) };
             table =
                 subst (λ (v : List Kleene). Table c (λ j. blockCase v 0 levels j)) (ap (λ (m : ℕ). replicate m Unknown) i ∙ sym (case-first (T .width) (T .facts)))
                 (F .is (replicate n Unknown) (omega (arith, L .inside, length-replicate n Unknown)) (N .is));
@@ -84,7 +84,7 @@ module _ (problem steps : List ℕ) (parts : Problem) (x n : ℕ) (e : n ≡ par
   valid-state : (T : Task) → PartsOf problem steps parts T → IsState T x → d .valid ≡ true
   valid-state T p st =
       D .is ∙
-      ap₂ (λ (w m : ℕ). ltb x (2 ^ w) && eqb (x % 2 ^ (w - m)) 0) (sym (p .stands .width)) (e ∙ p .facts) ∙
+      ap₂ (λ (w m : ℕ). ltb x (2 ^ w) && eqb (x % 2 ^ (w - m)) 0) (sym (p .width)) (e ∙ p .facts) ∙
       rw (lt-ltb x (2 ^ T .width) (st .in-width), eq-eqb (x % 2 ^ (T .width - T .facts)) 0 (st .no-bits))
 
   pub outcome-none : (u : Outcome) → d .valid ≡ false → OutcomeOf problem steps parts x u
@@ -97,7 +97,7 @@ module _ (problem steps : List ℕ) (parts : Problem) (x n : ℕ) (e : n ≡ par
         is =
             λ T p st.
             let t : Table (d .table) (λ j. caseOf (T .width) (T .facts) (T .facts) x) =
-            subst (λ (w : ℕ). Table (d .table) (λ j. caseOf w (T .facts) (T .facts) x)) (sym (p .stands .width))
+            subst (λ (w : ℕ). Table (d .table) (λ j. caseOf w (T .facts) (T .facts) x)) (sym (p .width))
             (subst (λ (m : ℕ). Table (d .table) (λ j. caseOf (version1 .width) m m x)) (e ∙ p .facts) (D .table (valid-state T p st)))
             in
             R .is (parts .initial) T (p .stands) (λ j. caseOf (T .width) (T .facts) (T .facts) x) (λ j l. length-case (T .width) (T .facts) (T .facts) x) t ∙
@@ -112,7 +112,7 @@ module _ (problem steps : List ℕ) (parts : Problem) (g : ℕ) (w : Ending) (be
   Task-judged r = JudgesTask problem steps parts g r before to after
 
   n≤w : (T : Task) → PartsOf problem steps parts T → T .facts ≤ T .width
-  n≤w T p = omega (arith, p .stands .most, p .stands .width)
+  n≤w T p = omega (arith, p .few, p .width)
 
   ended : (T : Task) → PartsOf problem steps parts T → (x : Ending) → w ≡ x → cut g (walked T) ≡ endingOf x
   ended T p x e = sym (W .is T p .ending) ∙ ap endingOf e
@@ -158,16 +158,16 @@ module _ (problem steps : List ℕ) (parts : Problem) (g : ℕ) (w : Ending) (be
 -- ---- the blocks
 
 pub judge-refused :
-    (s t : List ℕ) (r : blocks.Task) → FindsTask s t r → r .refused ≡ true → (g : ℕ) → refused (r .number) (r .place) ≡ judge version1 s t g
+    (s t : List ℕ) (r : blocks.Task) → FindsTask version1 s t r → r .refused ≡ true → (g : ℕ) → refusal (r .refusal) ≡ judge version1 s t g
 unfolding judge Answer._>>=_
 judge-refused s t r f h g = rw (f .refusal h)
 
-module _ (s t : List ℕ) (r : blocks.Task) (F : StandsFound s t r) where
+module _ (s t : List ℕ) (r : blocks.Task) (F : StandsFound version1 s t r) where
   pub few-facts : r .problem .facts ≤ 48
-  few-facts = omega (arith, F .facts, F .stands .most)
+  few-facts = omega (arith, F .facts, F .few)
 
   pub parts-of : (steps : List ℕ) → steps ≡ take (length t - headBytes) (drop headBytes t) → PartsOf s steps (r .problem) (F .task)
-  parts-of steps e = record { facts = F .facts; stands = rw (e, part-from) (F .stands) }
+  parts-of steps e = record { width = F .width; few = F .few; facts = F .facts; stands = rw (e, part-from) (F .stands) }
 
   pub judge-found :
       (g : ℕ) (steps : List ℕ) → steps ≡ take (length t - headBytes) (drop headBytes t) →

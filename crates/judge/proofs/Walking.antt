@@ -336,7 +336,7 @@ module _ (b : walk.Block) (case : Case) (lane : ℕ) (N : NodeFits b case lane) 
     k<n = omega (arith, N .inside, A .case-at .left-facts)
 
     n≤w : T .facts ≤ T .width
-    n≤w = omega (arith, A .stands .most, A .stands .width)
+    n≤w = omega (arith, A .case-at .width, A .case-at .left-facts, N .fits .slots)
 
     block : Block (T .width) (case .k) (case .number)
     block = block-of-mod (T .width) (case .k) (case .number) (A .case-at .begins)
@@ -367,7 +367,7 @@ module _ (b : walk.Block) (case : Case) (lane : ℕ) (N : NodeFits b case lane) 
 
     pub first-at : NodeAt problem steps actions at c b (firstPart case) (2 * lane) T
     first-at =
-        node-part (firstPart case) (2 * lane) (record { left-facts = omega (arith, A .case-at .left-facts, k<n); begins = begins-at (case .number) smaller })
+        node-part (firstPart case) (2 * lane) (record { width = A .case-at .width; left-facts = omega (arith, A .case-at .left-facts, k<n); begins = begins-at (case .number) smaller })
         (part-lane (2 * lane) (case .number) No
         (part-no (A .root) (b .first) (b .levels) (case .k - b .first) lane (N .few) (omega (arith, N .below-first)) (N .lane-from) (N .lane-to) room)
         (case-no (T .width) (T .facts) (case .k) (case .number) k<n n≤w block))
@@ -376,6 +376,7 @@ module _ (b : walk.Block) (case : Case) (lane : ℕ) (N : NodeFits b case lane) 
     second-at half e =
         node-part (secondPart case half) (2 * lane + 1)
         (record {
+          width = A .case-at .width;
           left-facts = omega (arith, A .case-at .left-facts, k<n);
           begins = begins-at (case .number + half) (subst (λ (x : ℕ). Block (T .width) (suc (case .k)) (case .number + x)) (sym e) (next-block (T .width) (suc (case .k)) (case .number) smaller));
         })
@@ -460,7 +461,7 @@ module _ (problem steps actions : List ℕ) (at : Places) (c : List ℕ) (b : wa
               λ T A.
               let x = first-ended T A in
               let (ls, y, z, u) = closed-cut g (firstWalk T) n a (sym (x .ending) ∙ ap endingOf closes) in
-              let w : half ≡ 2 ^ (T .width - suc (case .k)) = e ∙ ap (λ (k : ℕ). 2 ^ (k - suc (case .k))) (sym (A .stands .width)) in
+              let w : half ≡ 2 ^ (T .width - suc (case .k)) = e ∙ ap (λ (k : ℕ). 2 ^ (k - suc (case .k))) (sym (A .case-at .width)) in
               let v : Ended (g - a) (secondWalk T) r₂ mid next after =
               subst (λ (q : ℕ). Ended (g - a) (walkOf T (case .left - 1) (suc (case .k)) (case .number + q)) r₂ mid next after) w
               (subst (λ (k : ℕ). Ended (g - a) (walkOf T (case .left - 1) k (case .number + half)) r₂ mid next after) (omega arith)

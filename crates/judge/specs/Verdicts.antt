@@ -1,7 +1,7 @@
 -- What the walk of a whole problem answers, and the verdict by it.
 use mathlib.Core.Path.{_≡_}
 use mathlib.Core.List.{List}
-use Prim.Native.Nat.{ℕ, _+_, _*_}
+use Prim.Native.Nat.{ℕ, _+_, _*_, _≤_}
 use lib.ListN.{length}
 use Rattle.model.specs.Limits.{version1}
 use Rattle.model.specs.Answer.{answered}
@@ -19,6 +19,8 @@ use Rattle.judge.specs.Walks.{Walks}
 
 -- the task T stands in the blocks, where `parts` says
 pub record PartsOf (problem steps : List ℕ) (parts : Problem) (T : Task) : Type 0 where
+  pub width : T .width ≡ version1 .width
+  pub few : T .facts ≤ version1 .facts
   pub facts : parts .facts ≡ T .facts
   pub stands : TaskStands problem steps (parts .action) (parts .initial) (parts .goal) T
 

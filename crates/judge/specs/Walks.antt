@@ -71,8 +71,9 @@ pub record CaseFits (case : Case) : Type 0 where
   pub slots : case .k + case .left ≤ version1 .facts
   pub numbers : case .number + 2 ^ (version1 .width - case .k) ≤ 2 ^ version1 .width
 
--- a case of T
+-- a case of T, whose states are as wide as the code has them
 pub record CaseAt (T : Task) (case : Case) : Type 0 where
+  pub width : T .width ≡ version1 .width
   pub left-facts : case .k + case .left ≡ T .facts
   pub begins : case .number % 2 ^ (T .width - case .k) ≡ 0
 

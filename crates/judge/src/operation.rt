@@ -18,7 +18,6 @@ use model::JudgeAnswer;
 use model::Limits;
 use model::Outcome;
 use model::Problem;
-use model::Refusal;
 use table::fix_levels;
 use table::none_fixed;
 
@@ -121,10 +120,8 @@ pub fn judge(problem: &[u8], plan: &[u8], grant: u64) -> JudgeAnswer
 {
     let task = find_task(problem, plan);
     if task.refused {
-        return JudgeAnswer::Refused(Refusal {
-            number: task.number,
-            place: task.place as u64,
-        });
+        let refusal = task.refusal;
+        return JudgeAnswer::Refused(refusal);
     }
     let parts = task.problem;
     let head = Limits::HEAD_BYTES;

@@ -98,13 +98,13 @@ module _ (n : ℕ) (before after : List ℕ) (room : 65533 ≤ length before) wh
 
 module _ (s t : List ℕ) (r : blocks.Task) where
   pub page-refused :
-      FindsTask s t r → r .refused ≡ true → (list : List ℕ) →
-      PageOf s t list (record { facts = 0; answer = Refused (record { number = r .number; place = r .place }) })
+      FindsTask version1 s t r → r .refused ≡ true → (list : List ℕ) →
+      PageOf s t list (record { facts = 0; answer = Refused (r .refusal) })
   unfolding firstLine answerLine laterLines answerRest
   page-refused f e list = record { most = omega arith; first = rw (f .refusal e); later = rw (f .refusal e) }
 
   pub page-found :
-      (F : StandsFound s t r) (steps : List ℕ) → steps ≡ take (length t - headBytes) (drop headBytes t) →
+      (F : StandsFound version1 s t r) (steps : List ℕ) → steps ≡ take (length t - headBytes) (drop headBytes t) →
       (a : JudgeAnswer) (before after : List ℕ) → 65533 ≤ length before → JudgesTask s steps (r .problem) deskGrant a before headBytes after →
       PageOf s t after (record { facts = r .problem .facts; answer = a })
   unfolding firstLine answerLine laterLines answerRest
@@ -117,7 +117,7 @@ module _ (s t : List ℕ) (r : blocks.Task) where
         first = ap (firstOf n) (j .answer) ∙ rw (F .read, F .facts);
         later =
             ap (λ x. restText n after (restOf x)) (j .answer) ∙
-            rest-is n before after room (judged T deskGrant) (lines-fit T (F .stands .most) (F .stands .width) deskGrant) (j .lays) ∙
+            rest-is n before after room (judged T deskGrant) (lines-fit T (F .few) (F .width) deskGrant) (j .lays) ∙
             rw (F .read, F .facts);
       }
 

@@ -7,7 +7,6 @@ use judge::judge_task;
 use model::CaseList;
 use model::JudgeAnswer;
 use model::Limits;
-use model::Refusal;
 
 // The program's grant is fixed.
 const GRANT: u64 = 1000000;
@@ -32,10 +31,8 @@ pub fn page_of(problem: &[u8], plan: &[u8], list: &mut [u8]) -> Page
 {
     let task = find_task(problem, plan);
     if task.refused {
-        let answer = JudgeAnswer::Refused(Refusal {
-            number: task.number,
-            place: task.place as u64,
-        });
+        let refusal = task.refusal;
+        let answer = JudgeAnswer::Refused(refusal);
         return Page { facts: 0, answer };
     }
     let parts = task.problem;

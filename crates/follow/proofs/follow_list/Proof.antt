@@ -10,8 +10,8 @@ use Rattle.follow.proofs.follow_list.Tie as tie
 
 returns : tie.Need-returns
 returns c =
-    let e = follow-refused _ _ _ _ (c .before .find-task .ensures) (c .if1 .taken) in
-    let k = c .before .before in
+    let e = follow-refused _ _ _ _ (c .before .before .find-task .ensures) (c .before .if1 .taken) in
+    let k = c .before .before .before in
     (e, follow-promised _ _ _ (of-slice (k .before .before .before .args .list .now) (k .shared-slice-known3 .given)) _ e)
 
 sub-follow-body : tie.Need-sub-follow-body
@@ -35,7 +35,7 @@ returns-2 c =
     let h = c .before .before .before in
     let t = h .before .before in
     let k = t .before in
-    let e = follow-header _ _ _ _ (t .find-task .ensures .stands (h .before .if1 .left)) _ _ (sym (c .before .number .given .1) ∙ h .check-header .ensures) in
+    let e = follow-header _ _ _ _ (t .find-task .ensures .stands (h .before .if1 .left)) _ (sym (c .before .r .given .1) ∙ h .check-header .ensures) in
     (e, follow-promised _ _ _ (of-slice (k .before .before .before .args .list .now) (k .shared-slice-known3 .given)) _ e)
 
 returns-3 : tie.Need-returns-3

@@ -1,13 +1,13 @@
 -- `read_effects` meets its contract: what is left to read answers for all. Assumes nothing.
-use mathlib.Core.Path.{_≡_, refl, sym, ap, _∙_}
 use borrow.Author.Needs.{needs}
+use Rattle.blocks.proofs.action.read_effects.Statement.{statement}
+use Rattle.blocks.proofs.action.read_effects.Tie as tie
+use mathlib.Core.Path.{_≡_, refl, sym, ap, _∙_}
 use native.Mathlib.Omega.{arith}
 use Prim.Native.Nat.{ℕ, _+_, _-_}
 use Rattle.model.specs.ProblemBytes.{effects}
 use Rattle.formula.specs.Readings.{nextOf}
 use Rattle.blocks.proofs.Effects.{effects-none, effects-next, answered-refused, answered-next}
-use Rattle.blocks.proofs.action.read_effects.Statement.{statement}
-use Rattle.blocks.proofs.action.read_effects.Tie as tie
 
 abbrev Inv-loop : tie.InvT-loop
 Inv-loop s at facts n p₀ k₀ least₀ p k least = nextOf (effects s facts n 0 at) ≡ nextOf (effects s facts k least p)
@@ -18,32 +18,14 @@ abbrev μ-loop : tie.MeasureT-loop
 loop-holds : tie.Need-loop-holds Inv-loop μ-loop
 loop-holds c = refl
 
-read-effect-requires : tie.Need-read-effect-requires Inv-loop μ-loop
-read-effect-requires c κs = search needs
-
-enum-known-number : tie.Need-enum-known-number Inv-loop μ-loop
-enum-known-number c = search needs
-
 returns : tie.Need-returns Inv-loop μ-loop
-returns c = sym (c .before .before .before .before .before .loop .inv ∙ sym (answered-refused _ _ _ _ _ _ (omega arith) (c .before .before .before .read-effect .ensures) _ _ (c .before .number .given .1)))
-
-enum-known-next : tie.Need-enum-known-next Inv-loop μ-loop
-enum-known-next c = search needs
+returns c = sym (c .before .before .before .before .before .loop .inv ∙ sym (answered-refused _ _ _ _ _ _ (omega arith) (c .before .before .before .read-effect .ensures) _ (c .before .r .given .1)))
 
 shared-slice-read-wide : tie.Need-shared-slice-read-wide Inv-loop μ-loop
 shared-slice-read-wide c = answered-next _ _ _ _ _ (c .before .before .before .before .read-effect .ensures) _ (c .before .before .next .given .1) .inside
 
-wide-requires : tie.Need-wide-requires Inv-loop μ-loop
-wide-requires c κs = search needs
-
 add-least : tie.Need-add-least Inv-loop μ-loop
 add-least c = omega (arith, c .wide .ensures .1)
-
-sub-k : tie.Need-sub-k Inv-loop μ-loop
-sub-k c = omega arith
-
-loop-less : tie.Need-loop-less Inv-loop μ-loop
-loop-less c = omega arith
 
 loop-again : tie.Need-loop-again Inv-loop μ-loop
 loop-again c = c .before .before .before .before .before .before .before .loop .inv ∙ effects-next _ _ _ _ _ _ (omega arith) (answered-next _ _ _ _ _ (c .before .before .before .before .before .read-effect .ensures) _ (c .before .before .before .next .given .1)) ∙ ap (λ (x : ℕ). nextOf (effects (c .before .before .before .before .before .before .before .before .before .args .s .now) (c .before .before .before .before .before .before .before .before .before .args .facts) (c .before .before .before .before .before .before .before .loop .k - 1) (x + 1) (c .before .before .before .next .given .0 .0))) (sym (c .wide .ensures .0))
@@ -58,14 +40,14 @@ read-effects-spec =
     Inv-loop
     μ-loop
     loop-holds
-    read-effect-requires
-    enum-known-number
+    (λ c κs. search needs)
+    (λ c. search needs)
     returns
-    enum-known-next
+    (λ c. search needs)
     shared-slice-read-wide
-    wide-requires
+    (λ c κs. search needs)
     add-least
-    sub-k
-    loop-less
+    (λ c. omega arith)
+    (λ c. omega arith)
     loop-again
     returns-2)

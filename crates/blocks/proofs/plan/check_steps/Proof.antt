@@ -1,4 +1,7 @@
 -- `check_steps` meets its contract: what is left to check answers for all. Assumes nothing.
+use borrow.Author.Needs.{needs}
+use Rattle.blocks.proofs.plan.check_steps.Statement.{statement}
+use Rattle.blocks.proofs.plan.check_steps.Tie as tie
 use mathlib.Core.Path.{_≡_, refl, sym, _∙_}
 use Prim.Native.Nat.{_-_}
 use native.Mathlib.Omega.{arith}
@@ -6,8 +9,6 @@ use lib.ListN.{length}
 use Rattle.model.specs.ProblemBytes.{steps}
 use Rattle.formula.specs.Readings.{nextOf}
 use Rattle.blocks.proofs.Steps.{steps-none, steps-refused, steps-next}
-use Rattle.blocks.proofs.plan.check_steps.Statement.{statement}
-use Rattle.blocks.proofs.plan.check_steps.Tie as tie
 
 abbrev Inv-loop : tie.InvT-loop
 Inv-loop s at actions p₀ p = nextOf (steps s actions (length s - at) at) ≡ nextOf (steps s actions (length s - p) p)
@@ -18,17 +19,8 @@ abbrev μ-loop : tie.MeasureT-loop
 loop-holds : tie.Need-loop-holds Inv-loop μ-loop
 loop-holds c = refl
 
-shared-slice-read-if1 : tie.Need-shared-slice-read-if1 Inv-loop μ-loop
-shared-slice-read-if1 c = omega arith
-
 returns : tie.Need-returns Inv-loop μ-loop
-returns c = steps-refused _ _ _ _ (omega arith) (c .if1 .taken) ∙ sym (c .before .before .before .loop .inv)
-
-add-p : tie.Need-add-p Inv-loop μ-loop
-add-p c = omega arith
-
-loop-less : tie.Need-loop-less Inv-loop μ-loop
-loop-less c = omega arith
+returns c = rw (c .refusal .ensures) (steps-refused _ _ _ _ (omega arith) (c .before .if1 .taken) ∙ sym (c .before .before .before .before .loop .inv))
 
 loop-again : tie.Need-loop-again Inv-loop μ-loop
 loop-again c = c .before .before .before .loop .inv ∙ steps-next _ _ _ _ _ (omega arith) (c .if1 .left)
@@ -43,9 +35,10 @@ check-steps-spec =
     Inv-loop
     μ-loop
     loop-holds
-    shared-slice-read-if1
+    (λ c. omega arith)
+    (λ c κs. search needs)
     returns
-    add-p
-    loop-less
+    (λ c. omega arith)
+    (λ c. omega arith)
     loop-again
     returns-2)

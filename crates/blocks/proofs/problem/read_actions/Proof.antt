@@ -1,50 +1,29 @@
 -- `read_actions` meets its contract: what was read so far, and where it stands. Assumes nothing.
-use mathlib.Core.Path.{_∙_, sym}
-use Prim.Native.Nat.{_-_, _≤_}
 use borrow.Author.Needs.{needs}
-use native.Mathlib.Omega.{arith}
-use Rattle.blocks.proofs.Actions.{Sofar, sofar-none, sofar-refused, sofar-next, refused-at, done-at}
 use Rattle.blocks.proofs.problem.read_actions.Statement.{statement}
 use Rattle.blocks.proofs.problem.read_actions.Tie as tie
+use mathlib.Core.Path.{_∙_, sym}
+use Prim.Native.Nat.{_-_, _≤_}
+use native.Mathlib.Omega.{arith}
+use Rattle.blocks.proofs.Actions.{Sofar, sofar-none, sofar-refused, sofar-next, refused-at, done-at}
 
 abbrev Inv-loop : tie.InvT-loop
-Inv-loop s at facts m stand₀ p₀ i₀ stand p i = (i ≤ m) × Sofar s facts m at stand p i
+Inv-loop s limits at facts m stand₀ p₀ i₀ stand p i = (i ≤ m) × Sofar limits s facts m at stand p i
 
 abbrev μ-loop : tie.MeasureT-loop
-μ-loop s at facts m stand₀ p₀ i₀ stand p i = m - i
+μ-loop s limits at facts m stand₀ p₀ i₀ stand p i = m - i
 
 loop-holds : tie.Need-loop-holds Inv-loop μ-loop
-loop-holds c = (omega arith, sofar-none _ _ _ _)
-
-mul-stand : tie.Need-mul-stand Inv-loop μ-loop
-mul-stand c = omega arith
-
-array-write-stand : tie.Need-array-write-stand Inv-loop μ-loop
-array-write-stand c = omega arith
-
-read-action-requires : tie.Need-read-action-requires Inv-loop μ-loop
-read-action-requires c κs = search needs
-
-enum-known-number : tie.Need-enum-known-number Inv-loop μ-loop
-enum-known-number c = search needs
+loop-holds c = (omega arith, sofar-none _ _ _ _ _)
 
 returns : tie.Need-returns Inv-loop μ-loop
-returns c = refused-at _ _ _ _ _ _ _ (sofar-refused _ _ _ _ _ _ _ (omega arith) (c .before .before .before .before .before .loop .inv .1) _ _ (sym (c .before .number .given .1) ∙ c .before .before .before .read-action .ensures))
-
-enum-known-next : tie.Need-enum-known-next Inv-loop μ-loop
-enum-known-next c = search needs
-
-add-i : tie.Need-add-i Inv-loop μ-loop
-add-i c = omega arith
-
-loop-less : tie.Need-loop-less Inv-loop μ-loop
-loop-less c = omega arith
+returns c = refused-at _ _ _ _ _ _ _ (sofar-refused _ _ _ _ _ _ _ _ (omega arith) (c .before .before .before .before .before .loop .inv .1) _ (sym (c .before .r .given .1) ∙ c .before .before .before .read-action .ensures))
 
 loop-again : tie.Need-loop-again Inv-loop μ-loop
-loop-again c = (omega arith, sofar-next _ _ _ _ _ _ _ (omega arith) (c .before .before .before .before .before .loop .inv .1) _ (sym (c .before .next .given .1) ∙ c .before .before .before .read-action .ensures) (omega arith))
+loop-again c = (omega arith, sofar-next _ _ _ _ _ _ _ _ (omega arith) (c .before .before .before .before .before .loop .inv .1) _ (sym (c .before .next .given .1) ∙ c .before .before .before .read-action .ensures) (omega arith))
 
 returns-2 : tie.Need-returns-2 Inv-loop μ-loop
-returns-2 c = done-at _ _ _ _ _ _ _ (omega arith) (omega arith) (c .before .loop .inv .1)
+returns-2 c = done-at _ _ _ _ _ _ _ _ (omega arith) (omega arith) (c .before .loop .inv .1)
 
 pub read-actions-spec : {M : Type 1} → statement M
 read-actions-spec =
@@ -53,13 +32,13 @@ read-actions-spec =
     Inv-loop
     μ-loop
     loop-holds
-    mul-stand
-    array-write-stand
-    read-action-requires
-    enum-known-number
+    (λ c. omega arith)
+    (λ c. omega arith)
+    (λ c κs. search needs)
+    (λ c. search needs)
     returns
-    enum-known-next
-    add-i
-    loop-less
+    (λ c. search needs)
+    (λ c. omega arith)
+    (λ c. omega arith)
     loop-again
     returns-2)

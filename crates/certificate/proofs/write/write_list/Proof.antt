@@ -8,7 +8,7 @@ use Rattle.certificate.proofs.write.write_list.Statement.{statement}
 use Rattle.certificate.proofs.write.write_list.Tie as tie
 
 returns : tie.Need-returns
-returns c = left-as (c .refusal .ensures) (list-refused _ _ _ (c .before .before .find-task .ensures) (c .before .if1 .taken) _ _)
+returns c = list-refused _ _ _ (c .before .before .find-task .ensures) (c .before .if1 .taken) _ _
 
 sub-walk-task : tie.Need-sub-walk-task
 sub-walk-task c = omega (arith, (c .before .before .find-task .ensures .stands (c .before .if1 .left)) .fits)
@@ -47,7 +47,6 @@ pub write-list-spec : {M : Type 1} → statement M
 write-list-spec =
     tie.close
     (tie.spec
-    (λ c κs. search needs)
     (λ c κs. search needs)
     returns
     sub-walk-task

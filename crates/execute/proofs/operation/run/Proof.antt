@@ -9,7 +9,7 @@ use Rattle.execute.proofs.operation.run.Statement.{statement}
 use Rattle.execute.proofs.operation.run.Tie as tie
 
 returns : tie.Need-returns
-returns c = let e = run-refused _ _ _ (c .before .find-task .ensures) (c .if1 .taken) _ in (e, run-promised _ _ _ _ e)
+returns c = let e = run-refused _ _ _ (c .before .before .find-task .ensures) (c .before .if1 .taken) _ in (e, run-promised _ _ _ _ e)
 
 state-table-requires : tie.Need-state-table-requires
 state-table-requires c κs =

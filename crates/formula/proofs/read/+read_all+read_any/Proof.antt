@@ -19,6 +19,7 @@ use Rattle.formula.proofs.read.read_any.Reads as read-any
 use Rattle.formula.proofs.read.read_any.Kinds as read-any-kinds
 use Rattle.formula.proofs.read.+read_all+read_any.Lts-read_any as read-any-lts
 use Rattle.formula.proofs.read.head_at.Reads as head-at-reads
+use Rattle.formula.proofs.read.refusal.Reads as refusal-reads
 use Rattle.formula.proofs.read.+read_all+read_any.{statement}
 use Rattle.formula.proofs.read.+read_all+read_any.Tie.{close}
 
@@ -43,7 +44,7 @@ read-any-below t =
     and 1 read-any-kinds.ps (falls 1 read-any-kinds.ps _<_ μ-read-any t) read-any.Pre
 
 abbrev read-all-calls : ℕ → read-all-lts.Claims
-read-all-calls t = (head-at-reads.Asked, head-at-reads.Learnt, read-any-below t, read-any.Post)
+read-all-calls t = (head-at-reads.Asked, head-at-reads.Learnt, refusal-reads.Asked, refusal-reads.Learnt, read-any-below t, read-any.Post)
 
 abbrev read-all-Inv-loop : read-all-lts.InvT-loop
 read-all-Inv-loop s at end left n facts p₀ k₀ p k =
@@ -56,33 +57,18 @@ read-all-μ-loop s at end left n facts p₀ k₀ p k = k
 read-all-loop-holds : (t : ℕ) → read-all-lts.Need-loop-holds (read-all-calls t) (read-all-at t) read-all.Post read-all-Inv-loop read-all-μ-loop
 read-all-loop-holds t c = (refl, omega arith)
 
-read-all-head-at-requires : (t : ℕ) → read-all-lts.Need-head-at-requires (read-all-calls t) (read-all-at t) read-all.Post read-all-Inv-loop read-all-μ-loop
-read-all-head-at-requires t c κs = search needs
-
-read-all-enum-known-number : (t : ℕ) → read-all-lts.Need-enum-known-number (read-all-calls t) (read-all-at t) read-all.Post read-all-Inv-loop read-all-μ-loop
-read-all-enum-known-number t c = search needs
-
 read-all-returns : (t : ℕ) → read-all-lts.Need-returns (read-all-calls t) (read-all-at t) read-all.Post read-all-Inv-loop read-all-μ-loop
 read-all-returns t c =
     sym
     (c .before .before .before .before .before .loop .inv .0 ∙
-    row-refuses _ _ _ _ _ _ (λ q. omega arith) _ _
-    (next-refused-head _ _ _ _ _ _ _ (c .before .before .before .head-at .ensures) _ _ (c .before .number .given .1)))
-
-read-all-enum-told : (t : ℕ) → read-all-lts.Need-enum-told (read-all-calls t) (read-all-at t) read-all.Post read-all-Inv-loop read-all-μ-loop
-read-all-enum-told t c = search needs
+    row-refuses _ _ _ _ _ _ (λ q. omega arith) _
+    (next-refused-head _ _ _ _ _ _ _ (c .before .before .before .head-at .ensures) _ (c .before .r .given .1)))
 
 read-all-add-p : (t : ℕ) → read-all-lts.Need-add-p (read-all-calls t) (read-all-at t) read-all.Post read-all-Inv-loop read-all-μ-loop
 read-all-add-p t c = omega (arith, literal-placed _ _ _ _ _ _ _ (c .before .before .head-at .ensures) _ (c .enum-told .given .1))
 
-read-all-enum-told-2 : (t : ℕ) → read-all-lts.Need-enum-told-2 (read-all-calls t) (read-all-at t) read-all.Post read-all-Inv-loop read-all-μ-loop
-read-all-enum-told-2 t c = search needs
-
 read-all-returns-2 : (t : ℕ) → read-all-lts.Need-returns-2 (read-all-calls t) (read-all-at t) read-all.Post read-all-Inv-loop read-all-μ-loop
-read-all-returns-2 t c = absurd (all-placed _ _ _ _ _ _ _ (c .before .before .head-at .ensures) _ (c .enum-told2 .given .1) .2 refl)
-
-read-all-enum-known-m : (t : ℕ) → read-all-lts.Need-enum-known-m (read-all-calls t) (read-all-at t) read-all.Post read-all-Inv-loop read-all-μ-loop
-read-all-enum-known-m t c = search needs
+read-all-returns-2 t c = absurd (all-placed _ _ _ _ _ _ _ (c .before .before .before .head-at .ensures) _ (c .before .enum-told2 .given .1) .2 refl)
 
 read-all-add-read-any : (t : ℕ) → read-all-lts.Need-add-read-any (read-all-calls t) (read-all-at t) read-all.Post read-all-Inv-loop read-all-μ-loop
 read-all-add-read-any t c = omega (arith, any-placed _ _ _ _ _ _ _ (c .before .before .before .head-at .ensures) _ (c .before .m .given .1))
@@ -93,26 +79,14 @@ read-all-sub-read-any t c = omega (arith, any-placed _ _ _ _ _ _ _ (c .before .b
 read-all-read-any-requires : (t : ℕ) → read-all-lts.Need-read-any-requires (read-all-calls t) (read-all-at t) read-all.Post read-all-Inv-loop read-all-μ-loop
 read-all-read-any-requires t c κs = (omega (arith, any-placed _ _ _ _ _ _ _ (c .before .before .before .head-at .ensures) _ (c .before .m .given .1)), omega arith)
 
-read-all-enum-known-number-2 : (t : ℕ) → read-all-lts.Need-enum-known-number-2 (read-all-calls t) (read-all-at t) read-all.Post read-all-Inv-loop read-all-μ-loop
-read-all-enum-known-number-2 t c = search needs
-
 read-all-returns-3 : (t : ℕ) → read-all-lts.Need-returns-3 (read-all-calls t) (read-all-at t) read-all.Post read-all-Inv-loop read-all-μ-loop
 read-all-returns-3 t c =
     sym
     (c .before .before .before .before .before .before .before .before .before .loop .inv .0 ∙
-    row-refuses _ _ _ _ _ _ (λ q. omega arith) _ _
+    row-refuses _ _ _ _ _ _ (λ q. omega arith) _
     (next-any _ _ _ _ _ _ _ (c .before .before .before .before .before .before .before .head-at .ensures) _ (c .before .before .before .before .before .m .given .1) ∙
     sym (c .before .before .before .read-any .ensures) ∙
-    c .before .number2 .given .1))
-
-read-all-enum-known-next : (t : ℕ) → read-all-lts.Need-enum-known-next (read-all-calls t) (read-all-at t) read-all.Post read-all-Inv-loop read-all-μ-loop
-read-all-enum-known-next t c = search needs
-
-read-all-sub-k : (t : ℕ) → read-all-lts.Need-sub-k (read-all-calls t) (read-all-at t) read-all.Post read-all-Inv-loop read-all-μ-loop
-read-all-sub-k t c = search needs
-
-read-all-loop-less : (t : ℕ) → read-all-lts.Need-loop-less (read-all-calls t) (read-all-at t) read-all.Post read-all-Inv-loop read-all-μ-loop
-read-all-loop-less t c = search needs
+    c .before .r2 .given .1))
 
 read-all-loop-again : (t : ℕ) → read-all-lts.Need-loop-again (read-all-calls t) (read-all-at t) read-all.Post read-all-Inv-loop read-all-μ-loop
 read-all-loop-again t c = (
@@ -134,7 +108,7 @@ read-all-returns-4 : (t : ℕ) → read-all-lts.Need-returns-4 (read-all-calls t
 read-all-returns-4 t c = sym (c .before .loop .inv .0 ∙ row-ends _ _ _ _ _ _ (omega arith))
 
 abbrev read-any-calls : ℕ → read-any-lts.Claims
-read-any-calls t = (head-at-reads.Asked, head-at-reads.Learnt, read-all-below t, read-all.Post)
+read-any-calls t = (head-at-reads.Asked, head-at-reads.Learnt, refusal-reads.Asked, refusal-reads.Learnt, read-all-below t, read-all.Post)
 
 abbrev read-any-Inv-loop : read-any-lts.InvT-loop
 read-any-Inv-loop s at end left n facts p₀ k₀ p k =
@@ -147,33 +121,18 @@ read-any-μ-loop s at end left n facts p₀ k₀ p k = k
 read-any-loop-holds : (t : ℕ) → read-any-lts.Need-loop-holds (read-any-calls t) (read-any-at t) read-any.Post read-any-Inv-loop read-any-μ-loop
 read-any-loop-holds t c = (refl, omega arith)
 
-read-any-head-at-requires : (t : ℕ) → read-any-lts.Need-head-at-requires (read-any-calls t) (read-any-at t) read-any.Post read-any-Inv-loop read-any-μ-loop
-read-any-head-at-requires t c κs = search needs
-
-read-any-enum-known-number : (t : ℕ) → read-any-lts.Need-enum-known-number (read-any-calls t) (read-any-at t) read-any.Post read-any-Inv-loop read-any-μ-loop
-read-any-enum-known-number t c = search needs
-
 read-any-returns : (t : ℕ) → read-any-lts.Need-returns (read-any-calls t) (read-any-at t) read-any.Post read-any-Inv-loop read-any-μ-loop
 read-any-returns t c =
     sym
     (c .before .before .before .before .before .loop .inv .0 ∙
-    row-refuses _ _ _ _ _ _ (λ q. omega arith) _ _
-    (next-refused-head _ _ _ _ _ _ _ (c .before .before .before .head-at .ensures) _ _ (c .before .number .given .1)))
-
-read-any-enum-told : (t : ℕ) → read-any-lts.Need-enum-told (read-any-calls t) (read-any-at t) read-any.Post read-any-Inv-loop read-any-μ-loop
-read-any-enum-told t c = search needs
+    row-refuses _ _ _ _ _ _ (λ q. omega arith) _
+    (next-refused-head _ _ _ _ _ _ _ (c .before .before .before .head-at .ensures) _ (c .before .r .given .1)))
 
 read-any-add-p : (t : ℕ) → read-any-lts.Need-add-p (read-any-calls t) (read-any-at t) read-any.Post read-any-Inv-loop read-any-μ-loop
 read-any-add-p t c = omega (arith, literal-placed _ _ _ _ _ _ _ (c .before .before .head-at .ensures) _ (c .enum-told .given .1))
 
-read-any-enum-told-2 : (t : ℕ) → read-any-lts.Need-enum-told-2 (read-any-calls t) (read-any-at t) read-any.Post read-any-Inv-loop read-any-μ-loop
-read-any-enum-told-2 t c = search needs
-
 read-any-returns-2 : (t : ℕ) → read-any-lts.Need-returns-2 (read-any-calls t) (read-any-at t) read-any.Post read-any-Inv-loop read-any-μ-loop
-read-any-returns-2 t c = absurd (any-placed _ _ _ _ _ _ _ (c .before .before .head-at .ensures) _ (c .enum-told2 .given .1) .2 refl)
-
-read-any-enum-known-m : (t : ℕ) → read-any-lts.Need-enum-known-m (read-any-calls t) (read-any-at t) read-any.Post read-any-Inv-loop read-any-μ-loop
-read-any-enum-known-m t c = search needs
+read-any-returns-2 t c = absurd (any-placed _ _ _ _ _ _ _ (c .before .before .before .head-at .ensures) _ (c .before .enum-told2 .given .1) .2 refl)
 
 read-any-add-read-all : (t : ℕ) → read-any-lts.Need-add-read-all (read-any-calls t) (read-any-at t) read-any.Post read-any-Inv-loop read-any-μ-loop
 read-any-add-read-all t c = omega (arith, all-placed _ _ _ _ _ _ _ (c .before .before .before .head-at .ensures) _ (c .before .m .given .1))
@@ -184,26 +143,14 @@ read-any-sub-read-all t c = omega (arith, all-placed _ _ _ _ _ _ _ (c .before .b
 read-any-read-all-requires : (t : ℕ) → read-any-lts.Need-read-all-requires (read-any-calls t) (read-any-at t) read-any.Post read-any-Inv-loop read-any-μ-loop
 read-any-read-all-requires t c κs = (omega (arith, all-placed _ _ _ _ _ _ _ (c .before .before .before .head-at .ensures) _ (c .before .m .given .1)), omega arith)
 
-read-any-enum-known-number-2 : (t : ℕ) → read-any-lts.Need-enum-known-number-2 (read-any-calls t) (read-any-at t) read-any.Post read-any-Inv-loop read-any-μ-loop
-read-any-enum-known-number-2 t c = search needs
-
 read-any-returns-3 : (t : ℕ) → read-any-lts.Need-returns-3 (read-any-calls t) (read-any-at t) read-any.Post read-any-Inv-loop read-any-μ-loop
 read-any-returns-3 t c =
     sym
     (c .before .before .before .before .before .before .before .before .before .loop .inv .0 ∙
-    row-refuses _ _ _ _ _ _ (λ q. omega arith) _ _
+    row-refuses _ _ _ _ _ _ (λ q. omega arith) _
     (next-all _ _ _ _ _ _ _ (c .before .before .before .before .before .before .before .head-at .ensures) _ (c .before .before .before .before .before .m .given .1) ∙
     sym (c .before .before .before .read-all .ensures) ∙
-    c .before .number2 .given .1))
-
-read-any-enum-known-next : (t : ℕ) → read-any-lts.Need-enum-known-next (read-any-calls t) (read-any-at t) read-any.Post read-any-Inv-loop read-any-μ-loop
-read-any-enum-known-next t c = search needs
-
-read-any-sub-k : (t : ℕ) → read-any-lts.Need-sub-k (read-any-calls t) (read-any-at t) read-any.Post read-any-Inv-loop read-any-μ-loop
-read-any-sub-k t c = search needs
-
-read-any-loop-less : (t : ℕ) → read-any-lts.Need-loop-less (read-any-calls t) (read-any-at t) read-any.Post read-any-Inv-loop read-any-μ-loop
-read-any-loop-less t c = search needs
+    c .before .r2 .given .1))
 
 read-any-loop-again : (t : ℕ) → read-any-lts.Need-loop-again (read-any-calls t) (read-any-at t) read-any.Post read-any-Inv-loop read-any-μ-loop
 read-any-loop-again t c = (
@@ -231,46 +178,48 @@ pub +read-all+read-any-spec : {M : Type 1} → statement M
     read-all-Inv-loop
     read-all-μ-loop
     (read-all-loop-holds t)
-    (read-all-head-at-requires t)
-    (read-all-enum-known-number t)
+    (λ c κs. search needs)
+    (λ c. search needs)
     (read-all-returns t)
-    (read-all-enum-told t)
+    (λ c. search needs)
     (read-all-add-p t)
-    (read-all-enum-told-2 t)
+    (λ c. search needs)
+    (λ c κs. search needs)
     (read-all-returns-2 t)
-    (read-all-enum-known-m t)
+    (λ c. search needs)
     (read-all-add-read-any t)
     (read-all-sub-read-any t)
     (read-all-read-any-requires t)
-    (read-all-enum-known-number-2 t)
+    (λ c. search needs)
     (read-all-returns-3 t)
-    (read-all-enum-known-next t)
-    (read-all-sub-k t)
-    (read-all-loop-less t)
+    (λ c. search needs)
+    (λ c. search needs)
+    (λ c. search needs)
     (read-all-loop-again t)
     (read-all-returns-4 t))
     λ t. read-any-lts.spec
-    (head-at-reads.Asked, head-at-reads.Learnt, read-all-below t, read-all.Post)
+    (read-any-calls t)
     (read-any-at t)
     read-any.Post
     read-any-Inv-loop
     read-any-μ-loop
     (read-any-loop-holds t)
-    (read-any-head-at-requires t)
-    (read-any-enum-known-number t)
+    (λ c κs. search needs)
+    (λ c. search needs)
     (read-any-returns t)
-    (read-any-enum-told t)
+    (λ c. search needs)
     (read-any-add-p t)
-    (read-any-enum-told-2 t)
+    (λ c. search needs)
+    (λ c κs. search needs)
     (read-any-returns-2 t)
-    (read-any-enum-known-m t)
+    (λ c. search needs)
     (read-any-add-read-all t)
     (read-any-sub-read-all t)
     (read-any-read-all-requires t)
-    (read-any-enum-known-number-2 t)
+    (λ c. search needs)
     (read-any-returns-3 t)
-    (read-any-enum-known-next t)
-    (read-any-sub-k t)
-    (read-any-loop-less t)
+    (λ c. search needs)
+    (λ c. search needs)
+    (λ c. search needs)
     (read-any-loop-again t)
     (read-any-returns-4 t)

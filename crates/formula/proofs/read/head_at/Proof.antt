@@ -3,43 +3,28 @@ use borrow.Author.Needs.{needs}
 use Rattle.formula.proofs.read.head_at.Statement.{statement}
 use Rattle.formula.proofs.read.head_at.Tie as tie
 use native.Mathlib.Omega.{arith}
-use Rattle.formula.proofs.Heads.{head-end, head-literal, head-repeated, head-low, head-high, head-deep, head-cut, head-all, head-any}
+use Rattle.formula.proofs.Heads.{head-refuses, head-end, head-literal, head-repeated, head-low, head-high, head-deep, head-cut, head-all, head-any}
 
 returns : tie.Need-returns
-returns c = record { is = head-end _ _ _ _ _ _ (omega arith); placed = tt }
-
-shared-slice-read-b : tie.Need-shared-slice-read-b
-shared-slice-read-b c = search needs
-
-is-literal-requires : tie.Need-is-literal-requires
-is-literal-requires c κs = search needs
+returns c = head-refuses _ _ _ _ _ _ (c .before .refusal .ensures) (head-end _ _ _ _ _ _ (omega arith))
 
 returns-2 : tie.Need-returns-2
 returns-2 c = record { is = head-literal _ _ _ _ _ _ (omega arith) (cc); placed = omega arith }
 
 returns-3 : tie.Need-returns-3
-returns-3 c = record { is = head-repeated _ _ _ _ _ _ (omega arith) (cc) (omega arith); placed = tt }
+returns-3 c = head-refuses _ _ _ _ _ _ (c .refusal2 .ensures) (head-repeated _ _ _ _ _ _ (omega arith) (cc) (omega arith))
 
 returns-4 : tie.Need-returns-4
-returns-4 c = record { is = head-low _ _ _ _ _ _ (omega arith) (cc) (omega arith); placed = tt }
+returns-4 c = head-refuses _ _ _ _ _ _ (c .refusal3 .ensures) (head-low _ _ _ _ _ _ (omega arith) (cc) (omega arith))
 
 returns-5 : tie.Need-returns-5
-returns-5 c = record { is = head-high _ _ _ _ _ _ (omega arith) (cc) (omega arith); placed = tt }
+returns-5 c = head-refuses _ _ _ _ _ _ (c .refusal4 .ensures) (head-high _ _ _ _ _ _ (omega arith) (cc) (omega arith))
 
 returns-6 : tie.Need-returns-6
-returns-6 c = record { is = head-deep _ _ _ _ _ _ (omega arith) (cc) (λ q. omega arith) (omega arith) (omega arith) (omega arith); placed = tt }
-
-sub-if7 : tie.Need-sub-if7
-sub-if7 c = search needs
+returns-6 c = head-refuses _ _ _ _ _ _ (c .refusal5 .ensures) (head-deep _ _ _ _ _ _ (omega arith) (cc) (λ q. omega arith) (omega arith) (omega arith) (omega arith))
 
 returns-7 : tie.Need-returns-7
-returns-7 c = record { is = head-cut _ _ _ _ _ _ (omega arith) (cc) (λ q. omega arith) (omega arith) (omega arith) (omega arith) (omega arith); placed = tt }
-
-add-members : tie.Need-add-members
-add-members c = search needs
-
-shared-slice-read-members : tie.Need-shared-slice-read-members
-shared-slice-read-members c = search needs
+returns-7 c = head-refuses _ _ _ _ _ _ (c .before .before .before .before .before .before .before .before .before .refusal .ensures) (head-cut _ _ _ _ _ _ (omega arith) (cc) (λ q. omega arith) (omega arith) (omega arith) (omega arith) (omega arith))
 
 returns-8 : tie.Need-returns-8
 returns-8 c = record {
@@ -57,17 +42,22 @@ pub head-at-spec : {M : Type 1} → statement M
 head-at-spec =
     tie.close
     (tie.spec
+    (λ c κs. search needs)
     returns
-    shared-slice-read-b
-    is-literal-requires
+    (λ c. search needs)
+    (λ c κs. search needs)
     returns-2
+    (λ c κs. search needs)
     returns-3
+    (λ c κs. search needs)
     returns-4
+    (λ c κs. search needs)
     returns-5
+    (λ c κs. search needs)
     returns-6
-    sub-if7
+    (λ c. search needs)
     returns-7
-    add-members
-    shared-slice-read-members
+    (λ c. search needs)
+    (λ c. search needs)
     returns-8
     returns-9)

@@ -6,15 +6,6 @@ use native.Mathlib.Omega.{arith}
 use mathlib.Core.Path.{_∙_}
 use Rattle.formula.proofs.Lengths.{in-stated, formula-refused, formula-after}
 
-stated-end-requires : tie.Need-stated-end-requires
-stated-end-requires c κs = search needs
-
-enum-known-number : tie.Need-enum-known-number
-enum-known-number c = search needs
-
-enum-known-end : tie.Need-enum-known-end
-enum-known-end c = search needs
-
 add-read-stated : tie.Need-add-read-stated
 add-read-stated c = omega (arith, in-stated _ _ _ (c .before .before .before .stated-end .ensures) _ (c .before .end .given .1))
 
@@ -22,7 +13,7 @@ read-stated-requires : tie.Need-read-stated-requires
 read-stated-requires c κs = in-stated _ _ _ (c .before .before .before .stated-end .ensures) _ (c .before .end .given .1) .1
 
 returns : tie.Need-returns
-returns c = formula-refused _ _ _ _ (c .before .before .before .stated-end .ensures) _ _ (c .before .number .given .1)
+returns c = formula-refused _ _ _ _ (c .before .before .before .stated-end .ensures) _ (c .before .r .given .1)
 
 returns-2 : tie.Need-returns-2
 returns-2 c = c .read-stated .ensures ∙ formula-after _ _ _ _ (c .before .before .before .before .stated-end .ensures) _ (c .before .before .end .given .1)
@@ -31,9 +22,9 @@ pub read-formula-spec : {M : Type 1} → statement M
 read-formula-spec =
     tie.close
     (tie.spec
-    stated-end-requires
-    enum-known-number
-    enum-known-end
+    (λ c κs. search needs)
+    (λ c. search needs)
+    (λ c. search needs)
     add-read-stated
     read-stated-requires
     returns

@@ -6,44 +6,17 @@ use native.Mathlib.Omega.{arith}
 use mathlib.Core.Path.{sym, _∙_}
 use Rattle.formula.proofs.Items.{next-refused-head, next-literal, next-all, next-any, literal-placed, all-placed, any-placed}
 
-head-at-requires : tie.Need-head-at-requires
-head-at-requires c κs = search needs
-
-enum-known-number : tie.Need-enum-known-number
-enum-known-number c = search needs
-
-enum-told : tie.Need-enum-told
-enum-told c = search needs
-
-add-t12 : tie.Need-add-t12
-add-t12 c = omega (arith, literal-placed _ _ _ _ _ _ _ (c .before .before .head-at .ensures) _ (c .enum-told .given .1))
-
-enum-known-m : tie.Need-enum-known-m
-enum-known-m c = search needs
+add-t11 : tie.Need-add-t11
+add-t11 c = omega (arith, literal-placed _ _ _ _ _ _ _ (c .before .before .head-at .ensures) _ (c .enum-told .given .1))
 
 add-read-all : tie.Need-add-read-all
 add-read-all c = omega (arith, all-placed _ _ _ _ _ _ _ (c .before .before .before .head-at .ensures) _ (c .before .m .given .1))
 
-sub-read-all : tie.Need-sub-read-all
-sub-read-all c = search needs
-
-read-all-requires : tie.Need-read-all-requires
-read-all-requires c κs = search needs
-
-enum-known-m-2 : tie.Need-enum-known-m-2
-enum-known-m-2 c = search needs
-
 add-read-any : tie.Need-add-read-any
 add-read-any c = omega (arith, any-placed _ _ _ _ _ _ _ (c .before .before .before .head-at .ensures) _ (c .before .m2 .given .1))
 
-sub-read-any : tie.Need-sub-read-any
-sub-read-any c = search needs
-
-read-any-requires : tie.Need-read-any-requires
-read-any-requires c κs = search needs
-
 returns : tie.Need-returns
-returns c = sym (next-refused-head _ _ _ _ _ _ _ (c .before .before .before .head-at .ensures) _ _ (c .before .number .given .1))
+returns c = sym (next-refused-head _ _ _ _ _ _ _ (c .before .before .before .head-at .ensures) _ (c .before .r .given .1))
 
 returns-2 : tie.Need-returns-2
 returns-2 c = sym (next-literal _ _ _ _ _ _ _ (c .before .before .head-at .ensures) _ (c .enum-told .given .1))
@@ -58,18 +31,18 @@ pub read-outermost-spec : {M : Type 1} → statement M
 read-outermost-spec =
     tie.close
     (tie.spec
-    head-at-requires
-    enum-known-number
-    enum-told
-    add-t12
-    enum-known-m
+    (λ c κs. search needs)
+    (λ c. search needs)
+    (λ c. search needs)
+    add-t11
+    (λ c. search needs)
     add-read-all
-    sub-read-all
-    read-all-requires
-    enum-known-m-2
+    (λ c. search needs)
+    (λ c κs. search needs)
+    (λ c. search needs)
     add-read-any
-    sub-read-any
-    read-any-requires
+    (λ c. search needs)
+    (λ c κs. search needs)
     returns
     returns-2
     returns-3

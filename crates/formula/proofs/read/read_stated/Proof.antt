@@ -6,20 +6,11 @@ use native.Mathlib.Omega.{arith}
 use mathlib.Core.Path.{sym, _∙_}
 use Rattle.formula.proofs.Lengths.{after-refused, after-early, after-whole}
 
-read-outermost-requires : tie.Need-read-outermost-requires
-read-outermost-requires c κs = search needs
-
-enum-known-number : tie.Need-enum-known-number
-enum-known-number c = search needs
-
-enum-known-next : tie.Need-enum-known-next
-enum-known-next c = search needs
-
 returns : tie.Need-returns
-returns c = after-refused _ _ _ _ _ _ (sym (c .before .number .given .1) ∙ c .before .before .before .read-outermost .ensures)
+returns c = after-refused _ _ _ _ _ (sym (c .before .r .given .1) ∙ c .before .before .before .read-outermost .ensures)
 
 returns-2 : tie.Need-returns-2
-returns-2 c = after-early _ _ _ _ _ (sym (c .before .before .next .given .1) ∙ c .before .before .before .before .read-outermost .ensures) (omega arith)
+returns-2 c = rw (c .refusal .ensures) (after-early _ _ _ _ _ (sym (c .before .before .before .next .given .1) ∙ c .before .before .before .before .before .read-outermost .ensures) (omega arith))
 
 returns-3 : tie.Need-returns-3
 returns-3 c = after-whole _ _ _ _ _ (sym (c .before .before .next .given .1) ∙ c .before .before .before .before .read-outermost .ensures) (omega arith)
@@ -28,9 +19,10 @@ pub read-stated-spec : {M : Type 1} → statement M
 read-stated-spec =
     tie.close
     (tie.spec
-    read-outermost-requires
-    enum-known-number
-    enum-known-next
+    (λ c κs. search needs)
+    (λ c. search needs)
+    (λ c. search needs)
+    (λ c κs. search needs)
     returns
     returns-2
     returns-3)

@@ -3,77 +3,43 @@ use borrow.Author.Needs.{needs}
 use Rattle.formula.proofs.read.stated_end.Statement.{statement}
 use Rattle.formula.proofs.read.stated_end.Tie as tie
 use native.Mathlib.Omega.{arith}
-use Rattle.formula.proofs.Lengths.{stated-none, stated-half, stated-zero, stated-long, stated-short, stated-whole}
+use Rattle.formula.proofs.Lengths.{stated-refuses, stated-none, stated-half, stated-zero, stated-long, stated-short, stated-whole}
 
 returns : tie.Need-returns
-returns c = record { is = stated-none _ _ (omega arith); within = tt }
-
-sub-if2 : tie.Need-sub-if2
-sub-if2 c = search needs
+returns c = stated-refuses _ _ (c .refusal .ensures) (stated-none _ _ (omega arith))
 
 returns-2 : tie.Need-returns-2
-returns-2 c = record { is = stated-half _ _ (omega arith) (omega arith); within = tt }
-
-shared-slice-read-wide : tie.Need-shared-slice-read-wide
-shared-slice-read-wide c = search needs
-
-wide-requires : tie.Need-wide-requires
-wide-requires c κs = search needs
-
-mul-n : tie.Need-mul-n
-mul-n c = search needs
-
-add-wide : tie.Need-add-wide
-add-wide c = search needs
-
-shared-slice-read-wide-2 : tie.Need-shared-slice-read-wide-2
-shared-slice-read-wide-2 c = search needs
-
-wide-requires-2 : tie.Need-wide-requires-2
-wide-requires-2 c κs = search needs
-
-add-n : tie.Need-add-n
-add-n c = search needs
+returns-2 c = stated-refuses _ _ (c .refusal2 .ensures) (stated-half _ _ (omega arith) (omega arith))
 
 returns-3 : tie.Need-returns-3
-returns-3 c = record { is = stated-zero _ _ (omega arith) (omega arith); within = tt }
+returns-3 c = stated-refuses _ _ (c .refusal3 .ensures) (stated-zero _ _ (omega arith) _ (c .before .before .read-number .ensures .0) (omega arith))
 
 returns-4 : tie.Need-returns-4
-returns-4 c = record { is = stated-long _ _ (omega arith) (omega arith) (omega arith); within = tt }
-
-add-begin : tie.Need-add-begin
-add-begin c = search needs
-
-sub-if5 : tie.Need-sub-if5
-sub-if5 c = search needs
+returns-4 c = stated-refuses _ _ (c .refusal4 .ensures) (stated-long _ _ (omega arith) _ (c .before .before .before .read-number .ensures .0) (omega arith) (omega arith))
 
 returns-5 : tie.Need-returns-5
-returns-5 c = record { is = stated-short _ _ (omega arith) (omega arith) (omega arith) (omega arith); within = tt }
-
-add-t12 : tie.Need-add-t12
-add-t12 c = search needs
+returns-5 c = stated-refuses _ _ (c .refusal5 .ensures) (stated-short _ _ (omega arith) _ (c .before .before .before .before .read-number .ensures .0) (omega arith) (omega arith) (omega arith))
 
 returns-6 : tie.Need-returns-6
-returns-6 c = record { is = stated-whole _ _ (omega arith) (omega arith) (omega arith) _ (omega arith) (omega arith); within = (omega arith, omega arith) }
+returns-6 c = record { is = stated-whole _ _ (omega arith) _ (c .before .before .before .read-number .ensures .0) (omega arith) (omega arith) _ (omega arith) (omega arith); within = (omega arith, omega arith) }
 
 pub stated-end-spec : {M : Type 1} → statement M
 stated-end-spec =
     tie.close
     (tie.spec
+    (λ c κs. search needs)
     returns
-    sub-if2
+    (λ c. search needs)
+    (λ c κs. search needs)
     returns-2
-    shared-slice-read-wide
-    wide-requires
-    mul-n
-    add-wide
-    shared-slice-read-wide-2
-    wide-requires-2
-    add-n
+    (λ c κs. search needs)
+    (λ c κs. search needs)
     returns-3
+    (λ c κs. search needs)
     returns-4
-    add-begin
-    sub-if5
+    (λ c. search needs)
+    (λ c. search needs)
+    (λ c κs. search needs)
     returns-5
-    add-t12
+    (λ c. search needs)
     returns-6)

@@ -8,7 +8,7 @@ use Rattle.judge.proofs.operation.judge.Statement.{statement}
 use Rattle.judge.proofs.operation.judge.Tie as tie
 
 returns : tie.Need-returns
-returns c = let e = judge-refused _ _ _ (c .before .find-task .ensures) (c .if1 .taken) _ in (e, judge-promised _ _ _ _ e)
+returns c = let e = judge-refused _ _ _ (c .before .before .find-task .ensures) (c .before .if1 .taken) _ in (e, judge-promised _ _ _ _ e)
 
 sub-judge-task : tie.Need-sub-judge-task
 sub-judge-task c = omega (arith, (c .before .before .find-task .ensures .stands (c .before .if1 .left)) .fits)

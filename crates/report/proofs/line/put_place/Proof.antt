@@ -4,7 +4,6 @@ use mathlib.Core.Path.{sym, ap}
 use Rattle.model.specs.Text.{ascii}
 use Rattle.model.specs.Answers.{outcome}
 use Rattle.model.specs.declared.Outcome.{Outcome}
-use Rattle.model.specs.declared.Stop.{Stop}
 use Rattle.report.specs.Parts.{placeWords}
 use Rattle.report.proofs.Puts.{_then_, put-as, number}
 use Rattle.report.proofs.Sentences.{decimal-most}

@@ -8,7 +8,7 @@ use Rattle.report.proofs.page.page_of.Statement.{statement}
 use Rattle.report.proofs.page.page_of.Tie as tie
 
 returns : tie.Need-returns
-returns c = page-refused _ _ _ (c .before .find-task .ensures) (c .if1 .taken) _
+returns c = page-refused _ _ _ (c .before .before .find-task .ensures) (c .before .if1 .taken) _
 
 sub-judge-task : tie.Need-sub-judge-task
 sub-judge-task c = omega (arith, (c .before .before .find-task .ensures .stands (c .before .if1 .left)) .fits)
