@@ -114,14 +114,14 @@ module _ (F : Limits) (s : List ℕ) where
   module _ (facts m p : ℕ) where
     pub parts-refused : (y : Refusal) → Refused y ≡ nextOf (formula s facts p) → parts F s facts m p ≡ rejected y
     unfolding parts _>>=_ andThen
-    parts-refused y e = rw (next-refused (formula s facts p) y (sym e))
+    parts-refused y e = rw (next-refused _ y (sym e))
 
     module _ (k : ℕ) (e : Next k ≡ nextOf (formula s facts p)) where
       pub parts-goal-refused : (y : Refusal) → Refused y ≡ nextOf (formula s facts k) → parts F s facts m p ≡ rejected y
       unfolding parts _>>=_ andThen
       parts-goal-refused y g =
-          let o = next-got (formula s facts p) k (sym e) in
-          rw (o .is, next-refused (formula s facts k) y (sym g))
+          let o = next-got _ k (sym e) in
+          rw (o .is, next-refused _ y (sym g))
 
       parts-got :
           (q : ℕ) (f g : Formula) → formula s facts p ≡ got f k → formula s facts k ≡ got g q →
@@ -133,8 +133,8 @@ module _ (F : Limits) (s : List ℕ) where
           (q : ℕ) (r : Found) → Next q ≡ nextOf (formula s facts k) → facts ≤ F .facts → Ends F s p k q facts m r →
           Finds F s (parts F s facts m p) r
       parts-found q r g h y =
-          let a = next-got (formula s facts p) k (sym e) in
-          let b = next-got (formula s facts k) q (sym g) in
+          let a = next-got _ k (sym e) in
+          let b = next-got _ q (sym g) in
           finds-as F s _ _ r (parts-got q (a .value) (b .value) (a .is) (b .is))
           (y (a .value) (b .value) h (record { next = k; read = a .is }) (record { next = q; read = b .is }))
 
@@ -155,8 +155,8 @@ module _ (F : Limits) (s : List ℕ) where
 
   pub problem-refused : (y : Refusal) → Refused y ≡ nextOf (header s 10 maxProblemBytes (F .version) 0) → problem F s 0 ≡ rejected y
   unfolding problem _>>_ andThen
-  problem-refused y e = rw (next-refused (header s 10 maxProblemBytes (F .version) 0) y (sym e))
+  problem-refused y e = rw (next-refused _ y (sym e))
 
   pub problem-got : (q : ℕ) → Next q ≡ nextOf (header s 10 maxProblemBytes (F .version) 0) → problem F s 0 ≡ body F s q
   unfolding problem _>>_ andThen
-  problem-got q e = let o = next-got (header s 10 maxProblemBytes (F .version) 0) q (sym e) in rw (o .is)
+  problem-got q e = let o = next-got _ q (sym e) in rw (o .is)

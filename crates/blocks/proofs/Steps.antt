@@ -48,5 +48,5 @@ module _ (s : List ℕ) (m : ℕ) where
       nextOf (steps s m (length s - q) q) ≡ nextOf (plan s m 0)
   unfolding plan _>>_ andThen
   plan-next q e =
-      let g = next-got (header s 30 (headBytes + maxSteps) 1 0) q (sym e) in
+      let g = next-got _ q (sym e) in
       rw (g .is) (ap (λ (x : ℕ). nextOf (steps s m (length s - x) q)) (header-got s 30 (headBytes + maxSteps) 1 q (g .value) (g .is) .1))

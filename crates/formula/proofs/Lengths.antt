@@ -1,4 +1,4 @@
--- The length field, and the whole formula after it, in both directions. Assumes nothing.
+-- The length field, and the whole formula after it, case by case. Assumes nothing.
 use mathlib.Core.Path.{_≡_, refl, sym, _∙_}
 use mathlib.Core.Bool.{true}
 use mathlib.Core.List.{List}

@@ -12,6 +12,7 @@ use Rattle.model.specs.declared.Refusal.{Refusal}
 use Rattle.formula.specs.declared.read.Reading.{Reading}
 use Rattle.formula.specs.declared.read.Reading.the-variants.{Refused, Next}
 
+-- a refusal as the code has it, and as a reader gives it
 abbrev pub refusalAt : ℕ → ℕ → Refusal
 refusalAt n q = record { number = n; place = q }
 

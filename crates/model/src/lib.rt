@@ -114,10 +114,10 @@ impl Limits {
     }
 }
 
-// A refusal's number and place.
+// A refusal's number and place. The place is first, so that it lies where a reading that goes on has its position, and neither is moved.
 pub struct Refusal {
-    pub number: u8,
     pub place: u64,
+    pub number: u8,
 }
 
 // Where a run is blocked: the first step that is not applicable, from 0.

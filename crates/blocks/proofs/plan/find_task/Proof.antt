@@ -9,19 +9,22 @@ use Rattle.blocks.proofs.Tasks.{finds-no-problem, finds-no-plan, head-f
 use Rattle.blocks.proofs.Promise.{of-slice}
 
 returns : tie.Need-returns
-returns c = let k = c .before .before .before in
+returns c =
+    let k = c .before .before .before in
     finds-by (k .before .version1 .ensures) (finds-no-problem _ _ _ (k .find-problem .ensures) (c .before .if1 .taken) _ _)
 
 sub-t13 : tie.Need-sub-t13
 sub-t13 c = head-first _ _ _ (c .before .before .before .before .before .before .find-problem .ensures) (c .before .before .before .before .if1 .left) _ _ (sym (c .before .end .given .1) ∙ c .before .before .before .check-plan .ensures)
 
 returns-2 : tie.Need-returns-2
-returns-2 c = let k = c .before .before .before .before .before .before in
+returns-2 c =
+    let k = c .before .before .before .before .before .before in
     finds-by (k .before .version1 .ensures)
     (finds-no-plan _ _ _ (k .find-problem .ensures) (c .before .before .before .before .if1 .left) _ _ _ (sym (c .before .refusal2 .given .1) ∙ c .before .before .before .check-plan .ensures))
 
 returns-3 : tie.Need-returns-3
-returns-3 c = let k = c .before .before .before .before .before .before in
+returns-3 c =
+    let k = c .before .before .before .before .before .before in
     let v = k .before .version1 .ensures in
     let a = k .before .before .before in
     finds-by v
