@@ -6,6 +6,8 @@ use report::Page;
 use report::Rest;
 ghost use Prim.Native.Nat.{_+_, _*_, _≤_};
 ghost use lib.ListN.{length};
+ghost use Rattle.model.specs.Read.{headBytes};
+ghost use Rattle.model.specs.Limits.{version1};
 ghost use Rattle.io.specs.Counts.{Counts};
 
 // One byte more than a block may have: a longer file is cut there, and still refused as too long.
@@ -52,7 +54,7 @@ fn print(text: &[u8], n: usize)
 
 // So many lines of a list block.
 fn print_list(list: &[u8], count: usize, facts: u8)
-    requires { ⌜ (5 + 8 * count ≤ length (now list)) × (facts ≤ 48) ⌝ }
+    requires { ⌜ (headBytes + version1 .line * count ≤ length (now list)) × (facts ≤ version1 .facts) ⌝ }
 {
     let mut text = [0u8; 64];
     let mut i: usize = 0;
@@ -65,7 +67,7 @@ fn print_list(list: &[u8], count: usize, facts: u8)
 
 // What follows the first line: a right plan's list, or that it is too long.
 fn print_rest(page: Page, list: &[u8])
-    requires { ⌜ (page .facts ≤ 48) × (65533 ≤ length (now list)) ⌝ }
+    requires { ⌜ (page .facts ≤ version1 .facts) × (headBytes + version1 .line * version1 .lines ≤ length (now list)) ⌝ }
 {
     match report::what_follows(page) {
         Rest::Nothing => {}

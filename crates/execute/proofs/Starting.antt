@@ -23,7 +23,8 @@ use Rattle.blocks.specs.declared.plan.Task.{Task}
 use Rattle.blocks.specs.Parts.{FindsTask}
 use Rattle.blocks.specs.Standing.{StandsFound}
 use Rattle.table.specs.Tables.{Outside, SetsFacts, NoneFixed}
-use Rattle.table.specs.Cases.{bitsOf}
+use Rattle.table.specs.Cases.{raised, bitsOf}
+use Rattle.table.proofs.Cases.{raised-case}
 use Rattle.execute.specs.declared.start.StateTable.{StateTable}
 use Rattle.execute.specs.Start.{HoldsState}
 use Rattle.execute.specs.Cases.{RunsState}
@@ -31,28 +32,32 @@ use Rattle.blocks.proofs.Standing.{part-from}
 
 -- ---- the table
 
-pub state-large : (s n : ℕ) (c : List ℕ) → 2 ^ 48 ≤ s → HoldsState s n (record { valid = false; table = c })
-state-large s n c h = record { is = rw (le-ltb s (2 ^ 48) h); table = λ e. absurd (false≢true e) }
+pub state-large : (s n : ℕ) (c : List ℕ) → 2 ^ version1 .width ≤ s → HoldsState s n (record { valid = false; table = c })
+state-large s n c h = record { is = rw (le-ltb s (2 ^ version1 .width) h); table = λ e. absurd (false≢true e) }
 
 -- with every bit fixed that a fact has, every fact is
-all-fixed : (s n : ℕ) (c d : List ℕ) → NoneFixed n c → SetsFacts c 0 n (bitsOf s) d → Table d (λ j. caseOf 48 n n s)
+all-fixed : (s n : ℕ) (c d : List ℕ) → NoneFixed n c → SetsFacts c 0 n (bitsOf s) d → Table d (λ j. caseOf 64 n n s)
 all-fixed s n c d none x =
-    x .is (λ j. replicate n Unknown) (λ j. caseOf 48 n n s) (none .is) past
-    (λ j g l a b. case-known 48 n n s g b b)
+    x .is (λ j. replicate n Unknown) (λ j. caseOf 64 n n s) (none .is) past
+    (λ j g l a b. case-known 64 n n s g b b)
   where
-    past : (j g : ℕ) → j < 64 → g < 64 → Outside 0 n g → getD (caseOf 48 n n s) g No ≡ getD (replicate n Unknown) g No
+    past : (j g : ℕ) → j < 64 → g < 64 → Outside 0 n g → getD (caseOf 64 n n s) g No ≡ getD (replicate n Unknown) g No
     past j g l m out =
         let b : n ≤ g = elim (decLt g n) [ yes y ↦ absurd (out (omega arith) y) | no y ↦ omega arith ] in
-        case-past 48 n n s g b ∙
+        case-past 64 n n s g b ∙
         sym (List·getD-eq-default (replicate n Unknown) No (omega (arith, length-replicate {A = Kleene} n Unknown)))
 
 pub state-fixed :
-    (s n : ℕ) (c d : List ℕ) (rest : ℕ) → s < 2 ^ 48 → NoneFixed n c → SetsFacts c 0 n (bitsOf s) d → rest ≡ s % 2 ^ (48 - n) →
+    (s n : ℕ) (c d : List ℕ) (rest word : ℕ) → n ≤ version1 .width → s < 2 ^ version1 .width → word ≡ raised (version1 .width) s →
+    NoneFixed n c → SetsFacts c 0 n (bitsOf word) d → rest ≡ s % 2 ^ (version1 .width - n) →
     HoldsState s n (record { valid = eqb rest 0; table = d })
-state-fixed s n c d rest h none x e =
+state-fixed s n c d rest word few h r none x e =
     record {
-      is = rw (lt-ltb s (2 ^ 48) h) (ap (λ (y : ℕ). eqb y 0) e);
-      table = λ v. all-fixed s n c d none x;
+      is = rw (lt-ltb s (2 ^ version1 .width) h) (ap (λ (y : ℕ). eqb y 0) e);
+      table =
+          λ v.
+          subst (λ (y : List Kleene). Table d (λ j. y)) (ap (caseOf 64 n n) r ∙ raised-case (version1 .width) (omega arith) n n s few)
+          (all-fixed word n c d none x);
     }
 
 -- ---- the answers
@@ -87,9 +92,9 @@ module _ (problem plan : List ℕ) (r : Task) (o : StandsFound version1 problem 
       unfolding runOf
       run-is =
           let T = o .task in
-          let t = subst (λ (m : ℕ). Table (d .table) (λ j. caseOf 48 m m s)) same-facts (D .table h) in
-          R .is (r .problem .initial) T (rw (own, part-from) (o .stands)) (λ j. caseOf 48 (T .facts) (T .facts) s) (λ j l. length-case 48 (T .facts) (T .facts) s) t ∙
-          rw (o .width) (run-full 48 (T .facts) (T .goal) (T .plan) s)
+          let t = subst (λ (m : ℕ). Table (d .table) (λ j. caseOf (version1 .width) m m s)) same-facts (D .table h) in
+          R .is (r .problem .initial) T (rw (own, part-from) (o .stands)) (λ j. caseOf (version1 .width) (T .facts) (T .facts) s) (λ j l. length-case (version1 .width) (T .facts) (T .facts) s) t ∙
+          rw (o .width) (run-full (version1 .width) (T .facts) (T .goal) (T .plan) s)
 
       pub run-ended : answered (outcome u) ≡ runState version1 problem plan s
       unfolding runState Answer._>>=_

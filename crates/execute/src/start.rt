@@ -1,5 +1,6 @@
 // One state: its table, from its number, and how its run ends.
 ghost use Prim.Native.Nat.{_≤_};
+ghost use Rattle.model.specs.Limits.{version1};
 ghost use Rattle.execute.specs.Cases.{RunsState};
 ghost use Rattle.execute.specs.Start.{HoldsState};
 use crate::obey_action;
@@ -10,6 +11,10 @@ use model::Stop;
 use table::ONES;
 use table::fix_bits;
 use table::none_fixed;
+use table::word_of;
+
+// The bits of a number.
+const WIDTH: usize = CaseList::WIDTH as usize;
 
 // A number that was read as a state: whether it is one, and the state in every lane.
 pub struct StateTable {
@@ -19,7 +24,7 @@ pub struct StateTable {
 
 // The state numbered `state`, over so many facts: no bit past them may be set.
 pub fn state_table(state: u64, facts: usize) -> StateTable
-    requires { ⌜ facts ≤ 48 ⌝ }
+    requires { ⌜ facts ≤ version1 .facts ⌝ }
     ensures { λ r. ⌜ HoldsState state facts r ⌝ }
 {
     let mut table = none_fixed(facts);
@@ -29,7 +34,7 @@ pub fn state_table(state: u64, facts: usize) -> StateTable
             table,
         };
     }
-    fix_bits(&mut table, 0, facts, state);
+    fix_bits(&mut table, 0, facts, word_of(WIDTH, state));
     let span = CaseList::NUMBERS >> facts;
     StateTable {
         valid: state % span == 0,

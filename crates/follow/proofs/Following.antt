@@ -39,7 +39,7 @@ use Rattle.blocks.specs.Parts.{FindsTask}
 use Rattle.blocks.specs.Standing.{StandsFound}
 use Rattle.blocks.proofs.Headers.{header-got}
 use Rattle.table.specs.Tables.{NoneFixed}
-use Rattle.table.specs.Cases.{SetsCase}
+use Rattle.table.specs.Cases.{raised, SetsCase}
 use Rattle.execute.specs.declared.cases.Looks.{Looks}
 use Rattle.execute.specs.Cases.{lookBits, LooksAtCases}
 use Rattle.lines.specs.declared.form.Line.{Line}
@@ -174,13 +174,15 @@ module _ (problem steps actions : List ℕ) (at : Parts) (list : List ℕ) (i : 
   line-apart r e R h g = record { is = λ T S m t. (fault-place list (at .facts) i r e R (b .end) T h, omega arith); within = tt; size = g }
 
   module _ (r : Line) (e : formFault (version1 .width) (at .facts) (lineIn list i) ≡ 0) (R : Reads list i (version1 .line) r) (begins : r .value ≡ b .end)
-      (W : Within (at .facts) b) (k : ℕ) (k-as : k ≡ r .k) (d : List ℕ) (D : SetsCase c (b .k) (b .value) k (r .value) d)
+      (few : at .facts ≤ version1 .facts) (W : Within (at .facts) b) (k : ℕ) (k-as : k ≡ r .k) (x x′ : ℕ)
+      (x-is : x ≡ raised (version1 .width) (b .value)) (x′-is : x′ ≡ raised (version1 .width) (r .value)) (d : List ℕ) (D : SetsCase c (b .k) x k x′ d)
       (y : Bool) (C : Claims problem steps actions at (r .kind) d y) where
     fits : k ≤ at .facts
     fits = omega (arith, k-fits list (at .facts) i r e R)
 
     moved : (T : Task) → at .facts ≡ T .facts → Lanes c T (b .k) (b .value) → Lanes d T k (r .value)
-    moved T m t = D .is (T .facts) (omega (arith, W .k)) (omega (arith, fits)) t
+    moved T m t =
+        D .is (version1 .width) (T .facts) (b .value) (r .value) (omega arith) (omega arith) x-is x′-is (omega (arith, W .k)) (omega (arith, fits)) t
 
     told :
         (T : Task) → Stands problem steps actions (at .initial) (at .goal) T → at .facts ≡ T .facts → Lanes c T (b .k) (b .value) →
@@ -223,8 +225,8 @@ pub checked-sound :
     (formFault (version1 .width) n (lineIn list i) ≡ 0) × Reads list i (version1 .line) l
 checked-sound list i n r y l e = subst (Found list i n (version1 .line)) e (y .found)
 
-pub span-small : (k : ℕ) → 2 ^ (48 - k) ≤ 2 ^ 48
-span-small k = pow-mono {i = 48 - k} {j = 48} (omega arith)
+pub span-small : (k : ℕ) → 2 ^ (version1 .width - k) ≤ 2 ^ version1 .width
+span-small k = pow-mono {i = version1 .width - k} {j = version1 .width} (omega arith)
 
 -- ---- the lines one by one
 
@@ -283,7 +285,7 @@ module _ (problem steps actions : List ℕ) (at : Parts) (list : List ℕ) (m : 
               rw (case-first (version1 .width) (T .facts), sym g, sym e) (N .is),
             );
         few = omega arith;
-        within = record { k = omega arith; value = omega (arith, pow-pos 48) };
+        within = record { k = omega arith; value = omega (arith, pow-pos (version1 .width)) };
         size = N .size;
       }
 
@@ -329,7 +331,7 @@ module _ (problem steps actions : List ℕ) (at : Parts) (list : List ℕ) (m : 
     all-followed : i ≡ m
     all-followed = omega (arith, o .few)
 
-    pub lines-short : (b .end ≡ 2 ^ 48 → ⊥) → FollowsLines problem steps actions at list m (FollowRefused (record { number = 70; place = m }))
+    pub lines-short : (b .end ≡ 2 ^ version1 .width → ⊥) → FollowsLines problem steps actions at list m (FollowRefused (record { number = 70; place = m }))
     lines-short d =
         record {
           is =
@@ -337,7 +339,7 @@ module _ (problem steps actions : List ℕ) (at : Parts) (list : List ℕ) (m : 
               sym (o .same T S g .0 ∙ follow-short (version1 .width) (lookAt T) (at .facts) list (m - i) (5 + 8 * i) i (b .end) (omega arith) d ∙ ap (refused 70) all-followed);
         }
 
-    pub lines-pass : b .end ≡ 2 ^ 48 → FollowsLines problem steps actions at list m (Passes m)
+    pub lines-pass : b .end ≡ 2 ^ version1 .width → FollowsLines problem steps actions at list m (Passes m)
     lines-pass d =
         record {
           is =
@@ -400,7 +402,7 @@ part-from : (plan : List ℕ) → take (length plan - headBytes) (drop headBytes
 part-from plan = take-all (length plan - headBytes) (drop headBytes plan) (omega (arith, length-drop headBytes plan))
 
 module _ (problem plan : List ℕ) (r : blocks.Task) (o : StandsFound version1 problem plan r) where
-  pub facts-most : r .problem .facts ≤ 48
+  pub facts-most : r .problem .facts ≤ version1 .facts
   facts-most = omega (arith, o .facts, o .few)
 
 module _ (problem plan list : List ℕ) (r : blocks.Task) (o : StandsFound version1 problem plan r) where

@@ -3,6 +3,7 @@
 ghost use mathlib.Core.Path.{_≡_};
 ghost use Prim.Native.Nat.{_+_, _*_, _≤_};
 ghost use lib.ListN.{length};
+ghost use Rattle.model.specs.Read.{headBytes};
 ghost use Rattle.model.specs.Limits.{version1};
 ghost use Rattle.model.specs.Operations.{followList};
 ghost use Rattle.model.specs.Answers.{followAnswer};
@@ -24,6 +25,7 @@ use numbers::wide;
 use table::lane_bit;
 use table::none_fixed;
 use table::set_case;
+use table::word_of;
 
 // The bits of a number.
 const WIDTH: usize = CaseList::WIDTH as usize;
@@ -81,7 +83,7 @@ fn follow_line(
     before: Before,
     c: &mut [u64; 256],
 ) -> Followed
-    requires { ⌜ (at .facts ≤ 48) × Within (at .facts) before × (5 + 8 * line + 8 ≤ length (now list)) × (length (now c) ≡ 256) ⌝ }
+    requires { ⌜ (at .facts ≤ version1 .facts) × Within (at .facts) before × (headBytes + version1 .line * line + version1 .line ≤ length (now list)) × (length (now c) ≡ 256) ⌝ }
     ensures { λ r. ⌜ FollowsLine (now (problem .entry)) (now (steps .entry)) (now (actions .entry)) at (now (list .entry)) line before (now (c .entry)) r (now (c .exit)) ⌝ }
 {
     match check_at(list, line, at.facts, CaseList::LINE_BYTES) {
@@ -91,7 +93,8 @@ fn follow_line(
                 return Followed::Fault(68);
             }
             let k = wide(l.k);
-            set_case(c, before.k, before.value, k, l.value);
+            let word = word_of(WIDTH, l.value);
+            set_case(c, before.k, word_of(WIDTH, before.value), k, word);
             if check_claim(problem, steps, actions, at, l.kind, c) {
                 let end = l.value + span(WIDTH, k);
                 Followed::Next(Before {
@@ -115,7 +118,7 @@ fn follow_lines(
     list: &[u8],
     lines: usize,
 ) -> FollowAnswer
-    requires { ⌜ (at .facts ≤ 48) × (5 + 8 * lines ≤ length (now list)) ⌝ }
+    requires { ⌜ (at .facts ≤ version1 .facts) × (headBytes + version1 .line * lines ≤ length (now list)) ⌝ }
     ensures { λ r. ⌜ FollowsLines (now (problem .entry)) (now (steps .entry)) (now (actions .entry)) at (now (list .entry)) lines r ⌝ }
 {
     let mut c = none_fixed(wide(at.facts));
@@ -150,7 +153,7 @@ fn follow_lines(
 
 // The lines of a list block whose header is right.
 fn follow_body(problem: &[u8], steps: &[u8], parts: Problem, list: &[u8]) -> FollowAnswer
-    requires { ⌜ (parts .facts ≤ 48) × (5 ≤ length (now list)) ⌝ }
+    requires { ⌜ (parts .facts ≤ version1 .facts) × (headBytes ≤ length (now list)) ⌝ }
     ensures { λ r. ⌜ FollowsBody (now (problem .entry)) (now (steps .entry)) parts (now (list .entry)) r ⌝ }
 {
     let body = list.len() - Limits::HEAD_BYTES;

@@ -163,7 +163,7 @@ unfolding judge Answer._>>=_
 judge-refused s t r f h g = rw (f .refusal h)
 
 module _ (s t : List ℕ) (r : blocks.Task) (F : StandsFound version1 s t r) where
-  pub few-facts : r .problem .facts ≤ 48
+  pub few-facts : r .problem .facts ≤ version1 .facts
   few-facts = omega (arith, F .facts, F .few)
 
   pub parts-of : (steps : List ℕ) → steps ≡ take (length t - headBytes) (drop headBytes t) → PartsOf s steps (r .problem) (F .task)

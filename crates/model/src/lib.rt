@@ -54,7 +54,7 @@ impl Problem {
     }
 }
 
-// A plan block that was read: its steps stand from byte 5 on, one byte each.
+// A plan block's limits: its steps stand from byte 5 on, one byte each.
 pub struct Plan {
     pub steps: usize,
 }
@@ -65,7 +65,7 @@ impl Plan {
     pub const MAX_BYTES: usize = Limits::HEAD_BYTES + Plan::MAX_STEPS;
 }
 
-// A list block that was read, up to refusal 64: its lines stand from byte 5 on.
+// A list block's limits: its lines stand from byte 5 on.
 pub struct CaseList {
     pub lines: usize,
 }

@@ -64,7 +64,7 @@ listed-is n list (suc c) i p h =
     ap₂ _++_ (ap (λ (j : ℕ). lineText version1 n (lineAt version1 list j)) (sym h)) (listed-is n list c (suc i) (p + 8) (omega arith))
 
 -- a right verdict's lines are sound to write
-lines-fit : (T : Task) → T .facts ≤ 48 → T .width ≡ 48 → (g : ℕ) (ls : List Line) (a : ℕ) → judged T g ≡ right ls a → Each (LineOk version1) ls
+lines-fit : (T : Task) → T .facts ≤ version1 .facts → T .width ≡ version1 .width → (g : ℕ) (ls : List Line) (a : ℕ) → judged T g ≡ right ls a → Each (LineOk version1) ls
 lines-fit T h w g ls a e =
     let n≤w : T .facts ≤ T .width = omega arith in
     let m = subst (Means T n≤w g (walked T)) e (judged-means T n≤w g) in

@@ -8,6 +8,7 @@ use native.Mathlib.Numerals.{add-one}
 use lib.ListN.{length, getD, set, take, length-append, length-take}
 use lib.Seq.{sets, take-suc, take-length}
 use borrow.Author.Tests.{lt-ltb, le-ltb, eq-eqb, ne-eqb}
+use Rattle.model.specs.Limits.{version1}
 use Rattle.model.specs.Action.{tabulate}
 use Rattle.model.specs.Case.{bit}
 use Rattle.model.specs.DeskText.{decimal, marks}
@@ -50,7 +51,7 @@ mark-more l m at p k v i x e h z =
     ap (sets l at) (sym (tabulate-more i (mark k v))) ∙
     ap (λ (j : ℕ). sets l at (tabulate j (mark k v))) (sym (add-one i))
 
-pub marks-put : (l m : List ℕ) (at p k v n i : ℕ) → i ≡ n → p ≡ at + i → m ≡ sets l at (tabulate i (mark k v)) → Put l at (marks 48 n k v) p m
+pub marks-put : (l m : List ℕ) (at p k v n i : ℕ) → i ≡ n → p ≡ at + i → m ≡ sets l at (tabulate i (mark k v)) → Put l at (marks (version1 .width) n k v) p m
 unfolding marks mark
 marks-put l m at p k v n i z e h =
     record {
@@ -74,20 +75,20 @@ pub mark-past : (k v i : ℕ) → k ≤ i → 63 ≡ mark k v i
 unfolding mark
 mark-past k v i h = simp (le-ltb _ _ h)
 
-pub mark-yes : (k v i s : ℕ) → i < k → s ≡ 2 ^ (48 - (i + 1)) → v / s % 2 ≡ 1 → 49 ≡ mark k v i
+pub mark-yes : (k v i s : ℕ) → i < k → s ≡ 2 ^ (version1 .width - (i + 1)) → v / s % 2 ≡ 1 → 49 ≡ mark k v i
 unfolding mark bit
 mark-yes k v i s h e g =
-    let z : v / 2 ^ (48 - suc i) % 2 ≡ 1 = subst (λ (t : ℕ). v / t % 2 ≡ 1) (e ∙ ap (λ (j : ℕ). 2 ^ (48 - j)) (add-one i)) g in
+    let z : v / 2 ^ (version1 .width - suc i) % 2 ≡ 1 = subst (λ (t : ℕ). v / t % 2 ≡ 1) (e ∙ ap (λ (j : ℕ). 2 ^ (version1 .width - j)) (add-one i)) g in
     simp (lt-ltb _ _ h, eq-eqb _ _ z)
 
-pub mark-no : (k v i s : ℕ) → i < k → s ≡ 2 ^ (48 - (i + 1)) → (v / s % 2 ≡ 1 → ⊥) → 48 ≡ mark k v i
+pub mark-no : (k v i s : ℕ) → i < k → s ≡ 2 ^ (version1 .width - (i + 1)) → (v / s % 2 ≡ 1 → ⊥) → 48 ≡ mark k v i
 unfolding mark bit
 mark-no k v i s h e g =
-    let z : v / 2 ^ (48 - suc i) % 2 ≡ 1 → ⊥ = subst (λ (t : ℕ). v / t % 2 ≡ 1 → ⊥) (e ∙ ap (λ (j : ℕ). 2 ^ (48 - j)) (add-one i)) g in
+    let z : v / 2 ^ (version1 .width - suc i) % 2 ≡ 1 → ⊥ = subst (λ (t : ℕ). v / t % 2 ≡ 1 → ⊥) (e ∙ ap (λ (j : ℕ). 2 ^ (version1 .width - j)) (add-one i)) g in
     simp (lt-ltb _ _ h, ne-eqb _ _ z)
 
-pub half-pos : (s k : ℕ) → s ≡ 2 ^ (48 - k) → 0 < s
-half-pos s k e = subst (λ (t : ℕ). 0 < t) (sym e) (pow-pos (48 - k))
+pub half-pos : (s k : ℕ) → s ≡ 2 ^ (version1 .width - k) → 0 < s
+half-pos s k e = subst (λ (t : ℕ). 0 < t) (sym e) (pow-pos (version1 .width - k))
   where
     pow-pos : (n : ℕ) → 0 < 2 ^ n
     pow-pos zero = omega arith

@@ -54,7 +54,7 @@ pub right-parts : (n a : ℕ) → ascii "right lines " ++ (decimal n ++ visitsTe
 unfolding rightLine visitsText sentence ascii
 right-parts n a = refl
 
-pub wrong-parts : (n s : ℕ) (o : Outcome) (a : ℕ) → ascii "wrong " ++ (marks 48 n n s ++ (placeWords o ++ visitsText a)) ≡ wrongLine version1 n s o a
+pub wrong-parts : (n s : ℕ) (o : Outcome) (a : ℕ) → ascii "wrong " ++ (marks (version1 .width) n n s ++ (placeWords o ++ visitsText a)) ≡ wrongLine version1 n s o a
 unfolding wrongLine placeWords visitsText sentence ascii
 wrong-parts n s reached a = refl
 wrong-parts n s missed a = refl
@@ -74,13 +74,13 @@ unfolding kindWord ascii
 kind-carries zero e = absurd (e refl)
 kind-carries (suc d) e = refl
 
-pub line-parts : (n : ℕ) (l : Line) → kindWord (l .kind) ++ (marks 48 n (l .k) (l .value) ++ (10 ∷ [])) ≡ lineText version1 n l
+pub line-parts : (n : ℕ) (l : Line) → kindWord (l .kind) ++ (marks (version1 .width) n (l .k) (l .value) ++ (10 ∷ [])) ≡ lineText version1 n l
 unfolding kindWord lineText sentence
 line-parts n l = append-assoc (kindText (l .kind)) (32 ∷ []) _
 
-pub marks-long : (n k v : ℕ) → length (marks 48 n k v) ≡ n
+pub marks-long : (n k v : ℕ) → length (marks (version1 .width) n k v) ≡ n
 unfolding marks
 marks-long n k v = length-tabulate n _
 
-pub line-as : (list : List ℕ) (i n : ℕ) (l : lines.Line) → Reads list i (version1 .line) l → kindWord (l .kind) ++ (marks 48 n (l .k) (l .value) ++ (10 ∷ [])) ≡ lineText version1 n (lineNumber (version1 .line) list i)
+pub line-as : (list : List ℕ) (i n : ℕ) (l : lines.Line) → Reads list i (version1 .line) l → kindWord (l .kind) ++ (marks (version1 .width) n (l .k) (l .value) ++ (10 ∷ [])) ≡ lineText version1 n (lineNumber (version1 .line) list i)
 line-as list i n l r = line-parts n (lineOf l) ∙ ap (lineText version1 n) (r .is)

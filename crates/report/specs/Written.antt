@@ -6,6 +6,7 @@ use Prim.Native.Nat.{ℕ, _+_}
 use lib.Dec.{ltb}
 use lib.ListN.{length}
 use lib.Seq.{sets}
+use Rattle.model.specs.Limits.{version1}
 use Rattle.model.specs.Case.{bit}
 
 -- the text stands in `after` from `at` on, and ends at r; every other byte is as it was
@@ -15,4 +16,4 @@ pub record Put (before : List ℕ) (at : ℕ) (text : List ℕ) (r : ℕ) (after
 
 -- the mark of fact i
 unfoldable pub mark : ℕ → ℕ → ℕ → ℕ
-mark k v i = cond (ltb i k) (cond (bit 48 v i) 49 48) 63
+mark k v i = cond (ltb i k) (cond (bit (version1 .width) v i) 49 48) 63

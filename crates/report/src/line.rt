@@ -1,6 +1,7 @@
 // The lines of the desk program's text, each from the buffer's start on; the length is returned.
 ghost use Prim.Native.Nat.{_+_, _*_, _≤_, _<_};
 ghost use lib.ListN.{length};
+ghost use Rattle.model.specs.Read.{headBytes};
 ghost use Rattle.model.specs.Limits.{version1};
 ghost use Rattle.model.specs.Answers.{outcome as outcomeOf};
 ghost use Rattle.model.specs.DeskText.{refusalLine, rightLine, wrongLine, undecidedLine, lineText, tooLong};
@@ -74,7 +75,7 @@ fn put_place(out: &mut [u8], at: usize, outcome: Outcome) -> usize
 }
 
 fn put_wrong(out: &mut [u8], facts: u8, state: u64, outcome: Outcome, visits: u64) -> usize
-    requires { ⌜ (128 ≤ length (now out)) × (facts ≤ 48) ⌝ }
+    requires { ⌜ (128 ≤ length (now out)) × (facts ≤ version1 .facts) ⌝ }
     ensures { λ r. ⌜ Put (now (out .entry)) 0 (wrongLine version1 facts state (outcomeOf outcome) visits) r (now (out .exit)) × (r ≤ 128) ⌝ }
 {
     let p = put_word(out, 0, b"wrong ");
@@ -93,7 +94,7 @@ fn put_undecided(out: &mut [u8], visits: u64) -> usize
 
 // The first line: the refusal, or the verdict.
 pub fn first_line(page: Page, out: &mut [u8]) -> usize
-    requires { ⌜ (page .facts ≤ 48) × (128 ≤ length (now out)) ⌝ }
+    requires { ⌜ (page .facts ≤ version1 .facts) × (128 ≤ length (now out)) ⌝ }
     ensures { λ r. ⌜ Put (now (out .entry)) 0 (pageLine page) r (now (out .exit)) × (r ≤ 128) ⌝ }
 {
     let answer = page.answer;
@@ -121,7 +122,7 @@ fn put_kind(out: &mut [u8], kind: u8) -> usize
 
 // The line numbered `line` of a list block: its kind and one mark per fact.
 pub fn list_line(list: &[u8], line: usize, facts: u8, out: &mut [u8]) -> usize
-    requires { ⌜ (5 + 8 * line + 8 ≤ length (now list)) × (facts ≤ 48) × (64 ≤ length (now out)) ⌝ }
+    requires { ⌜ (headBytes + version1 .line * line + version1 .line ≤ length (now list)) × (facts ≤ version1 .facts) × (64 ≤ length (now out)) ⌝ }
     ensures { λ r. ⌜ Put (now (out .entry)) 0 (lineText version1 facts (lineNumber (version1 .line) (now (list .entry)) line)) r (now (out .exit)) × (r ≤ 64) ⌝ }
 {
     let l = read_line(list, line, CaseList::LINE_BYTES);

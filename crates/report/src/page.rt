@@ -1,6 +1,8 @@
 // What the desk program writes, decided once: the verdict for the first line, and what follows it.
-ghost use Prim.Native.Nat.{_≤_};
+ghost use Prim.Native.Nat.{_≤_, _+_, _*_};
 ghost use lib.ListN.{length};
+ghost use Rattle.model.specs.Read.{headBytes};
+ghost use Rattle.model.specs.Limits.{version1};
 ghost use Rattle.report.specs.Pages.{PageOf, FollowsPage};
 use blocks::find_task;
 use judge::judge_task;
@@ -26,7 +28,7 @@ pub enum Rest {
 
 // The page of a problem and a plan, with the lines of a right plan in `list` where a list block has them.
 pub fn page_of(problem: &[u8], plan: &[u8], list: &mut [u8]) -> Page
-    requires { ⌜ 65533 ≤ length (now list) ⌝ }
+    requires { ⌜ headBytes + version1 .line * version1 .lines ≤ length (now list) ⌝ }
     ensures { λ r. ⌜ PageOf (now (problem .entry)) (now (plan .entry)) (now (list .exit)) r ⌝ }
 {
     let task = find_task(problem, plan);

@@ -3,6 +3,7 @@ ghost use mathlib.Core.Path.{_≡_};
 ghost use Prim.Native.Nat.{_+_, _≤_, _<_};
 ghost use lib.ListN.{length};
 ghost use lib.Seq.{sets};
+ghost use Rattle.model.specs.Limits.{version1};
 ghost use Rattle.model.specs.DeskText.{decimal, marks};
 ghost use Rattle.report.specs.Written.{Put, mark as markOf};
 use model::CaseList;
@@ -47,7 +48,7 @@ pub fn put_word(out: &mut [u8], at: usize, word: &[u8]) -> usize
 
 // A fact's mark: its bit of the value, or ? past k.
 fn mark(i: u8, k: u8, value: u64) -> u8
-    requires { ⌜ i < 48 ⌝ }
+    requires { ⌜ i < version1 .width ⌝ }
     ensures { λ r. ⌜ r ≡ markOf k value i ⌝ }
 {
     if k <= i {
@@ -61,8 +62,8 @@ fn mark(i: u8, k: u8, value: u64) -> u8
 
 // One mark per fact.
 pub fn put_marks(out: &mut [u8], at: usize, facts: u8, k: u8, value: u64) -> usize
-    requires { ⌜ (facts ≤ 48) × (at + facts ≤ length (now out)) ⌝ }
-    ensures { λ r. ⌜ Put (now (out .entry)) at (marks 48 facts k value) r (now (out .exit)) ⌝ }
+    requires { ⌜ (facts ≤ version1 .facts) × (at + facts ≤ length (now out)) ⌝ }
+    ensures { λ r. ⌜ Put (now (out .entry)) at (marks (version1 .width) facts k value) r (now (out .exit)) ⌝ }
 {
     let mut i: u8 = 0;
     let mut to = at;

@@ -1,16 +1,20 @@
 -- One case in every lane, by its number.
 use mathlib.Core.Path.{_≡_}
 use mathlib.Core.List.{List}
-use Prim.Native.Nat.{ℕ, _≤_, _<_}
+use Prim.Native.Nat.{ℕ, _-_, _*_, _^_, _≤_, _<_}
 use lib.ListN.{length}
 use Rattle.model.specs.Kleene.{Kleene, Unknown, known}
-use Rattle.model.specs.Limits.{version1}
 use Rattle.model.specs.Case.{bit, caseOf}
 use Rattle.model.specs.Planes.{Table}
 
--- fact f has its bit of the number, in every lane
+-- The number of a state or of a case that is w bits wide, as tables take it: fact 0 is the top bit of a word of 64, whatever the width. So
+-- a table knows no width.
+abbrev pub raised : ℕ → ℕ → ℕ
+raised w v = v * 2 ^ (64 - w)
+
+-- fact f has its bit of the word, in every lane
 abbrev pub bitsOf : ℕ → ℕ → ℕ → Kleene
-bitsOf number f j = known (bit (version1 .width) number f)
+bitsOf word f j = known (bit 64 word f)
 
 -- fact f is unknown in every lane
 abbrev pub unfixed : ℕ → ℕ → Kleene
@@ -20,11 +24,11 @@ unfixed f j = Unknown
 pub record Common (k v k′ v′ m : ℕ) : Type 0 where
   pub first : m ≤ k
   pub second : m ≤ k′
-  pub alike : (f : ℕ) → f < m → bit (version1 .width) v f ≡ bit (version1 .width) v′ f
+  pub alike : (f : ℕ) → f < m → bit 64 v f ≡ bit 64 v′ f
 
--- from the case (k, v) in every lane to the case (k′, v′) there, over any facts
-pub record SetsCase (c : List ℕ) (k v k′ v′ : ℕ) (d : List ℕ) : Type 0 where
+-- from the case (k, v) in every lane to the case (k′, v′) there, over any facts; x and x′ are their numbers as words
+pub record SetsCase (c : List ℕ) (k x k′ x′ : ℕ) (d : List ℕ) : Type 0 where
   pub size : length d ≡ 256
   pub is :
-      (n : ℕ) → k ≤ n → k′ ≤ n → Table c (λ j. caseOf (version1 .width) n k v) →
-      Table d (λ j. caseOf (version1 .width) n k′ v′)
+      (w n v v′ : ℕ) → w ≤ 64 → n ≤ w → x ≡ raised w v → x′ ≡ raised w v′ → k ≤ n → k′ ≤ n → Table c (λ j. caseOf w n k v) →
+      Table d (λ j. caseOf w n k′ v′)

@@ -2,6 +2,7 @@
 ghost use mathlib.Core.Path.{_≡_};
 ghost use Prim.Native.Nat.{_+_, _≤_, _<_};
 ghost use lib.ListN.{length};
+ghost use Rattle.model.specs.Limits.{maxFacts};
 ghost use Rattle.model.specs.Planes.{laneBit};
 ghost use Rattle.table.specs.Blocks.{FixesLevels, Spread, FixesPath};
 use crate::fact::ONES;
@@ -27,7 +28,7 @@ const SURE: [u64; 5] = [
 
 // The d facts from k on get the values that they have in each lane of a block.
 pub fn fix_levels(c: &mut [u64; 256], k: usize, d: usize)
-    requires { ⌜ (length (now c) ≡ 256) × (d ≤ 5) × (k + d ≤ 64) ⌝ }
+    requires { ⌜ (length (now c) ≡ 256) × (d ≤ 5) × (k + d ≤ maxFacts) ⌝ }
     ensures { λ _. ⌜ FixesLevels (now (c .entry)) k d (now (c .exit)) ⌝ }
 {
     let mut i: usize = 0;
@@ -55,7 +56,7 @@ pub fn spread(x: u64, lane: usize) -> u64
 
 // The d facts from k on get in every lane the values that they have in this one.
 pub fn fix_path(c: &mut [u64; 256], k: usize, d: usize, lane: usize)
-    requires { ⌜ (length (now c) ≡ 256) × (lane < 64) × (k + d ≤ 64) ⌝ }
+    requires { ⌜ (length (now c) ≡ 256) × (lane < 64) × (k + d ≤ maxFacts) ⌝ }
     ensures { λ _. ⌜ FixesPath (now (c .entry)) k d lane (now (c .exit)) ⌝ }
 {
     let mut i: usize = 0;

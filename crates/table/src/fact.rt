@@ -2,6 +2,7 @@
 ghost use mathlib.Core.Path.{_≡_};
 ghost use Prim.Native.Nat.{_<_, _≤_};
 ghost use lib.ListN.{length};
+ghost use Rattle.model.specs.Limits.{maxFacts};
 ghost use Rattle.table.specs.Tables.{SetsLiteral, SetsFact, NoneFixed};
 
 // Every lane.
@@ -9,7 +10,7 @@ pub const ONES: u64 = 0xffff_ffff_ffff_ffff;
 
 // Every fact and every denial unknown in every lane.
 pub fn unknown() -> [u64; 256]
-    ensures { λ r. ⌜ NoneFixed 64 r ⌝ }
+    ensures { λ r. ⌜ NoneFixed maxFacts r ⌝ }
 {
     let mut c = [0u64; 256];
     let mut b: usize = 0;
@@ -34,7 +35,7 @@ pub fn set_literal(c: &mut [u64; 256], l: usize, some: u64, sure: u64)
 
 // Fact f gets new values.
 pub fn set_fact(c: &mut [u64; 256], f: usize, some: u64, sure: u64)
-    requires { ⌜ (length (now c) ≡ 256) × (f < 64) ⌝ }
+    requires { ⌜ (length (now c) ≡ 256) × (f < maxFacts) ⌝ }
     ensures { λ _. ⌜ SetsFact (now (c .entry)) f some sure (now (c .exit)) ⌝ }
 {
     set_literal(c, f, some, sure);
@@ -42,7 +43,7 @@ pub fn set_fact(c: &mut [u64; 256], f: usize, some: u64, sure: u64)
 
 // None of so many facts is fixed in any lane; the facts past them are no.
 pub fn none_fixed(facts: usize) -> [u64; 256]
-    requires { ⌜ facts ≤ 64 ⌝ }
+    requires { ⌜ facts ≤ maxFacts ⌝ }
     ensures { λ r. ⌜ NoneFixed facts r ⌝ }
 {
     let mut c = unknown();

@@ -12,6 +12,7 @@ pub use block::spread;
 pub use case::fix_bits;
 pub use case::free_facts;
 pub use case::set_case;
+pub use case::word_of;
 pub use fact::ONES;
 pub use fact::none_fixed;
 pub use fact::set_fact;

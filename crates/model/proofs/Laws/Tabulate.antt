@@ -3,6 +3,7 @@ use mathlib.Core.Path.{_≡_, refl, ap}
 use mathlib.Core.List.{_∷_}
 use Prim.Native.Nat.{ℕ, zero, suc, _≤_, _<_}
 use native.Mathlib.Nat.{le-of-suc-le-suc, not-suc-le-zero}
+use native.Mathlib.Omega.{arith}
 use lib.ListN.{length, getD, List·getD-eq-default}
 use Rattle.model.specs.Action.{tabulate}
 
@@ -15,9 +16,10 @@ getD-tabulate zero f i d h = absurd (not-suc-le-zero h)
 getD-tabulate (suc n) f zero d h = refl
 getD-tabulate (suc n) f (suc i) d h = getD-tabulate n (λ j. f (suc j)) i d (le-of-suc-le-suc h)
 
-pub tabulate-same : {X : Type 0} (n : ℕ) (f g : ℕ → X) → ((i : ℕ) → f i ≡ g i) → tabulate n f ≡ tabulate n g
-tabulate-same zero f g h = refl
-tabulate-same (suc n) f g h = λ i. h zero i ∷ tabulate-same n (λ j. f (suc j)) (λ j. g (suc j)) (λ j. h (suc j)) i
+pub tabulate-below : {X : Type 0} (n : ℕ) (f g : ℕ → X) → ((i : ℕ) → i < n → f i ≡ g i) → tabulate n f ≡ tabulate n g
+tabulate-below zero f g h = refl
+tabulate-below (suc n) f g h =
+    λ i. h zero (omega arith) i ∷ tabulate-below n (λ j. f (suc j)) (λ j. g (suc j)) (λ j l. h (suc j) (omega arith)) i
 
 -- past the end
 pub getD-tabulate-past : {X : Type 0} (n : ℕ) (f : ℕ → X) (i : ℕ) (d : X) → n ≤ i → getD (tabulate n f) i d ≡ d

@@ -6,10 +6,11 @@ use mathlib.Core.Path.{ap, _∙_}
 use Prim.Native.Nat.{ℕ, _+_, _-_, _^_}
 use native.Mathlib.Omega.{arith}
 use Rattle.report.proofs.Puts.{mark-past, mark-yes, mark-no, half-pos}
+use Rattle.model.specs.Limits.{version1}
 
 -- half of what a case covers that fixes so many facts
 abbrev half : ℕ → ℕ
-half m = 2 ^ (48 - (m + 1))
+half m = 2 ^ (version1 .width - (m + 1))
 
 returns : tie.Need-returns
 returns c = mark-past _ _ _ (c .if1 .taken)

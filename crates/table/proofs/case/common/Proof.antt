@@ -4,7 +4,7 @@ use Rattle.table.proofs.case.common.Tie as tie
 use native.Mathlib.Omega.{arith}
 use mathlib.Core.Logic.{⊎-elim}
 use Prim.Native.Nat.{_≤_}
-use Rattle.table.proofs.Cases.{common-ends, common-more}
+use Rattle.table.proofs.Cases.{common-ends}
 
 abbrev Inv-loop : tie.InvT-loop
 Inv-loop k0 v0 k v m₀ m = (m ≤ k0) × (m ≤ k)
@@ -15,16 +15,11 @@ abbrev μ-loop : tie.MeasureT-loop
 loop-holds : tie.Need-loop-holds Inv-loop μ-loop
 loop-holds c = ⊎-elim (λ w. omega arith) (λ w. omega arith) (c .if1 .came)
 
-sub-m : tie.Need-sub-m Inv-loop μ-loop
-sub-m c =
-    let start = c .before .before .before .before in
-    omega (arith, common-more (start .args .v0) (start .args .v) (c .before .before .loop .m) (start .pre .2) (start .pre .3) (c .before .loop-test .taken))
-
-loop-less : tie.Need-loop-less Inv-loop μ-loop
-loop-less c = omega (arith, sub-m c)
-
 returns : tie.Need-returns Inv-loop μ-loop
-returns c = common-ends _ _ _ _ _ (omega arith) (omega arith) (omega arith) (c .loop-test .left)
+returns c = common-ends _ _ _ _ _ (omega arith) (omega arith) (omega arith) (c .if2 .taken)
+
+returns-2 : tie.Need-returns-2 Inv-loop μ-loop
+returns-2 c = record { first = omega arith; second = omega arith; alike = λ f l. absurd (omega arith) }
 
 pub common-spec : {M : Type 1} → statement M
 common-spec =
@@ -37,7 +32,8 @@ common-spec =
     (λ c. omega arith)
     (λ c. omega arith)
     (λ c. omega arith)
-    sub-m
-    loop-less
+    returns
     (λ c. omega arith)
-    returns)
+    (λ c. omega arith)
+    (λ c. omega arith)
+    returns-2)

@@ -10,10 +10,10 @@ use Rattle.table.proofs.Facts.{sets-none, sets-next, sets-ends}
 use Rattle.table.proofs.Cases.{bits-lanes}
 
 abbrev Inv-loop : tie.InvT-loop
-Inv-loop c₀ from to number f₀ c f = (from ≤ f) × (f ≤ max from to) × SetsFacts c₀ from f (bitsOf number) c
+Inv-loop c₀ from to word f₀ c f = (from ≤ f) × (f ≤ max from to) × SetsFacts c₀ from f (bitsOf word) c
 
 abbrev μ-loop : tie.MeasureT-loop
-μ-loop c₀ from to number f₀ c f = to - f
+μ-loop c₀ from to word f₀ c f = to - f
 
 loop-holds : tie.Need-loop-holds Inv-loop μ-loop
 loop-holds c = (omega arith, omega arith, sets-none _ _ _ (c .pre .0))
