@@ -20,7 +20,7 @@ use Rattle.model.specs.Stands.{FormulaAt, ActionAt}
 use Rattle.model.proofs.Laws.FormulaCodec.{formula-got}
 use Rattle.model.proofs.Laws.ProblemCodec.{action-got}
 use Rattle.blocks.specs.declared.plan.Task as found
-use Rattle.blocks.specs.Standing.{TaskStands, StandsFound}
+use Rattle.blocks.specs.Standing.{TaskStands, TaskIn, StandsFound}
 use Rattle.blocks.specs.Parts.{FormulaStands, ActionStands, TaskAt}
 
 -- ---- from a reader to the bytes
@@ -82,3 +82,10 @@ module _ {F : Limits} (S : Sensible F) (s t : List ℕ) (r : found.Task) (b : By
 
 pub part-from : (s : List ℕ) (p : ℕ) → take (length s - p) (drop p s) ≡ drop p s
 part-from s p = take-all (length s - p) (drop p s) (omega (arith, length-drop p s))
+
+-- a task that was found is the one in the blocks, with the plan's steps as their own slice
+pub found-in :
+    (F : Limits) (problem plan : List ℕ) (r : found.Task) (o : StandsFound F problem plan r) (steps : List ℕ) →
+    steps ≡ take (length plan - headBytes) (drop headBytes plan) → TaskIn F problem steps (r .problem) (o .task)
+found-in F problem plan r o steps e =
+    record { width = o .width; few = o .few; facts = o .facts; stands = rw (e, part-from plan headBytes) (o .stands) }

@@ -11,6 +11,8 @@ use Rattle.model.specs.Read.{headBytes}
 use Rattle.model.specs.ProblemBytes.{actionAt}
 use Rattle.model.specs.Operations.{readTask}
 use Rattle.model.specs.Stands.{FormulaAt, ActionAt}
+use Rattle.model.specs.declared.Problem.{Problem}
+use Rattle.blocks.specs.declared.problem.Places.{Places}
 use Rattle.blocks.specs.declared.plan.Task as found
 
 -- T stands in `problem` and `steps`: its formulas where `initial` and `goal` say, and the action of each step, a number of a slot,
@@ -24,6 +26,20 @@ pub record TaskStands (problem steps actions : List ℕ) (initial goal : ℕ) (T
   pub acting :
       (i : ℕ) → i < length steps →
       (q : ℕ) × ActionAt problem (T .facts) (getD actions (getD steps i 0) 0) (actionAt (T .plan) i) q
+
+-- T is a task of the version whose numbers are F, over n facts, and stands there
+pub record VersionTask (F : Limits) (problem steps actions : List ℕ) (n : ℕ) (at : Places) (T : Task) : Type 0 where
+  pub width : T .width ≡ F .width
+  pub few : T .facts ≤ F .facts
+  pub facts : n ≡ T .facts
+  pub stands : TaskStands problem steps actions (at .initial) (at .goal) T
+
+abbrev pub placesOf : Problem → Places
+placesOf parts = record { initial = parts .initial; goal = parts .goal }
+
+-- the same, where `parts` says
+abbrev pub TaskIn : Limits → List ℕ → List ℕ → Problem → Task → Type 0
+TaskIn F problem steps parts T = VersionTask F problem steps (parts .action) (parts .facts) (placesOf parts) T
 
 -- a problem and a plan that were found are read as some task of the version whose numbers are F, which stands there; a plan's steps are
 -- all that follows its header

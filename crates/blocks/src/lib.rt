@@ -11,5 +11,6 @@ pub use plan::Task;
 pub use plan::find_task;
 pub use plan::read_plan;
 pub use problem::Found;
+pub use problem::Places;
 pub use problem::find_problem;
 pub use problem::read_problem;

@@ -20,6 +20,12 @@ use model::Problem;
 use model::ProblemAnswer;
 use model::Refusal;
 
+// Where the formulas of a problem stand.
+pub struct Places {
+    pub initial: usize,
+    pub goal: usize,
+}
+
 // Where m actions stand: a refusal or the position after them, with each one's position.
 pub struct Actions {
     pub reading: Reading,

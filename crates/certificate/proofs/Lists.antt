@@ -32,7 +32,7 @@ use Rattle.judge.specs.declared.walk.Ending.the-variants.{Out, Failed, Closed}
 use Rattle.judge.specs.Walks.{cut, endingOf, Ended}
 use Rattle.judge.specs.Verdicts.{WalksTask}
 use Rattle.judge.proofs.Walking.{closed-cut, stopped-cut, out-cut, cut-closed}
-use Rattle.judge.proofs.Verdicts.{parts-of}
+use Rattle.blocks.proofs.Standing.{found-in}
 use Rattle.certificate.specs.Writing.{headOf, WritesTask}
 
 -- ---- the block
@@ -118,7 +118,7 @@ module _ (s t : List ℕ) (r : blocks.Task) (F : StandsFound version1 s t r) (g 
   n≤w = omega (arith, F .few, F .width)
 
   ended : endingOf w ≡ cut g (walked T)
-  ended = W .is T (parts-of s t r F steps own) .ending
+  ended = W .is T (found-in version1 s t r F steps own) .ending
 
   for : listFor version1 s t g (length before) ≡ linesFor version1 (length before) (judged T g)
   for = list-for-is version1 s t T (F .read) g (length before)
@@ -188,6 +188,6 @@ module _ (s t : List ℕ) (r : blocks.Task) (F : StandsFound version1 s t r) (g 
         let eq : 5 + 8 * length (x .lines) ≡ size = omega (arith, x .count) in
         let y : 5 + 8 * length (x .lines) ≡ 5 + body = omega (arith, x .count) in
         let f = x .for-them ∙ fits (x .lines) (x .count) k (omega arith) in
-        let p = P .is T (parts-of s t r F steps own) (x .lines) a (x .is) (x .within) (omega (arith, x .count)) in
+        let p = P .is T (found-in version1 s t r F steps own) (x .lines) a (x .is) (x .within) (omega (arith, x .count)) in
         subst (λ (z : ℕ). Left s t g before (answered z) after) eq
         (left-answered s t g before after (x .lines) f (p ∙ ap (λ (z : ℕ). encodeList version1 (x .lines) ++ drop z before) (sym y)))

@@ -9,7 +9,7 @@ use Rattle.model.specs.Walk.{Line, covered, walked}
 use Rattle.model.specs.Read.{headBytes, bytesOf}
 use Rattle.model.specs.ListBytes.{encodeList}
 use Rattle.model.specs.declared.Problem.{Problem}
-use Rattle.judge.specs.Verdicts.{PartsOf}
+use Rattle.blocks.specs.Standing.{TaskIn}
 
 -- the bytes before a body of n bytes
 abbrev pub headOf : ℕ → List ℕ
@@ -18,5 +18,5 @@ headOf n = version1 .version ∷ bytesOf 4 n
 -- the block of a right plan's list, where the visits suffice and its body has the length that was said
 pub record WritesTask (problem steps : List ℕ) (parts : Problem) (g body : ℕ) (before after : List ℕ) : Type 0 where
   pub is :
-      (T : Task) → PartsOf problem steps parts T → (ls : List Line) (a : ℕ) → walked T ≡ covered ls a → a ≤ g →
+      (T : Task) → TaskIn version1 problem steps parts T → (ls : List Line) (a : ℕ) → walked T ≡ covered ls a → a ≤ g →
       body ≡ version1 .line * length ls → after ≡ encodeList version1 ls ++ drop (headBytes + body) before

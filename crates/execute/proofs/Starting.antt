@@ -28,7 +28,7 @@ use Rattle.table.proofs.Cases.{raised-case}
 use Rattle.execute.specs.declared.start.StateTable.{StateTable}
 use Rattle.execute.specs.Start.{HoldsState}
 use Rattle.execute.specs.Cases.{RunsState}
-use Rattle.blocks.proofs.Standing.{part-from}
+use Rattle.blocks.proofs.Standing.{found-in}
 
 -- ---- the table
 
@@ -93,7 +93,7 @@ module _ (problem plan : List ℕ) (r : Task) (o : StandsFound version1 problem 
       run-is =
           let T = o .task in
           let t = subst (λ (m : ℕ). Table (d .table) (λ j. caseOf (version1 .width) m m s)) same-facts (D .table h) in
-          R .is (r .problem .initial) T (rw (own, part-from) (o .stands)) (λ j. caseOf (version1 .width) (T .facts) (T .facts) s) (λ j l. length-case (version1 .width) (T .facts) (T .facts) s) t ∙
+          R .is (r .problem .initial) T (found-in version1 problem plan r o steps own .stands) (λ j. caseOf (version1 .width) (T .facts) (T .facts) s) (λ j l. length-case (version1 .width) (T .facts) (T .facts) s) t ∙
           rw (o .width) (run-full (version1 .width) (T .facts) (T .goal) (T .plan) s)
 
       pub run-ended : answered (outcome u) ≡ runState version1 problem plan s

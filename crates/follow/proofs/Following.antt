@@ -6,7 +6,6 @@ use Prim.Native.Nat.{ℕ, zero, suc, _+_, _-_, _*_, _/_, _%_, _^_, _≤_, _<_}
 use native.Mathlib.Numerals.{add-one}
 use native.Mathlib.Omega.{arith}
 use lib.ListN.{length, take, drop, length-drop}
-use lib.Seq.{take-all}
 use lib.Dec.{eqb, ltb}
 use lib.Pow.{pow-mono, pow-pos}
 use borrow.Author.Tests.{ltb-false, eq-eqb, ne-eqb}
@@ -36,7 +35,8 @@ use Rattle.formula.specs.declared.read.Reading.the-variants.{Refused, Next as R
 use Rattle.formula.proofs.Readers.{next-got, next-refused}
 use Rattle.blocks.specs.declared.plan.Task as blocks
 use Rattle.blocks.specs.Parts.{FindsTask}
-use Rattle.blocks.specs.Standing.{StandsFound}
+use Rattle.blocks.specs.Standing.{placesOf, VersionTask, TaskIn, StandsFound}
+use Rattle.blocks.proofs.Standing.{found-in}
 use Rattle.blocks.proofs.Headers.{header-got}
 use Rattle.table.specs.Tables.{NoneFixed}
 use Rattle.table.specs.Cases.{raised, SetsCase}
@@ -45,12 +45,12 @@ use Rattle.execute.specs.Cases.{lookBits, LooksAtCases}
 use Rattle.lines.specs.declared.form.Line.{Line}
 use Rattle.lines.specs.declared.form.Checked.{Checked}
 use Rattle.lines.specs.declared.form.Checked.the-variants.{Fault as Faulty, Sound}
-use Rattle.follow.specs.declared.Parts.{Parts}
+use Rattle.blocks.specs.declared.problem.Places.{Places}
 use Rattle.follow.specs.declared.Before.{Before}
 use Rattle.follow.specs.declared.Followed.{Followed}
 use Rattle.follow.specs.declared.Followed.the-variants.{Fault, Next}
 use Rattle.lines.specs.Lines.{lineNumber, Reads, formFault, Found, ChecksForm}
-use Rattle.follow.specs.Follows.{Lanes, Stands, Claims, Within, LineIs, NextWithin, FollowsLine, FollowsLines, bodyAnswer, FollowsBody}
+use Rattle.follow.specs.Follows.{Lanes, Claims, Within, LineIs, NextWithin, FollowsLine, FollowsLines, bodyAnswer, FollowsBody}
 
 -- ---- a claim
 
@@ -65,19 +65,19 @@ look-carries a (suc b) e h = rw e
 look-open : (a b : ℕ) → a ≡ 0 → b ≡ 0 → lookBits a b ≡ opened
 look-open a b e f = rw (e, f)
 
-module _ (problem steps actions : List ℕ) (at : Parts) (kind : ℕ) (c : List ℕ) (r : Looks)
+module _ (problem steps actions : List ℕ) (at : Places) (kind : ℕ) (c : List ℕ) (r : Looks)
     (L : LooksAtCases problem steps actions (at .initial) (at .goal) c r) where
   look-is :
-      (T : Task) → Stands problem steps actions (at .initial) (at .goal) T → (k v : ℕ) → Lanes c T k v →
+      (n : ℕ) (T : Task) → VersionTask version1 problem steps actions n at T → (k v : ℕ) → Lanes c T k v →
       lookBits (laneBit 0 (r .empty)) (laneBit 0 (r .carries)) ≡ lookAt T k v
   unfolding lookAt
-  look-is T S k v t =
+  look-is n T S k v t =
       L .is T (S .stands) _ (λ j l. length-case (version1 .width) (T .facts) k v) t 0 (omega arith) ∙
       ap (λ (w : ℕ). lookOf (eval three (caseOf w (T .facts) k v) (T .initial)) (run three (T .facts) (T .goal) (T .plan) 0 (caseOf w (T .facts) k v)))
       (sym (S .width))
 
   claim-is : (o : model.Look) → lookBits (laneBit 0 (r .empty)) (laneBit 0 (r .carries)) ≡ o → Claims problem steps actions at kind c (claims kind o)
-  claim-is o e = record { is = λ T S k v t. ap (claims kind) (sym e ∙ look-is T S k v t) }
+  claim-is o e = record { is = λ n T S k v t. ap (claims kind) (sym e ∙ look-is n T S k v t) }
 
   module _ (e : ℕ) (e-is : e ≡ laneBit 0 (r .empty)) where
     pub claim-empty : (e ≡ 0 → ⊥) → Claims problem steps actions at kind c (eqb kind 0)
@@ -162,54 +162,54 @@ module _ (list : List ℕ) (n i : ℕ) (r : Line) (e : formFault (version1 .widt
     ends-at = ap (λ (z : ℕ). z + 2 ^ (version1 .width - r .k)) begins ∙ ap (λ (z : ℕ). x + 2 ^ (version1 .width - z)) (sym k-is)
 
 -- what `check_at` answered and the table did, of the line numbered i
-module _ (problem steps actions : List ℕ) (at : Parts) (list : List ℕ) (i : ℕ) (b : Before) (c : List ℕ) where
+module _ (problem steps actions : List ℕ) (facts : ℕ) (at : Places) (list : List ℕ) (i : ℕ) (b : Before) (c : List ℕ) where
   pub line-faulty :
-      (f : ℕ) → formFault (version1 .width) (at .facts) (lineIn list i) ≡ f → 0 < f → length c ≡ 256 →
-      FollowsLine problem steps actions at list i b c (Fault f) c
-  line-faulty f e h g = record { is = λ T S m t. (fault-form list (at .facts) i (b .end) T f e h, h); within = tt; size = g }
+      (f : ℕ) → formFault (version1 .width) facts (lineIn list i) ≡ f → 0 < f → length c ≡ 256 →
+      FollowsLine problem steps actions facts at list i b c (Fault f) c
+  line-faulty f e h g = record { is = λ T S t. (fault-form list facts i (b .end) T f e h, h); within = tt; size = g }
 
   pub line-apart :
-      (r : Line) → formFault (version1 .width) (at .facts) (lineIn list i) ≡ 0 → Reads list i (version1 .line) r → (r .value ≡ b .end → ⊥) → length c ≡ 256 →
-      FollowsLine problem steps actions at list i b c (Fault 68) c
-  line-apart r e R h g = record { is = λ T S m t. (fault-place list (at .facts) i r e R (b .end) T h, omega arith); within = tt; size = g }
+      (r : Line) → formFault (version1 .width) facts (lineIn list i) ≡ 0 → Reads list i (version1 .line) r → (r .value ≡ b .end → ⊥) → length c ≡ 256 →
+      FollowsLine problem steps actions facts at list i b c (Fault 68) c
+  line-apart r e R h g = record { is = λ T S t. (fault-place list facts i r e R (b .end) T h, omega arith); within = tt; size = g }
 
-  module _ (r : Line) (e : formFault (version1 .width) (at .facts) (lineIn list i) ≡ 0) (R : Reads list i (version1 .line) r) (begins : r .value ≡ b .end)
-      (few : at .facts ≤ version1 .facts) (W : Within (at .facts) b) (k : ℕ) (k-as : k ≡ r .k) (x x′ : ℕ)
+  module _ (r : Line) (e : formFault (version1 .width) facts (lineIn list i) ≡ 0) (R : Reads list i (version1 .line) r) (begins : r .value ≡ b .end)
+      (few : facts ≤ version1 .facts) (W : Within facts b) (k : ℕ) (k-as : k ≡ r .k) (x x′ : ℕ)
       (x-is : x ≡ raised (version1 .width) (b .value)) (x′-is : x′ ≡ raised (version1 .width) (r .value)) (d : List ℕ) (D : SetsCase c (b .k) x k x′ d)
       (y : Bool) (C : Claims problem steps actions at (r .kind) d y) where
-    fits : k ≤ at .facts
-    fits = omega (arith, k-fits list (at .facts) i r e R)
+    fits : k ≤ facts
+    fits = omega (arith, k-fits list facts i r e R)
 
-    moved : (T : Task) → at .facts ≡ T .facts → Lanes c T (b .k) (b .value) → Lanes d T k (r .value)
+    moved : (T : Task) → facts ≡ T .facts → Lanes c T (b .k) (b .value) → Lanes d T k (r .value)
     moved T m t =
         D .is (version1 .width) (T .facts) (b .value) (r .value) (omega arith) (omega arith) x-is x′-is (omega (arith, W .k)) (omega (arith, fits)) t
 
     told :
-        (T : Task) → Stands problem steps actions (at .initial) (at .goal) T → at .facts ≡ T .facts → Lanes c T (b .k) (b .value) →
+        (T : Task) → VersionTask version1 problem steps actions facts at T → Lanes c T (b .k) (b .value) →
         y ≡ claims (r .kind) (lookAt T (r .k) (r .value))
-    told T S m t = C .is T S k (r .value) (moved T m t) ∙ ap (λ (z : ℕ). claims (r .kind) (lookAt T z (r .value))) k-as
+    told T S t = C .is facts T S k (r .value) (moved T (S .facts) t) ∙ ap (λ (z : ℕ). claims (r .kind) (lookAt T z (r .value))) k-as
 
     pub line-claims :
         (z : ℕ) → y ≡ true → z ≡ r .value + 2 ^ (version1 .width - r .k) →
-        FollowsLine problem steps actions at list i b c (Next (record { k = k; value = r .value; end = z })) d
+        FollowsLine problem steps actions facts at list i b c (Next (record { k = k; value = r .value; end = z })) d
     unfolding first
     line-claims z h g =
         record {
           is =
-              λ T S m t. (
-                fault-told list (at .facts) i r e R (b .end) begins T y true (told T S m t) h,
-                g ∙ ends-at list (at .facts) i r e R (b .end) begins,
-                moved T m t,
+              λ T S t. (
+                fault-told list facts i r e R (b .end) begins T y true (told T S t) h,
+                g ∙ ends-at list facts i r e R (b .end) begins,
+                moved T (S .facts) t,
               );
           within = record { k = fits; value = R .small };
           size = D .size;
         }
 
-    pub line-denied : y ≡ false → FollowsLine problem steps actions at list i b c (Fault 69) d
+    pub line-denied : y ≡ false → FollowsLine problem steps actions facts at list i b c (Fault 69) d
     unfolding first
     line-denied h =
         record {
-          is = λ T S m t. (fault-told list (at .facts) i r e R (b .end) begins T y false (told T S m t) h, omega arith);
+          is = λ T S t. (fault-told list facts i r e R (b .end) begins T y false (told T S t) h, omega arith);
           within = tt;
           size = D .size;
         }
@@ -263,88 +263,88 @@ module _ (w : ℕ) (look : ℕ → ℕ → model.Look) (n : ℕ) (list : List �
 -- ---- whole lists
 
 -- i of m lines are followed, the last of them b, whose case the table c has: what is left answers for all
-pub record Followed-so-far (problem steps actions : List ℕ) (at : Parts) (list : List ℕ) (m : ℕ) (c : List ℕ) (b : Before) (i : ℕ) : Type 0 where
+pub record Followed-so-far (problem steps actions : List ℕ) (facts : ℕ) (at : Places) (list : List ℕ) (m : ℕ) (c : List ℕ) (b : Before) (i : ℕ) : Type 0 where
   pub same :
-      (T : Task) → Stands problem steps actions (at .initial) (at .goal) T → at .facts ≡ T .facts →
-      (follow (version1 .width) (lookAt T) (at .facts) (linesFrom version1 list m 5) 0 0 ≡
-      follow (version1 .width) (lookAt T) (at .facts) (linesFrom version1 list (m - i) (5 + 8 * i)) i (b .end)) ×
+      (T : Task) → VersionTask version1 problem steps actions facts at T →
+      (follow (version1 .width) (lookAt T) facts (linesFrom version1 list m 5) 0 0 ≡
+      follow (version1 .width) (lookAt T) facts (linesFrom version1 list (m - i) (5 + 8 * i)) i (b .end)) ×
       Lanes c T (b .k) (b .value)
   pub few : i ≤ m
-  pub within : Within (at .facts) b
+  pub within : Within facts b
   pub size : length c ≡ 256
 
-module _ (problem steps actions : List ℕ) (at : Parts) (list : List ℕ) (m : ℕ) where
+module _ (problem steps actions : List ℕ) (facts : ℕ) (at : Places) (list : List ℕ) (m : ℕ) where
   pub none-followed :
-      (n : ℕ) → n ≡ at .facts → (c : List ℕ) → NoneFixed n c →
-      Followed-so-far problem steps actions at list m c (record { k = 0; value = 0; end = 0 }) 0
+      (n : ℕ) → n ≡ facts → (c : List ℕ) → NoneFixed n c →
+      Followed-so-far problem steps actions facts at list m c (record { k = 0; value = 0; end = 0 }) 0
   none-followed n e c N =
       record {
         same =
-            λ T S g. (
-              ap (λ (k : ℕ). follow (version1 .width) (lookAt T) (at .facts) (linesFrom version1 list k 5) 0 0) (omega arith),
-              rw (case-first (version1 .width) (T .facts), sym g, sym e) (N .is),
+            λ T S. (
+              ap (λ (k : ℕ). follow (version1 .width) (lookAt T) facts (linesFrom version1 list k 5) 0 0) (omega arith),
+              rw (case-first (version1 .width) (T .facts), sym (S .facts), sym e) (N .is),
             );
         few = omega arith;
         within = record { k = omega arith; value = omega (arith, pow-pos (version1 .width)) };
         size = N .size;
       }
 
-  module _ (c : List ℕ) (b : Before) (i : ℕ) (o : Followed-so-far problem steps actions at list m c b i) (r : Followed) (d : List ℕ)
-      (h : i < m) (y : FollowsLine problem steps actions at list i b c r d) where
-    pub lines-fault : (f : ℕ) → r ≡ Fault f → FollowsLines problem steps actions at list m (FollowRefused (record { number = f; place = i }))
+  module _ (c : List ℕ) (b : Before) (i : ℕ) (o : Followed-so-far problem steps actions facts at list m c b i) (r : Followed) (d : List ℕ)
+      (h : i < m) (y : FollowsLine problem steps actions facts at list i b c r d) where
+    pub lines-fault : (f : ℕ) → r ≡ Fault f → FollowsLines problem steps actions facts at list m (FollowRefused (record { number = f; place = i }))
     unfolding lineAt
     lines-fault f e =
         record {
           is =
-              λ T S g.
-              let (p, t) = o .same T S g in
-              let (a, l) = subst (λ (q : Followed). LineIs list (at .facts) i (b .end) T q d) e (y .is T S g t) in
-              sym (p ∙ follow-fault (version1 .width) (lookAt T) (at .facts) list (m - i) (5 + 8 * i) i (b .end) f (omega arith) a l);
+              λ T S.
+              let (p, t) = o .same T S in
+              let (a, l) = subst (λ (q : Followed). LineIs list facts i (b .end) T q d) e (y .is T S t) in
+              sym (p ∙ follow-fault (version1 .width) (lookAt T) facts list (m - i) (5 + 8 * i) i (b .end) f (omega arith) a l);
         }
 
-    pub lines-next : (b′ : Before) → r ≡ Next b′ → Followed-so-far problem steps actions at list m d b′ (i + 1)
+    pub lines-next : (b′ : Before) → r ≡ Next b′ → Followed-so-far problem steps actions facts at list m d b′ (i + 1)
     unfolding lineAt
     lines-next b′ e =
         record {
           same =
-              λ T S g.
-              let (p, t) = o .same T S g in
-              let (a, z, t′) = subst (λ (q : Followed). LineIs list (at .facts) i (b .end) T q d) e (y .is T S g t) in (
+              λ T S.
+              let (p, t) = o .same T S in
+              let (a, z, t′) = subst (λ (q : Followed). LineIs list facts i (b .end) T q d) e (y .is T S t) in (
                 p ∙
-                    follow-next (version1 .width) (lookAt T) (at .facts) list (m - i) (5 + 8 * i) i (b .end) (b′ .end) (omega arith) a z ∙
+                    follow-next (version1 .width) (lookAt T) facts list (m - i) (5 + 8 * i) i (b .end) (b′ .end) (omega arith) a z ∙
                     at-line T (m - i - 1) (m - (i + 1)) (5 + 8 * i + 8) (5 + 8 * (i + 1)) (omega arith) (omega arith),
                 t′,
               );
           few = omega arith;
-          within = subst (NextWithin (at .facts)) e (y .within);
+          within = subst (NextWithin facts) e (y .within);
           size = y .size;
         }
       where
         at-line :
             (T : Task) (u v p q : ℕ) → u ≡ v → p ≡ q →
-            follow (version1 .width) (lookAt T) (at .facts) (linesFrom version1 list u p) (i + 1) (b′ .end) ≡
-            follow (version1 .width) (lookAt T) (at .facts) (linesFrom version1 list v q) (i + 1) (b′ .end)
+            follow (version1 .width) (lookAt T) facts (linesFrom version1 list u p) (i + 1) (b′ .end) ≡
+            follow (version1 .width) (lookAt T) facts (linesFrom version1 list v q) (i + 1) (b′ .end)
         at-line T u v p q =
-            ap₂ (λ (k l : ℕ). follow (version1 .width) (lookAt T) (at .facts) (linesFrom version1 list k l) (i + 1) (b′ .end))
+            ap₂ (λ (k l : ℕ). follow (version1 .width) (lookAt T) facts (linesFrom version1 list k l) (i + 1) (b′ .end))
 
-  module _ (c : List ℕ) (b : Before) (i : ℕ) (o : Followed-so-far problem steps actions at list m c b i) (h : m ≤ i) where
+  module _ (c : List ℕ) (b : Before) (i : ℕ) (o : Followed-so-far problem steps actions facts at list m c b i) (h : m ≤ i) where
     all-followed : i ≡ m
     all-followed = omega (arith, o .few)
 
-    pub lines-short : (b .end ≡ 2 ^ version1 .width → ⊥) → FollowsLines problem steps actions at list m (FollowRefused (record { number = 70; place = m }))
+    pub lines-short : (b .end ≡ 2 ^ version1 .width → ⊥) → FollowsLines problem steps actions facts at list m (FollowRefused (record { number = 70; place = m }))
     lines-short d =
         record {
           is =
-              λ T S g.
-              sym (o .same T S g .0 ∙ follow-short (version1 .width) (lookAt T) (at .facts) list (m - i) (5 + 8 * i) i (b .end) (omega arith) d ∙ ap (refused 70) all-followed);
+              λ T S.
+              sym (o .same T S .0 ∙ follow-short (version1 .width) (lookAt T) facts list (m - i) (5 + 8 * i) i (b .end) (omega arith) d ∙ ap (refused 70) all-followed);
         }
 
-    pub lines-pass : b .end ≡ 2 ^ version1 .width → FollowsLines problem steps actions at list m (Passes m)
+    pub lines-pass : b .end ≡ 2 ^ version1 .width → FollowsLines problem steps actions facts at list m (Passes m)
     lines-pass d =
         record {
           is =
-              λ T S g.
-              sym (o .same T S g .0 ∙ follow-ends (version1 .width) (lookAt T) (at .facts) list (m - i) (5 + 8 * i) i (b .end) (omega arith) d ∙ ap answered all-followed);
+              λ T S.
+              sym (o .same T S .0 ∙ follow-ends (version1 .width) (lookAt T) facts list (m - i) (5 + 8 * i) i (b .end) (omega arith) d ∙ ap answered all-followed);
         }
 
 -- ---- the block
@@ -352,19 +352,19 @@ module _ (problem steps actions : List ℕ) (at : Parts) (list : List ℕ) (m : 
 module _ (problem steps : List ℕ) (parts : Problem) (list : List ℕ) where
   pub body-refused :
       ((length list - 5) % 8 ≡ 0 → ⊥) → FollowsBody problem steps parts list (FollowRefused (record { number = 64; place = length list }))
-  body-refused h = record { is = λ T S g. rw (ne-eqb ((length list - 5) % 8) 0 h) }
+  body-refused h = record { is = λ T S. rw (ne-eqb ((length list - 5) % 8) 0 h) }
 
   pub body-lines :
       (r : FollowAnswer) → (length list - 5) % 8 ≡ 0 →
-      FollowsLines problem steps (parts .action) (record { facts = parts .facts; initial = parts .initial; goal = parts .goal }) list ((length list - 5) / 8) r →
+      FollowsLines problem steps (parts .action) (parts .facts) (placesOf parts) list ((length list - 5) / 8) r →
       FollowsBody problem steps parts list r
-  body-lines r h y = record { is = λ T S g. y .is T S g ∙ rw (eq-eqb ((length list - 5) % 8) 0 h) (over T S g) }
+  body-lines r h y = record { is = λ T S. y .is T S ∙ rw (eq-eqb ((length list - 5) % 8) 0 h) (over T S) }
     where
       over :
-          (T : Task) → Stands problem steps (parts .action) (parts .initial) (parts .goal) T → parts .facts ≡ T .facts →
+          (T : Task) → TaskIn version1 problem steps parts T →
           follow (version1 .width) (lookAt T) (parts .facts) (linesFrom version1 list ((length list - 5) / 8) 5) 0 0 ≡
           follow (T .width) (lookAt T) (T .facts) (linesFrom version1 list ((length list - 5) / 8) 5) 0 0
-      over T S = ap₂ (λ (w n : ℕ). follow w (lookAt T) n (linesFrom version1 list ((length list - 5) / 8) 5) 0 0) (sym (S .width))
+      over T S = ap₂ (λ (w n : ℕ). follow w (lookAt T) n (linesFrom version1 list ((length list - 5) / 8) 5) 0 0) (sym (S .width)) (S .facts)
 
 -- ---- the operation
 
@@ -397,10 +397,6 @@ pub follow-refused :
 unfolding followList Answer._>>=_
 follow-refused s t list r f h = rw (f .refusal h)
 
--- a plan's steps, as the code has them
-part-from : (plan : List ℕ) → take (length plan - headBytes) (drop headBytes plan) ≡ drop headBytes plan
-part-from plan = take-all (length plan - headBytes) (drop headBytes plan) (omega (arith, length-drop headBytes plan))
-
 module _ (problem plan : List ℕ) (r : blocks.Task) (o : StandsFound version1 problem plan r) where
   pub facts-most : r .problem .facts ≤ version1 .facts
   facts-most = omega (arith, o .facts, o .few)
@@ -431,4 +427,4 @@ module _ (problem plan list : List ℕ) (r : blocks.Task) (o : StandsFound versi
       (u : FollowAnswer) (q : ℕ) → Reading-Next q ≡ nextOf (header list 60 65533 1 0) → (steps : List ℕ) →
       steps ≡ take (length plan - headBytes) (drop headBytes plan) → FollowsBody problem steps (r .problem) list u →
       followAnswer u ≡ followList version1 problem plan list
-  follow-body u q e steps p y = y .is (o .task) (record { width = o .width; stands = rw (p, part-from plan) (o .stands) }) (o .facts) ∙ sym (body-is q e)
+  follow-body u q e steps p y = y .is (o .task) (found-in version1 problem plan r o steps p) ∙ sym (body-is q e)

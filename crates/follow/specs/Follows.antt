@@ -15,8 +15,8 @@ use Rattle.model.specs.ListBytes.{linesFrom}
 use Rattle.model.specs.Answers.{followAnswer}
 use Rattle.model.specs.declared.FollowAnswer.{FollowAnswer}
 use Rattle.model.specs.declared.Problem.{Problem}
-use Rattle.blocks.specs.Standing.{TaskStands}
-use Rattle.follow.specs.declared.Parts.{Parts}
+use Rattle.blocks.specs.Standing.{VersionTask, TaskIn}
+use Rattle.blocks.specs.declared.problem.Places.{Places}
 use Rattle.follow.specs.declared.Before.{Before}
 use Rattle.follow.specs.declared.Followed.{Followed}
 use Rattle.follow.specs.declared.Followed.the-variants.{Fault, Next}
@@ -26,15 +26,10 @@ use Rattle.lines.specs.Lines.{lineNumber}
 abbrev pub Lanes : List ℕ → Task → ℕ → ℕ → Type 0
 Lanes c T k v = Table c (λ j. caseOf (version1 .width) (T .facts) k v)
 
--- the task T stands so, and its states are as wide as the code has them
-pub record Stands (problem steps actions : List ℕ) (initial goal : ℕ) (T : Task) : Type 0 where
-  pub width : T .width ≡ version1 .width
-  pub stands : TaskStands problem steps actions initial goal T
-
 -- whether a claim of that kind is so, of the case in the table
-pub record Claims (problem steps actions : List ℕ) (at : Parts) (kind : ℕ) (c : List ℕ) (r : Bool) : Type 0 where
+pub record Claims (problem steps actions : List ℕ) (at : Places) (kind : ℕ) (c : List ℕ) (r : Bool) : Type 0 where
   pub is :
-      (T : Task) → Stands problem steps actions (at .initial) (at .goal) T → (k v : ℕ) → Lanes c T k v →
+      (n : ℕ) (T : Task) → VersionTask version1 problem steps actions n at T → (k v : ℕ) → Lanes c T k v →
       r ≡ claims kind (lookAt T k v)
 
 -- a line before, over n facts
@@ -56,18 +51,18 @@ NextWithin n (Fault f) = Unit {0}
 NextWithin n (Next b) = Within n b
 
 -- from the table c, which has the case of the line before, to d
-pub record FollowsLine (problem steps actions : List ℕ) (at : Parts) (list : List ℕ) (i : ℕ) (b : Before) (c : List ℕ) (r : Followed) (d : List ℕ) : Type 0 where
+pub record FollowsLine (problem steps actions : List ℕ) (facts : ℕ) (at : Places) (list : List ℕ) (i : ℕ) (b : Before) (c : List ℕ) (r : Followed) (d : List ℕ) : Type 0 where
   pub is :
-      (T : Task) → Stands problem steps actions (at .initial) (at .goal) T → at .facts ≡ T .facts → Lanes c T (b .k) (b .value) →
-      LineIs list (at .facts) i (b .end) T r d
-  pub within : NextWithin (at .facts) r
+      (T : Task) → VersionTask version1 problem steps actions facts at T → Lanes c T (b .k) (b .value) →
+      LineIs list facts i (b .end) T r d
+  pub within : NextWithin facts r
   pub size : length d ≡ 256
 
 -- all lines, so many
-pub record FollowsLines (problem steps actions : List ℕ) (at : Parts) (list : List ℕ) (m : ℕ) (r : FollowAnswer) : Type 0 where
+pub record FollowsLines (problem steps actions : List ℕ) (facts : ℕ) (at : Places) (list : List ℕ) (m : ℕ) (r : FollowAnswer) : Type 0 where
   pub is :
-      (T : Task) → Stands problem steps actions (at .initial) (at .goal) T → at .facts ≡ T .facts →
-      followAnswer r ≡ follow (version1 .width) (lookAt T) (at .facts) (linesFrom version1 list m 5) 0 0
+      (T : Task) → VersionTask version1 problem steps actions facts at T →
+      followAnswer r ≡ follow (version1 .width) (lookAt T) facts (linesFrom version1 list m 5) 0 0
 
 -- the body of a list block: 64, or its lines
 abbrev pub bodyAnswer : Task → List ℕ → Answer ℕ
@@ -78,5 +73,5 @@ bodyAnswer T list =
 
 pub record FollowsBody (problem steps : List ℕ) (parts : Problem) (list : List ℕ) (r : FollowAnswer) : Type 0 where
   pub is :
-      (T : Task) → Stands problem steps (parts .action) (parts .initial) (parts .goal) T → parts .facts ≡ T .facts →
+      (T : Task) → TaskIn version1 problem steps parts T →
       followAnswer r ≡ bodyAnswer T list

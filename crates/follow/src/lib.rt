@@ -9,6 +9,7 @@ ghost use Rattle.model.specs.Operations.{followList};
 ghost use Rattle.model.specs.Answers.{followAnswer};
 ghost use Rattle.follow.specs.Follows.{Claims, Within, FollowsLine, FollowsLines, FollowsBody};
 ghost use Rattle.follow.specs.Promise.{FollowPromised};
+use blocks::Places;
 use blocks::check_header;
 use blocks::find_task;
 use execute::look_at_cases;
@@ -30,13 +31,6 @@ use table::word_of;
 // The bits of a number.
 const WIDTH: usize = CaseList::WIDTH as usize;
 
-// What a line is followed by: the count of facts, and where the initial formula and the goal stand.
-pub struct Parts {
-    pub facts: u8,
-    pub initial: usize,
-    pub goal: usize,
-}
-
 // The line before: its case, which the table has in every lane, and where it ended.
 pub struct Before {
     pub k: usize,
@@ -49,7 +43,7 @@ fn check_claim(
     problem: &[u8],
     steps: &[u8],
     actions: &[usize; 64],
-    at: Parts,
+    at: Places,
     kind: u8,
     c: &[u64; 256],
 ) -> bool
@@ -77,16 +71,17 @@ fn follow_line(
     problem: &[u8],
     steps: &[u8],
     actions: &[usize; 64],
-    at: Parts,
+    facts: u8,
+    at: Places,
     list: &[u8],
     line: usize,
     before: Before,
     c: &mut [u64; 256],
 ) -> Followed
-    requires { ⌜ (at .facts ≤ version1 .facts) × Within (at .facts) before × (headBytes + version1 .line * line + version1 .line ≤ length (now list)) × (length (now c) ≡ 256) ⌝ }
-    ensures { λ r. ⌜ FollowsLine (now (problem .entry)) (now (steps .entry)) (now (actions .entry)) at (now (list .entry)) line before (now (c .entry)) r (now (c .exit)) ⌝ }
+    requires { ⌜ (facts ≤ version1 .facts) × Within facts before × (headBytes + version1 .line * line + version1 .line ≤ length (now list)) × (length (now c) ≡ 256) ⌝ }
+    ensures { λ r. ⌜ FollowsLine (now (problem .entry)) (now (steps .entry)) (now (actions .entry)) facts at (now (list .entry)) line before (now (c .entry)) r (now (c .exit)) ⌝ }
 {
-    match check_at(list, line, at.facts, CaseList::LINE_BYTES) {
+    match check_at(list, line, facts, CaseList::LINE_BYTES) {
         Checked::Fault(number) => Followed::Fault(number),
         Checked::Sound(l) => {
             if l.value != before.end {
@@ -114,14 +109,15 @@ fn follow_lines(
     problem: &[u8],
     steps: &[u8],
     actions: &[usize; 64],
-    at: Parts,
+    facts: u8,
+    at: Places,
     list: &[u8],
     lines: usize,
 ) -> FollowAnswer
-    requires { ⌜ (at .facts ≤ version1 .facts) × (headBytes + version1 .line * lines ≤ length (now list)) ⌝ }
-    ensures { λ r. ⌜ FollowsLines (now (problem .entry)) (now (steps .entry)) (now (actions .entry)) at (now (list .entry)) lines r ⌝ }
+    requires { ⌜ (facts ≤ version1 .facts) × (headBytes + version1 .line * lines ≤ length (now list)) ⌝ }
+    ensures { λ r. ⌜ FollowsLines (now (problem .entry)) (now (steps .entry)) (now (actions .entry)) facts at (now (list .entry)) lines r ⌝ }
 {
-    let mut c = none_fixed(wide(at.facts));
+    let mut c = none_fixed(wide(facts));
     let mut before = Before {
         k: 0,
         value: 0,
@@ -129,7 +125,7 @@ fn follow_lines(
     };
     let mut i: usize = 0;
     while i < lines {
-        match follow_line(problem, steps, actions, at, list, i, before, &mut c) {
+        match follow_line(problem, steps, actions, facts, at, list, i, before, &mut c) {
             Followed::Fault(number) => {
                 return FollowAnswer::Refused(Refusal {
                     number,
@@ -163,8 +159,7 @@ fn follow_body(problem: &[u8], steps: &[u8], parts: Problem, list: &[u8]) -> Fol
             place: list.len() as u64,
         });
     }
-    let at = Parts {
-        facts: parts.facts,
+    let at = Places {
         initial: parts.initial,
         goal: parts.goal,
     };
@@ -173,6 +168,7 @@ fn follow_body(problem: &[u8], steps: &[u8], parts: Problem, list: &[u8]) -> Fol
         problem,
         steps,
         &actions,
+        parts.facts,
         at,
         list,
         body / CaseList::LINE_BYTES,

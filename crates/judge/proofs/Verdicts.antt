@@ -28,26 +28,22 @@ use Rattle.model.proofs.Laws.Judging.{judged-in, judged-out}
 use Rattle.model.proofs.Laws.Tasks.{judge-is}
 use Rattle.blocks.specs.declared.plan.Task as blocks
 use Rattle.blocks.specs.Parts.{FindsTask}
-use Rattle.blocks.specs.Standing.{StandsFound}
+use Rattle.blocks.specs.Standing.{placesOf, TaskIn, StandsFound}
 use Rattle.lines.specs.Putting.{Puts}
 use Rattle.table.specs.Tables.{NoneFixed}
 use Rattle.table.specs.Blocks.{blockCase, FixesLevels}
-use Rattle.blocks.proofs.Standing.{part-from}
+use Rattle.blocks.proofs.Standing.{found-in}
 use Rattle.execute.specs.Cases.{RunsState}
 use Rattle.execute.specs.Start.{HoldsState}
 use Rattle.execute.specs.declared.start.StateTable.{StateTable}
-use Rattle.judge.specs.declared.walk.Places.{Places}
 use Rattle.judge.specs.declared.walk.Case.{Case}
 use Rattle.judge.specs.declared.walk.Ending.{Ending}
 use Rattle.judge.specs.declared.walk.Ending.the-variants.{Out, Failed, Closed}
 use Rattle.judge.specs.Walks.{cut, endingOf, Lays, Ended, LevelsOf, BlockFits, WalksBlock}
-use Rattle.judge.specs.Verdicts.{PartsOf, WalksTask, OutcomeOf, Judges, JudgesTask}
+use Rattle.judge.specs.Verdicts.{WalksTask, OutcomeOf, Judges, JudgesTask}
 use Rattle.judge.proofs.Walking.{closed-cut, stopped-cut, out-cut}
 
 -- ---- the whole walk
-
-abbrev pub places : Problem → Places
-places p = record { initial = p .initial; goal = p .goal }
 
 abbrev pub wholeCase : ℕ → Case
 wholeCase n = record { k = 0; left = n; number = 0 }
@@ -57,7 +53,7 @@ whole-fits n levels h L = record { fits = record { slots = omega arith; numbers 
 
 pub walks-task :
     (problem steps : List ℕ) (parts : Problem) (g n levels : ℕ) → n ≡ parts .facts → LevelsOf n levels → (c₀ c : List ℕ) → NoneFixed n c₀ → FixesLevels c₀ 0 levels c →
-    (r : Ending) (before : List ℕ) (to : ℕ) (after : List ℕ) → WalksBlock problem steps (parts .action) (places parts) c (wholeCase n) levels g r before to after →
+    (r : Ending) (before : List ℕ) (to : ℕ) (after : List ℕ) → WalksBlock problem steps (parts .action) (placesOf parts) c (wholeCase n) levels g r before to after →
     WalksTask problem steps parts g r before to after
 unfolding walked walk
 walks-task problem steps parts g n levels e L c₀ c N F r before to after W =
@@ -81,7 +77,7 @@ walks-task problem steps parts g n levels e L c₀ c N F r before to after W =
 -- ---- the outcome of a state
 
 module _ (problem steps : List ℕ) (parts : Problem) (x n : ℕ) (e : n ≡ parts .facts) (d : StateTable) (D : HoldsState x n d) where
-  valid-state : (T : Task) → PartsOf problem steps parts T → IsState T x → d .valid ≡ true
+  valid-state : (T : Task) → TaskIn version1 problem steps parts T → IsState T x → d .valid ≡ true
   valid-state T p st =
       D .is ∙
       ap₂ (λ (w m : ℕ). ltb x (2 ^ w) && eqb (x % 2 ^ (w - m)) 0) (sym (p .width)) (e ∙ p .facts) ∙
@@ -111,16 +107,16 @@ module _ (problem steps : List ℕ) (parts : Problem) (g : ℕ) (w : Ending) (be
   abbrev Task-judged : JudgeAnswer → Type 0
   Task-judged r = JudgesTask problem steps parts g r before to after
 
-  n≤w : (T : Task) → PartsOf problem steps parts T → T .facts ≤ T .width
+  n≤w : (T : Task) → TaskIn version1 problem steps parts T → T .facts ≤ T .width
   n≤w T p = omega (arith, p .few, p .width)
 
-  ended : (T : Task) → PartsOf problem steps parts T → (x : Ending) → w ≡ x → cut g (walked T) ≡ endingOf x
+  ended : (T : Task) → TaskIn version1 problem steps parts T → (x : Ending) → w ≡ x → cut g (walked T) ≡ endingOf x
   ended T p x e = sym (W .is T p .ending) ∙ ap endingOf e
 
   -- an answer by the verdict of each task
   judged-so :
       (r : JudgeAnswer) →
-      ((T : Task) → PartsOf problem steps parts T → (v : Verdict (List Line)) × (judged T g ≡ v) × Judges v r before to after) →
+      ((T : Task) → TaskIn version1 problem steps parts T → (v : Verdict (List Line)) × (judged T g ≡ v) × Judges v r before to after) →
       Task-judged r
   judged-so r h =
       record {
@@ -166,12 +162,9 @@ module _ (s t : List ℕ) (r : blocks.Task) (F : StandsFound version1 s t r) whe
   pub few-facts : r .problem .facts ≤ version1 .facts
   few-facts = omega (arith, F .facts, F .few)
 
-  pub parts-of : (steps : List ℕ) → steps ≡ take (length t - headBytes) (drop headBytes t) → PartsOf s steps (r .problem) (F .task)
-  parts-of steps e = record { width = F .width; few = F .few; facts = F .facts; stands = rw (e, part-from) (F .stands) }
-
   pub judge-found :
       (g : ℕ) (steps : List ℕ) → steps ≡ take (length t - headBytes) (drop headBytes t) →
       (a : JudgeAnswer) (before : List ℕ) (to : ℕ) (after : List ℕ) → JudgesTask s steps (r .problem) g a before to after →
       judgeAnswer a ≡ judge version1 s t g
   judge-found g steps own a before to after J =
-      J .is (F .task) (parts-of steps own) .answer ∙ sym (judge-is version1 s t (F .task) (F .read) g)
+      J .is (F .task) (found-in version1 s t r F steps own) .answer ∙ sym (judge-is version1 s t (F .task) (F .read) g)

@@ -28,7 +28,7 @@ use Rattle.lines.specs.Putting.{Puts, AddsLine}
 use Rattle.lines.proofs.Stores.{puts-append}
 use Rattle.execute.specs.Cases.{lookBits, LooksAtCases}
 use Rattle.execute.specs.declared.cases.Looks.{Looks}
-use Rattle.judge.specs.declared.walk.Places.{Places}
+use Rattle.blocks.specs.declared.problem.Places.{Places}
 use Rattle.judge.specs.declared.walk.Case.{Case}
 use Rattle.judge.specs.declared.walk.Block as walk
 use Rattle.judge.specs.declared.walk.Ending.{Ending}

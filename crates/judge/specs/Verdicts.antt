@@ -12,23 +12,16 @@ use Rattle.model.specs.Answers.{outcome, judgeAnswer}
 use Rattle.model.specs.declared.Problem.{Problem}
 use Rattle.model.specs.declared.Outcome.{Outcome}
 use Rattle.model.specs.declared.JudgeAnswer.{JudgeAnswer}
-use Rattle.blocks.specs.Standing.{TaskStands}
+use Rattle.blocks.specs.Standing.{TaskIn}
 use Rattle.lines.specs.Putting.{Puts}
 use Rattle.judge.specs.declared.walk.Ending.{Ending}
 use Rattle.judge.specs.Walks.{Walks}
 
--- the task T stands in the blocks, where `parts` says
-pub record PartsOf (problem steps : List ℕ) (parts : Problem) (T : Task) : Type 0 where
-  pub width : T .width ≡ version1 .width
-  pub few : T .facts ≤ version1 .facts
-  pub facts : parts .facts ≡ T .facts
-  pub stands : TaskStands problem steps (parts .action) (parts .initial) (parts .goal) T
-
 abbrev pub WalksTask : List ℕ → List ℕ → Problem → ℕ → Ending → List ℕ → ℕ → List ℕ → Type 0
-WalksTask problem steps parts g r before to after = Walks (PartsOf problem steps parts) walked g r before to after
+WalksTask problem steps parts g r before to after = Walks (TaskIn version1 problem steps parts) walked g r before to after
 
 pub record OutcomeOf (problem steps : List ℕ) (parts : Problem) (x : ℕ) (r : Outcome) : Type 0 where
-  pub is : (T : Task) → PartsOf problem steps parts T → IsState T x → outcome r ≡ runOf T x
+  pub is : (T : Task) → TaskIn version1 problem steps parts T → IsState T x → outcome r ≡ runOf T x
 
 -- the lines of a right verdict stand in the buffer from `to` on, if they fit
 abbrev pub LaysLines : Verdict (List Line) → List ℕ → ℕ → List ℕ → Type 0
@@ -44,4 +37,4 @@ pub record Judges (v : Verdict (List Line)) (r : JudgeAnswer) (before : List ℕ
 -- so it is with every task that stands in the blocks
 pub record JudgesTask (problem steps : List ℕ) (parts : Problem) (g : ℕ) (r : JudgeAnswer) (before : List ℕ) (to : ℕ) (after : List ℕ) : Type 0 where
   pub size : length after ≡ length before
-  pub is : (T : Task) → PartsOf problem steps parts T → Judges (judged T g) r before to after
+  pub is : (T : Task) → TaskIn version1 problem steps parts T → Judges (judged T g) r before to after

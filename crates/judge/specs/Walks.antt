@@ -16,7 +16,7 @@ use Rattle.blocks.specs.Standing.{TaskStands}
 use Rattle.table.specs.Blocks.{blockCase}
 use Rattle.lines.specs.Putting.{Puts}
 use Rattle.execute.specs.Cases.{lookBits}
-use Rattle.judge.specs.declared.walk.Places.{Places}
+use Rattle.blocks.specs.declared.problem.Places.{Places}
 use Rattle.judge.specs.declared.walk.Case.{Case}
 use Rattle.judge.specs.declared.walk.Block.{Block}
 use Rattle.judge.specs.declared.walk.Ending.{Ending}

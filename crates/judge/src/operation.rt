@@ -9,8 +9,8 @@ ghost use Rattle.judge.specs.Verdicts.{WalksTask, OutcomeOf, JudgesTask}
 ghost use Rattle.judge.specs.Promise.{JudgePromised};
 use crate::walk::Case;
 use crate::walk::Ending;
-use crate::walk::Places;
 use crate::walk::walk_block;
+use blocks::Places;
 use blocks::find_task;
 use execute::run_state;
 use execute::state_table;

@@ -6,6 +6,7 @@ ghost use Prim.Native.Nat.{suc, _+_, _-_, _^_, _<_};
 ghost use lib.ListN.{length};
 ghost use Rattle.model.specs.Limits.{version1};
 ghost use Rattle.judge.specs.Walks.{LevelsOf, BlockFits, NodeFits, WalksBlock, WalksNode, WalksParts, Addable, Joins};
+use blocks::Places;
 use execute::look_at_cases;
 use lines::add_line;
 use model::CaseList;
@@ -17,12 +18,6 @@ use table::lane_bit;
 const EMPTY: u8 = 0;
 
 const CARRIES: u8 = 1;
-
-// Where the formulas of a problem stand.
-pub struct Places {
-    pub initial: usize,
-    pub goal: usize,
-}
 
 // A case: it fixes the first k facts to the top bits of `number`, and leaves `left` more open.
 pub struct Case {

@@ -35,7 +35,8 @@ use Rattle.blocks.specs.Parts.{FindsTask}
 use Rattle.blocks.specs.Standing.{StandsFound}
 use Rattle.lines.proofs.Stores.{length-lines}
 use Rattle.judge.specs.Verdicts.{LaysLines, JudgesTask}
-use Rattle.judge.proofs.Verdicts.{few-facts, parts-of}
+use Rattle.judge.proofs.Verdicts.{few-facts}
+use Rattle.blocks.proofs.Standing.{found-in}
 use Rattle.report.specs.Pages.{firstOf, restOf, pageLine, listed, restText, PageOf, countOf, FollowsPage}
 use Rattle.report.specs.declared.page.Page.{Page}
 use Rattle.report.specs.declared.page.Rest.{Rest}
@@ -110,7 +111,7 @@ module _ (s t : List ℕ) (r : blocks.Task) where
   unfolding firstLine answerLine laterLines answerRest
   page-found F steps own a before after room J =
       let T = F .task in
-      let j = J .is T (parts-of s t r F steps own) in
+      let j = J .is T (found-in version1 s t r F steps own) in
       let n = r .problem .facts in
       record {
         most = few-facts s t r F;

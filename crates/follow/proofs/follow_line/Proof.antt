@@ -12,7 +12,7 @@ returns : tie.Need-returns
 returns c = let l = c .before .before .before .before in
     let a = l .before .before in
     let o = checked-sound _ _ _ _ (a .check-at .ensures) _ (l .l .given .1) in
-    line-apart _ _ _ _ _ _ _ _ _ (o .0) (o .1) (c .if1 .taken) (a .before .before .before .before .pre .3)
+    line-apart _ _ _ _ _ _ _ _ _ _ (o .0) (o .1) (c .if1 .taken) (a .before .before .before .before .pre .3)
 
 word-of-requires : tie.Need-word-of-requires
 word-of-requires c κs = let l = c .before .before .before .before .before in
@@ -46,7 +46,7 @@ add-end c = let w = c .before .before .before .before .before .before .before .b
 returns-2 : tie.Need-returns-2
 returns-2 c = let a = c .before .before .before in
     let o = checked-fault _ _ _ _ (a .check-at .ensures) _ (c .before .number .given .1) in
-    line-faulty _ _ _ _ _ _ _ _ _ (o .0) (o .1) (a .before .before .before .before .pre .3)
+    line-faulty _ _ _ _ _ _ _ _ _ _ (o .0) (o .1) (a .before .before .before .before .pre .3)
 
 returns-3 : tie.Need-returns-3
 returns-3 c = let t = c .before .before in
@@ -58,7 +58,7 @@ returns-3 c = let t = c .before .before in
     let o = checked-sound _ _ _ _ (a .check-at .ensures) _ (l .l .given .1) in
     let g = a .before .before .before .before .pre in
     let s = c .before .span .ensures ∙ ap (λ (k : ℕ). 2 ^ (version1 .width - k)) (w .wide .ensures .0) in
-    line-claims _ _ _ _ _ _ _ _ _ (o .0) (o .1) (e .if1 .left) (g .0) (g .1) _ (w .wide .ensures .0) _ _ (d .before .word-of2 .ensures) (d .before .before .before .word-of .ensures) _ (d .set-case .ensures) _ (t .before .check-claim .ensures) _ (t .if2 .taken) (ap (λ (x : ℕ). l .l .given .0 .0 .value + x) s)
+    line-claims _ _ _ _ _ _ _ _ _ _ (o .0) (o .1) (e .if1 .left) (g .0) (g .1) _ (w .wide .ensures .0) _ _ (d .before .word-of2 .ensures) (d .before .before .before .word-of .ensures) _ (d .set-case .ensures) _ (t .before .check-claim .ensures) _ (t .if2 .taken) (ap (λ (x : ℕ). l .l .given .0 .0 .value + x) s)
 
 returns-4 : tie.Need-returns-4
 returns-4 c = let d = c .before .before .before in
@@ -68,7 +68,7 @@ returns-4 c = let d = c .before .before .before in
     let a = l .before .before in
     let o = checked-sound _ _ _ _ (a .check-at .ensures) _ (l .l .given .1) in
     let g = a .before .before .before .before .pre in
-    line-denied _ _ _ _ _ _ _ _ _ (o .0) (o .1) (e .if1 .left) (g .0) (g .1) _ (w .wide .ensures .0) _ _ (d .before .word-of2 .ensures) (d .before .before .before .word-of .ensures) _ (d .set-case .ensures) _ (c .before .check-claim .ensures) (c .if2 .left)
+    line-denied _ _ _ _ _ _ _ _ _ _ (o .0) (o .1) (e .if1 .left) (g .0) (g .1) _ (w .wide .ensures .0) _ _ (d .before .word-of2 .ensures) (d .before .before .before .word-of .ensures) _ (d .set-case .ensures) _ (c .before .check-claim .ensures) (c .if2 .left)
 
 pub follow-line-spec : {M : Type 1} → statement M
 follow-line-spec =

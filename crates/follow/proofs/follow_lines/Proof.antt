@@ -6,13 +6,13 @@ use Rattle.follow.proofs.follow_lines.Statement.{statement}
 use Rattle.follow.proofs.follow_lines.Tie as tie
 
 abbrev Inv-loop : tie.InvT-loop
-Inv-loop problem steps actions at list lines c₀ before₀ i₀ c before i = Followed-so-far problem steps actions at list lines c before i
+Inv-loop problem steps actions facts at list lines c₀ before₀ i₀ c before i = Followed-so-far problem steps actions facts at list lines c before i
 
 abbrev μ-loop : tie.MeasureT-loop
-μ-loop problem steps actions at list lines c₀ before₀ i₀ c before i = lines - i
+μ-loop problem steps actions facts at list lines c₀ before₀ i₀ c before i = lines - i
 
 loop-holds : tie.Need-loop-holds Inv-loop μ-loop
-loop-holds c = none-followed _ _ _ _ _ _ _ (c .before .wide .ensures .0) _ (c .none-fixed .ensures)
+loop-holds c = none-followed _ _ _ _ _ _ _ _ (c .before .wide .ensures .0) _ (c .none-fixed .ensures)
 
 follow-line-requires : tie.Need-follow-line-requires Inv-loop μ-loop
 follow-line-requires c κs =
@@ -22,22 +22,22 @@ follow-line-requires c κs =
 returns : tie.Need-returns Inv-loop μ-loop
 returns c =
     let l = c .before .before .before in
-    lines-fault _ _ _ _ _ _ _ _ _ (l .before .before .before .loop .inv) _ _ (l .before .before .loop-test .taken) (l .follow-line .ensures) _ (c .before .number .given .1)
+    lines-fault _ _ _ _ _ _ _ _ _ _ (l .before .before .before .loop .inv) _ _ (l .before .before .loop-test .taken) (l .follow-line .ensures) _ (c .before .number .given .1)
 
 loop-again : tie.Need-loop-again Inv-loop μ-loop
 loop-again c =
     let l = c .before .before .before in
-    lines-next _ _ _ _ _ _ _ _ _ (l .before .before .before .loop .inv) _ _ (l .before .before .loop-test .taken) (l .follow-line .ensures) _ (c .before .next .given .1)
+    lines-next _ _ _ _ _ _ _ _ _ _ (l .before .before .before .loop .inv) _ _ (l .before .before .loop-test .taken) (l .follow-line .ensures) _ (c .before .next .given .1)
 
 returns-2 : tie.Need-returns-2 Inv-loop μ-loop
 returns-2 c =
     let l = c .before .before in
-    lines-short _ _ _ _ _ _ _ _ _ (l .before .loop .inv) (l .loop-test .left) (c .if1 .taken)
+    lines-short _ _ _ _ _ _ _ _ _ _ (l .before .loop .inv) (l .loop-test .left) (c .if1 .taken)
 
 returns-3 : tie.Need-returns-3 Inv-loop μ-loop
 returns-3 c =
     let l = c .before .before in
-    lines-pass _ _ _ _ _ _ _ _ _ (l .before .loop .inv) (l .loop-test .left) (c .if1 .left)
+    lines-pass _ _ _ _ _ _ _ _ _ _ (l .before .loop .inv) (l .loop-test .left) (c .if1 .left)
 
 pub follow-lines-spec : {M : Type 1} → statement M
 follow-lines-spec =
