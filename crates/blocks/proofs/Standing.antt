@@ -1,5 +1,5 @@
 -- What was read stands there as the bytes that encode it, by the laws of the codec. Assumes nothing.
-use mathlib.Core.Path.{_≡_, refl, _∙_}
+use mathlib.Core.Path.{_≡_, refl, sym, ap, _∙_, subst}
 use mathlib.Core.List.{List, [], _∷_, map}
 use Prim.Native.Nat.{ℕ, zero, suc, _-_, _≤_, _<_}
 use native.Mathlib.Nat.{le-of-suc-le-suc, not-suc-le-zero}
@@ -74,9 +74,19 @@ module _ {F : Limits} (S : Sensible F) (s t : List ℕ) (r : found.Task) (b : By
             rw (e, step-action (o .problem .actions) (o .steps) i l) (action-stands S b (o .placed .most) (o .placed .action (getD (o .steps) i 0) k));
       }
 
-  pub stands-found : StandsFound F s t r
+  pub stands-found : r .limits ≡ F → StandsFound F s t r
   unfolding taskOf
-  stands-found = record { task = task; read = read-task; width = refl; few = o .placed .most; facts = o .placed .facts; fits = o .fits; stands = task-stands }
+  stands-found e =
+      record {
+        task = task;
+        read = read-task;
+        sensible = subst Sensible (sym e) S;
+        width = ap (λ (G : Limits). G .width) (sym e);
+        few = subst (λ (G : Limits). o .problem .facts ≤ G .facts) (sym e) (o .placed .most);
+        facts = o .placed .facts;
+        fits = o .fits;
+        stands = task-stands;
+      }
 
 -- ---- what a slice has from p on
 
@@ -86,6 +96,6 @@ part-from s p = take-all (length s - p) (drop p s) (omega (arith, length-drop p 
 -- a task that was found is the one in the blocks, with the plan's steps as their own slice
 pub found-in :
     (F : Limits) (problem plan : List ℕ) (r : found.Task) (o : StandsFound F problem plan r) (steps : List ℕ) →
-    steps ≡ take (length plan - headBytes) (drop headBytes plan) → TaskIn F problem steps (r .problem) (o .task)
+    steps ≡ take (length plan - headBytes) (drop headBytes plan) → TaskIn (r .limits) problem steps (r .problem) (o .task)
 found-in F problem plan r o steps e =
     record { width = o .width; few = o .few; facts = o .facts; stands = rw (e, part-from plan headBytes) (o .stands) }

@@ -170,7 +170,7 @@ module _ (F : Limits) (s : List ℕ) (r : Found) (f : Finds F s (bytes.problem F
               limits = refl;
               refusal = λ z. absurd (true≢false (sym z));
               found = λ z. task-at;
-              stands = λ z. stands-found S s t result b task-at;
+              stands = λ z. stands-found S s t result b task-at refl;
             }
 
 -- what is found by numbers that are a version's

@@ -10,6 +10,7 @@ use Rattle.model.specs.Case.{Task}
 use Rattle.model.specs.Read.{headBytes}
 use Rattle.model.specs.ProblemBytes.{actionAt}
 use Rattle.model.specs.Operations.{readTask}
+use Rattle.model.specs.WellFormed.{Sensible}
 use Rattle.model.specs.Stands.{FormulaAt, ActionAt}
 use Rattle.model.specs.declared.Problem.{Problem}
 use Rattle.blocks.specs.declared.problem.Places.{Places}
@@ -41,13 +42,14 @@ placesOf parts = record { initial = parts .initial; goal = parts .goal }
 abbrev pub TaskIn : Limits → List ℕ → List ℕ → Problem → Task → Type 0
 TaskIn F problem steps parts T = VersionTask F problem steps (parts .action) (parts .facts) (placesOf parts) T
 
--- a problem and a plan that were found are read as some task of the version whose numbers are F, which stands there; a plan's steps are
--- all that follows its header
+-- a problem and a plan that were found are read as some task, by the numbers F of a version; it is of the version whose numbers were
+-- found, and stands there; a plan's steps are all that follows its header
 pub record StandsFound (F : Limits) (problem plan : List ℕ) (r : found.Task) : Type 0 where
   pub task : Task
   pub read : readTask F problem plan ≡ answered task
-  pub width : task .width ≡ F .width
-  pub few : task .facts ≤ F .facts
+  pub sensible : Sensible (r .limits)
+  pub width : task .width ≡ r .limits .width
+  pub few : task .facts ≤ r .limits .facts
   pub facts : r .problem .facts ≡ task .facts
   pub fits : headBytes + r .steps ≡ length plan
   pub stands :

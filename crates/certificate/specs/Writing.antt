@@ -3,7 +3,7 @@ use mathlib.Core.Path.{_≡_}
 use mathlib.Core.List.{List, _∷_, _++_}
 use Prim.Native.Nat.{ℕ, _+_, _*_, _≤_}
 use lib.ListN.{length, drop}
-use Rattle.model.specs.Limits.{version1}
+use Rattle.model.specs.declared.Limits.{Limits}
 use Rattle.model.specs.Case.{Task}
 use Rattle.model.specs.Walk.{Line, covered, walked}
 use Rattle.model.specs.Read.{headBytes, bytesOf}
@@ -12,11 +12,11 @@ use Rattle.model.specs.declared.Problem.{Problem}
 use Rattle.blocks.specs.Standing.{TaskIn}
 
 -- the bytes before a body of n bytes
-abbrev pub headOf : ℕ → List ℕ
-headOf n = version1 .version ∷ bytesOf 4 n
+abbrev pub headOf : Limits → ℕ → List ℕ
+headOf F n = F .version ∷ bytesOf 4 n
 
 -- the block of a right plan's list, where the visits suffice and its body has the length that was said
-pub record WritesTask (problem steps : List ℕ) (parts : Problem) (g body : ℕ) (before after : List ℕ) : Type 0 where
+pub record WritesTask (F : Limits) (problem steps : List ℕ) (parts : Problem) (g body : ℕ) (before after : List ℕ) : Type 0 where
   pub is :
-      (T : Task) → TaskIn version1 problem steps parts T → (ls : List Line) (a : ℕ) → walked T ≡ covered ls a → a ≤ g →
-      body ≡ version1 .line * length ls → after ≡ encodeList version1 ls ++ drop (headBytes + body) before
+      (T : Task) → TaskIn F problem steps parts T → (ls : List Line) (a : ℕ) → walked T ≡ covered ls a → a ≤ g →
+      body ≡ F .line * length ls → after ≡ encodeList F ls ++ drop (headBytes + body) before

@@ -7,13 +7,13 @@ ghost use lib.Seq.{sets};
 ghost use Rattle.model.specs.Limits.{version1};
 ghost use Rattle.model.specs.Answer.{refused};
 ghost use Rattle.model.specs.Read.{headBytes};
+ghost use Rattle.model.specs.WellFormed.{Sensible};
 ghost use Rattle.model.specs.Operations.{writeList};
 ghost use Rattle.model.specs.Answers.{writeAnswer};
 ghost use Rattle.certificate.specs.Writing.{headOf, WritesTask};
 use blocks::find_task;
 use judge::Ending;
 use judge::walk_task;
-use model::CaseList;
 use model::Limits;
 use model::Problem;
 use model::Refusal;
@@ -21,21 +21,37 @@ use model::WriteAnswer;
 use numbers::put_number;
 
 // A block's version and the length of its body.
-fn put_header(out: &mut [u8], body: u64)
+fn put_header(out: &mut [u8], limits: Limits, body: u64)
     requires { ⌜ headBytes ≤ length (now out) ⌝ }
-    ensures { λ _. ⌜ now (out .exit) ≡ sets (now (out .entry)) 0 (headOf body) ⌝ }
+    ensures { λ _. ⌜ now (out .exit) ≡ sets (now (out .entry)) 0 (headOf limits body) ⌝ }
 {
-    out[0] = Limits::VERSION;
+    out[0] = limits.version;
     put_number(out, 1, Limits::HEAD_BYTES - 1, body);
 }
 
 // The block of a right plan's list, whose length is known.
-fn write_task(problem: &[u8], steps: &[u8], parts: Problem, grant: u64, body: usize, out: &mut [u8])
-    requires { ⌜ (parts .facts ≤ version1 .facts) × (headBytes + body ≤ length (now out)) ⌝ }
-    ensures { λ _. ⌜ WritesTask (now (problem .entry)) (now (steps .entry)) parts grant body (now (out .entry)) (now (out .exit)) ⌝ }
+fn write_task(
+    problem: &[u8],
+    steps: &[u8],
+    parts: Problem,
+    limits: Limits,
+    grant: u64,
+    body: usize,
+    out: &mut [u8],
+)
+    requires { ⌜ Sensible limits × (parts .facts ≤ limits .facts) × (headBytes + body ≤ length (now out)) ⌝ }
+    ensures { λ _. ⌜ WritesTask limits (now (problem .entry)) (now (steps .entry)) parts grant body (now (out .entry)) (now (out .exit)) ⌝ }
 {
-    put_header(out, body as u64);
-    walk_task(problem, steps, parts, grant, out, Limits::HEAD_BYTES);
+    put_header(out, limits, body as u64);
+    walk_task(
+        problem,
+        steps,
+        parts,
+        limits,
+        grant,
+        out,
+        Limits::HEAD_BYTES,
+    );
 }
 
 fn refusal(number: u8, place: u64) -> WriteAnswer
@@ -56,9 +72,10 @@ pub fn write_list(problem: &[u8], plan: &[u8], grant: u64, out: &mut [u8]) -> Wr
         return WriteAnswer::Refused(refusal);
     }
     let parts = task.problem;
+    let limits = task.limits;
     let head = Limits::HEAD_BYTES;
     let mut room = [0u8; 1];
-    match walk_task(problem, &plan[head..], parts, grant, &mut room, 0) {
+    match walk_task(problem, &plan[head..], parts, limits, grant, &mut room, 0) {
         Ending::Out => refusal(50, grant),
         Ending::Failed { state: _, visits } => refusal(51, visits),
         Ending::Closed {
@@ -66,15 +83,15 @@ pub fn write_list(problem: &[u8], plan: &[u8], grant: u64, out: &mut [u8]) -> Wr
             visits: _,
             next: _,
         } => {
-            if lines > CaseList::MAX_LINES as u64 {
+            if lines > limits.lines as u64 {
                 return refusal(52, lines);
             }
-            let body = CaseList::LINE_BYTES * lines as usize;
+            let body = limits.line * lines as usize;
             let length = Limits::HEAD_BYTES + body;
             if out.len() < length {
                 return refusal(53, lines);
             }
-            write_task(problem, &plan[head..], parts, grant, body, out);
+            write_task(problem, &plan[head..], parts, limits, grant, body, out);
             WriteAnswer::Written { length }
         }
     }

@@ -1,5 +1,4 @@
 -- Laws of the definitions, for several functions' proofs.
-pub mod Bits
 pub mod Promise
 pub mod Settling
 pub mod Finding

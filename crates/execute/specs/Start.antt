@@ -1,14 +1,27 @@
--- What reading a state's number gives: the table that a run starts from.
+-- What reading a state's number gives, and how the run of that state is answered.
 use mathlib.Core.Path.{_≡_}
-use mathlib.Core.Bool.{true, _&&_}
+use mathlib.Core.Bool.{true, cond, _&&_}
+use mathlib.Core.List.{List}
 use Prim.Native.Nat.{ℕ, _-_, _%_, _^_}
 use lib.Dec.{eqb, ltb}
-use Rattle.model.specs.Limits.{version1}
-use Rattle.model.specs.Case.{caseOf}
+use Rattle.model.specs.declared.Limits.{Limits}
+use Rattle.model.specs.declared.Problem.{Problem}
+use Rattle.model.specs.declared.RunAnswer.{RunAnswer}
+use Rattle.model.specs.Answer.{refused, answered}
+use Rattle.model.specs.Case.{caseOf, Task, runOf}
+use Rattle.model.specs.Operations.{isState}
+use Rattle.model.specs.Answers.{runAnswer}
 use Rattle.model.specs.Planes.{Table}
+use Rattle.blocks.specs.Standing.{TaskIn}
 use Rattle.execute.specs.declared.start.StateTable.{StateTable}
 
 -- whether s is the number of a state over n facts; if so, every lane has that state, with every fact fixed
-pub record HoldsState (s n : ℕ) (r : StateTable) : Type 0 where
-  pub is : r .valid ≡ (ltb s (2 ^ version1 .width) && eqb (s % 2 ^ (version1 .width - n)) 0)
-  pub table : r .valid ≡ true → Table (r .table) (λ j. caseOf (version1 .width) n n s)
+pub record HoldsState (F : Limits) (s n : ℕ) (r : StateTable) : Type 0 where
+  pub is : r .valid ≡ (ltb s (2 ^ F .width) && eqb (s % 2 ^ (F .width - n)) 0)
+  pub table : r .valid ≡ true → Table (r .table) (λ j. caseOf (F .width) n n s)
+
+-- as `runState` answers of every task that stands in the blocks
+pub record RunsTask (F : Limits) (problem steps : List ℕ) (parts : Problem) (s : ℕ) (r : RunAnswer) : Type 0 where
+  pub is :
+      (T : Task) → TaskIn F problem steps parts T →
+      runAnswer r ≡ cond (isState T s) (answered (runOf T s)) (refused 40 0)

@@ -12,5 +12,4 @@ pub use cases::obey_action;
 use numbers::wide;
 pub use operation::run;
 pub use start::StateTable;
-pub use start::run_state;
-pub use start::state_table;
+pub use start::run_task;

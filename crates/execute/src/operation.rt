@@ -4,11 +4,9 @@ ghost use Rattle.model.specs.Limits.{version1};
 ghost use Rattle.model.specs.Operations.{runState};
 ghost use Rattle.model.specs.Answers.{runAnswer};
 ghost use Rattle.execute.specs.Promise.{RunPromised};
-use crate::run_state;
-use crate::state_table;
+use crate::run_task;
 use blocks::find_task;
 use model::Limits;
-use model::Refusal;
 use model::RunAnswer;
 
 // Run one state, which need not be a start state: the refusals of problem and plan, 40, or how the run ends.
@@ -22,15 +20,7 @@ pub fn run(problem: &[u8], plan: &[u8], state: u64) -> RunAnswer
         return RunAnswer::Refused(refusal);
     }
     let parts = task.problem;
-    let start = state_table(state, crate::wide(parts.facts));
-    if !start.valid {
-        return RunAnswer::Refused(Refusal {
-            number: 40,
-            place: 0,
-        });
-    }
-    let actions = parts.action;
-    let table = start.table;
+    let limits = task.limits;
     let head = Limits::HEAD_BYTES;
-    RunAnswer::Ended(run_state(problem, &plan[head..], &actions, parts.goal, table))
+    run_task(problem, &plan[head..], parts, limits, state)
 }

@@ -1,20 +1,22 @@
 // One state: its table, from its number, and how its run ends.
 ghost use Prim.Native.Nat.{_≤_};
-ghost use Rattle.model.specs.Limits.{version1};
+ghost use Rattle.model.specs.WellFormed.{Sensible};
 ghost use Rattle.execute.specs.Cases.{RunsState};
-ghost use Rattle.execute.specs.Start.{HoldsState};
+ghost use Rattle.execute.specs.Start.{HoldsState, RunsTask};
 use crate::obey_action;
+use crate::wide;
 use evaluate::formula_planes;
-use model::CaseList;
+use model::Limits;
 use model::Outcome;
+use model::Problem;
+use model::Refusal;
+use model::RunAnswer;
 use model::Stop;
+use numbers::low_bits;
 use table::ONES;
 use table::fix_bits;
 use table::none_fixed;
 use table::word_of;
-
-// The bits of a number.
-const WIDTH: usize = CaseList::WIDTH as usize;
 
 // A number that was read as a state: whether it is one, and the state in every lane.
 pub struct StateTable {
@@ -23,27 +25,27 @@ pub struct StateTable {
 }
 
 // The state numbered `state`, over so many facts: no bit past them may be set.
-pub fn state_table(state: u64, facts: usize) -> StateTable
-    requires { ⌜ facts ≤ version1 .facts ⌝ }
-    ensures { λ r. ⌜ HoldsState state facts r ⌝ }
+fn state_table(limits: Limits, state: u64, facts: usize) -> StateTable
+    requires { ⌜ Sensible limits × (facts ≤ limits .facts) ⌝ }
+    ensures { λ r. ⌜ HoldsState limits state facts r ⌝ }
 {
     let mut table = none_fixed(facts);
-    if CaseList::NUMBERS <= state {
+    let width = wide(limits.width);
+    if low_bits(state, width) != state {
         return StateTable {
             valid: false,
             table,
         };
     }
-    fix_bits(&mut table, 0, facts, word_of(WIDTH, state));
-    let span = CaseList::NUMBERS >> facts;
+    fix_bits(&mut table, 0, facts, word_of(width, state));
     StateTable {
-        valid: state % span == 0,
+        valid: low_bits(state, width - facts) == 0,
         table,
     }
 }
 
 // How the run of the state in lane 0 ends.
-pub fn run_state(
+fn run_state(
     problem: &[u8],
     steps: &[u8],
     actions: &[usize; 64],
@@ -76,4 +78,27 @@ pub fn run_state(
         return Outcome::Missed;
     }
     Outcome::Reached
+}
+
+// The state numbered `state` of a problem and a plan that were read: 40, or how its run ends.
+pub fn run_task(
+    problem: &[u8],
+    steps: &[u8],
+    parts: Problem,
+    limits: Limits,
+    state: u64,
+) -> RunAnswer
+    requires { ⌜ Sensible limits × (parts .facts ≤ limits .facts) ⌝ }
+    ensures { λ r. ⌜ RunsTask limits (now (problem .entry)) (now (steps .entry)) parts state r ⌝ }
+{
+    let start = state_table(limits, state, wide(parts.facts));
+    if !start.valid {
+        return RunAnswer::Refused(Refusal {
+            number: 40,
+            place: 0,
+        });
+    }
+    let actions = parts.action;
+    let table = start.table;
+    RunAnswer::Ended(run_state(problem, steps, &actions, parts.goal, table))
 }

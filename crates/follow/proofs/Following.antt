@@ -3,28 +3,27 @@ use mathlib.Core.Path.{_≡_, refl, sym, ap, ap₂, _∙_, subst}
 use mathlib.Core.Bool.{Bool, true, false, cond, not}
 use mathlib.Core.List.{List, _∷_}
 use Prim.Native.Nat.{ℕ, zero, suc, _+_, _-_, _*_, _/_, _%_, _^_, _≤_, _<_}
+use native.Mathlib.Nat.{mul-zero, mul-suc, mul-add, mul-le-mul-left, mul-div-le, pow-suc}
 use native.Mathlib.Numerals.{add-one}
 use native.Mathlib.Omega.{arith}
-use lib.ListN.{length, take, drop, length-drop}
+use lib.ListN.{length, take, drop}
 use lib.Dec.{eqb, ltb}
 use lib.Pow.{pow-mono, pow-pos}
 use borrow.Author.Tests.{ltb-false, eq-eqb, ne-eqb}
+use Rattle.model.specs.declared.Limits.{Limits}
 use Rattle.model.specs.Limits.{version1}
 use Rattle.model.specs.Answer as Answer
 use Rattle.model.specs.Answer.{Answer, refused, answered}
-use Rattle.model.specs.Read.{got, andThen, _>>_, done, require, answerOf, headBytes, header}
+use Rattle.model.specs.Read.{Read, andThen, _>>_, done, require, answerOf, headBytes, header}
 use Rattle.model.specs.Operations.{followList}
 use Rattle.model.specs.Answers.{refusal, followAnswer}
 use Rattle.model.specs.declared.Refusal.{Refusal}
 use Rattle.model.specs.declared.FollowAnswer.{FollowAnswer}
 use Rattle.model.specs.declared.FollowAnswer.the-variants.{Refused as FollowRefused, Passes}
 use Rattle.model.specs.declared.Problem.{Problem}
-use Rattle.model.specs.Kleene.{three}
-use Rattle.model.specs.Formula.{eval}
-use Rattle.model.specs.Run.{run}
-use Rattle.model.specs.Case.{caseOf, Task}
+use Rattle.model.specs.Case.{Task}
 use Rattle.model.specs.Walk as model
-use Rattle.model.specs.Walk.{empty, carries, closed, opened, lookOf, lookAt}
+use Rattle.model.specs.Walk.{empty, carries, closed, opened, lookAt}
 use Rattle.model.specs.Planes.{laneBit}
 use Rattle.model.specs.CaseList.{claims, first, refuseAt, ends, fault, follow}
 use Rattle.model.specs.ListBytes.{lineAt, linesFrom, caseList, listOf}
@@ -35,7 +34,7 @@ use Rattle.formula.specs.declared.read.Reading.the-variants.{Refused, Next as R
 use Rattle.formula.proofs.Readers.{next-got, next-refused}
 use Rattle.blocks.specs.declared.plan.Task as blocks
 use Rattle.blocks.specs.Parts.{FindsTask}
-use Rattle.blocks.specs.Standing.{placesOf, VersionTask, TaskIn, StandsFound}
+use Rattle.blocks.specs.Standing.{placesOf, VersionTask, StandsFound}
 use Rattle.blocks.proofs.Standing.{found-in}
 use Rattle.blocks.proofs.Headers.{header-got}
 use Rattle.table.specs.Tables.{NoneFixed}
@@ -49,8 +48,8 @@ use Rattle.blocks.specs.declared.problem.Places.{Places}
 use Rattle.follow.specs.declared.Before.{Before}
 use Rattle.follow.specs.declared.Followed.{Followed}
 use Rattle.follow.specs.declared.Followed.the-variants.{Fault, Next}
-use Rattle.lines.specs.Lines.{lineNumber, Reads, formFault, Found, ChecksForm}
-use Rattle.follow.specs.Follows.{Lanes, Claims, Within, LineIs, NextWithin, FollowsLine, FollowsLines, bodyAnswer, FollowsBody}
+use Rattle.lines.specs.Lines.{widthOf, lineOf, lineNumber, Reads, formFault, Found, ChecksForm}
+use Rattle.follow.specs.Follows.{Followable, Lanes, Claims, Within, LineIs, NextWithin, FollowsLine, FollowsLines, FollowsBody}
 
 -- ---- a claim
 
@@ -67,17 +66,10 @@ look-open a b e f = rw (e, f)
 
 module _ (problem steps actions : List ℕ) (at : Places) (kind : ℕ) (c : List ℕ) (r : Looks)
     (L : LooksAtCases problem steps actions (at .initial) (at .goal) c r) where
-  look-is :
-      (n : ℕ) (T : Task) → VersionTask version1 problem steps actions n at T → (k v : ℕ) → Lanes c T k v →
-      lookBits (laneBit 0 (r .empty)) (laneBit 0 (r .carries)) ≡ lookAt T k v
-  unfolding lookAt
-  look-is n T S k v t =
-      L .is T (S .stands) _ (λ j l. length-case (version1 .width) (T .facts) k v) t 0 (omega arith) ∙
-      ap (λ (w : ℕ). lookOf (eval three (caseOf w (T .facts) k v) (T .initial)) (run three (T .facts) (T .goal) (T .plan) 0 (caseOf w (T .facts) k v)))
-      (sym (S .width))
-
   claim-is : (o : model.Look) → lookBits (laneBit 0 (r .empty)) (laneBit 0 (r .carries)) ≡ o → Claims problem steps actions at kind c (claims kind o)
-  claim-is o e = record { is = λ n T S k v t. ap (claims kind) (sym e ∙ look-is n T S k v t) }
+  unfolding lookAt
+  claim-is o e =
+      record { is = λ T S k v t. ap (claims kind) (sym e ∙ L .is T S _ (λ j l. length-case (T .width) (T .facts) k v) t 0 (omega arith)) }
 
   module _ (e : ℕ) (e-is : e ≡ laneBit 0 (r .empty)) where
     pub claim-empty : (e ≡ 0 → ⊥) → Claims problem steps actions at kind c (eqb kind 0)
@@ -108,269 +100,271 @@ form-none false true c x e = absurd (omega arith)
 form-none false false true x e = absurd (omega arith)
 form-none false false false x e = (refl, refl)
 
--- where a line begins
-apart-first : (b : Bool) (x : ℕ) → b ≡ false → first (not b) 68 x ≡ 68
-unfolding first
-apart-first b x e = rw e
-
-joined-first : (b : Bool) (x : ℕ) → b ≡ true → first (not b) 68 x ≡ x
-unfolding first
-joined-first b x e = rw e
-
--- the line numbered i
-abbrev lineIn : List ℕ → ℕ → model.Line
-lineIn list i = lineNumber (version1 .line) list i
-
-fault-form :
-    (list : List ℕ) (n i x : ℕ) (T : Task) (f : ℕ) → formFault (version1 .width) n (lineIn list i) ≡ f → 0 < f →
-    fault (version1 .width) (lookAt T) n (lineIn list i) x ≡ f
-unfolding formFault fault
-fault-form list n i x T f e h = form-found _ _ _ _ f e h
-
--- a line of sound form: where it begins, and its claim, are left
-module _ (list : List ℕ) (n i : ℕ) (r : Line) (e : formFault (version1 .width) n (lineIn list i) ≡ 0) (R : Reads list i (version1 .line) r) where
-  k-is : lineIn list i .k ≡ r .k
-  k-is = sym (ap (λ (z : model.Line). z .k) (R .is))
-
-  value-is : lineIn list i .value ≡ r .value
-  value-is = sym (ap (λ (z : model.Line). z .value) (R .is))
-
-  pub k-fits : r .k ≤ n
-  unfolding formFault
-  k-fits =
-      let (a, b) = form-none (ltb 1 (lineIn list i .kind)) (ltb n (lineIn list i .k)) _ 0 e in
-      omega (arith, ltb-false n (lineIn list i .k) b, k-is)
-
-  fault-place : (x : ℕ) (T : Task) → (r .value ≡ x → ⊥) → fault (version1 .width) (lookAt T) n (lineIn list i) x ≡ 68
+module _ (w : ℕ) (n : ℕ) (l : model.Line) where
+  -- the fault of a line's form comes first
+  fault-form : (look : ℕ → ℕ → model.Look) (x f : ℕ) → formFault w n l ≡ f → 0 < f → fault w look n l x ≡ f
   unfolding formFault fault
-  fault-place x T h = form-none _ _ _ _ e .0 ∙ apart-first _ _ (ne-eqb (lineIn list i .value) x (λ z. h (sym value-is ∙ z)))
+  fault-form look x f e h = form-found _ _ _ _ f e h
 
-  module _ (x : ℕ) (begins : r .value ≡ x) where
-    fault-claim : (T : Task) → fault (version1 .width) (lookAt T) n (lineIn list i) x ≡ first (not (claims (r .kind) (lookAt T (r .k) (r .value)))) 69 0
-    unfolding formFault fault
-    fault-claim T =
-        form-none _ _ _ _ e .0 ∙
-        joined-first _ _ (eq-eqb (lineIn list i .value) x (value-is ∙ begins)) ∙
-        ap (λ (z : model.Line). first (not (claims (z .kind) (lookAt T (z .k) (z .value)))) 69 0) (sym (R .is))
+  -- where its form is sound, its place and its claim are left
+  abbrev placed : (ℕ → ℕ → model.Look) → ℕ → ℕ
+  placed look x = first (not (eqb (l .value) x)) 68 (first (not (claims (l .kind) (look (l .k) (l .value)))) 69 0)
 
-    fault-told :
-        (T : Task) (y z : Bool) → y ≡ claims (r .kind) (lookAt T (r .k) (r .value)) → y ≡ z →
-        fault (version1 .width) (lookAt T) n (lineIn list i) x ≡ first (not z) 69 0
-    fault-told T y z C h = fault-claim T ∙ ap (λ (b : Bool). first (not b) 69 0) (sym C ∙ h)
+  fault-placed : (look : ℕ → ℕ → model.Look) (x : ℕ) → formFault w n l ≡ 0 → fault w look n l x ≡ placed look x
+  unfolding formFault fault
+  fault-placed look x e = form-none _ _ _ _ e .0
 
-    ends-at : r .value + 2 ^ (version1 .width - r .k) ≡ x + 2 ^ (version1 .width - lineIn list i .k)
-    ends-at = ap (λ (z : ℕ). z + 2 ^ (version1 .width - r .k)) begins ∙ ap (λ (z : ℕ). x + 2 ^ (version1 .width - z)) (sym k-is)
+  form-fits : formFault w n l ≡ 0 → l .k ≤ n
+  unfolding formFault
+  form-fits e = ltb-false n (l .k) (form-none _ (ltb n (l .k)) _ 0 e .1)
+
+-- a line whose form `check_at` found sound
+module _ (F : Limits) (facts : ℕ) (S : Followable F facts) (list : List ℕ) (i : ℕ) (r : Checked) (y : ChecksForm list i facts (F .line) r) (l : Line) (e : r ≡ Sound l) where
+  sound : (formFault (widthOf (F .line)) facts (lineNumber (F .line) list i) ≡ 0) × Reads list i (F .line) l
+  sound = subst (Found list i facts (F .line)) e (y .found)
+
+  pub line-small : l .value < 2 ^ F .width
+  line-small = rw (S .sensible .bits) (sound .1 .small)
+
+  pub k-fits : l .k ≤ facts
+  k-fits = subst (λ (z : model.Line). z .k ≤ facts) (sym (sound .1 .is)) (form-fits (widthOf (F .line)) facts _ (sound .0))
 
 -- what `check_at` answered and the table did, of the line numbered i
-module _ (problem steps actions : List ℕ) (facts : ℕ) (at : Places) (list : List ℕ) (i : ℕ) (b : Before) (c : List ℕ) where
-  pub line-faulty :
-      (f : ℕ) → formFault (version1 .width) facts (lineIn list i) ≡ f → 0 < f → length c ≡ 256 →
-      FollowsLine problem steps actions facts at list i b c (Fault f) c
-  line-faulty f e h g = record { is = λ T S t. (fault-form list facts i (b .end) T f e h, h); within = tt; size = g }
+module _ (F : Limits) (problem steps actions : List ℕ) (facts : ℕ) (S : Followable F facts) (at : Places) (list : List ℕ) (i : ℕ) (b : Before) (c : List ℕ)
+    (r : Checked) (y : ChecksForm list i facts (F .line) r) where
+  abbrev Stands : Task → Type 0
+  Stands T = VersionTask F problem steps actions facts at T
 
-  pub line-apart :
-      (r : Line) → formFault (version1 .width) facts (lineIn list i) ≡ 0 → Reads list i (version1 .line) r → (r .value ≡ b .end → ⊥) → length c ≡ 256 →
-      FollowsLine problem steps actions facts at list i b c (Fault 68) c
-  line-apart r e R h g = record { is = λ T S t. (fault-place list facts i r e R (b .end) T h, omega arith); within = tt; size = g }
+  abbrev Follows : Followed → List ℕ → Type 0
+  Follows q d = FollowsLine F problem steps actions facts at list i b c q d
 
-  module _ (r : Line) (e : formFault (version1 .width) facts (lineIn list i) ≡ 0) (R : Reads list i (version1 .line) r) (begins : r .value ≡ b .end)
-      (few : facts ≤ version1 .facts) (W : Within facts b) (k : ℕ) (k-as : k ≡ r .k) (x x′ : ℕ)
-      (x-is : x ≡ raised (version1 .width) (b .value)) (x′-is : x′ ≡ raised (version1 .width) (r .value)) (d : List ℕ) (D : SetsCase c (b .k) x k x′ d)
-      (y : Bool) (C : Claims problem steps actions at (r .kind) d y) where
-    fits : k ≤ facts
-    fits = omega (arith, k-fits list facts i r e R)
+  at-width : (T : Task) → Stands T → (l : model.Line) → formFault (T .width) facts l ≡ formFault (widthOf (F .line)) facts l
+  at-width T Q l = ap (λ (w : ℕ). formFault w facts l) (Q .width ∙ S .sensible .bits)
 
-    moved : (T : Task) → facts ≡ T .facts → Lanes c T (b .k) (b .value) → Lanes d T k (r .value)
-    moved T m t =
-        D .is (version1 .width) (T .facts) (b .value) (r .value) (omega arith) (omega arith) x-is x′-is (omega (arith, W .k)) (omega (arith, fits)) t
+  pub line-faulty : (f : ℕ) → r ≡ Faulty f → length c ≡ 256 → Follows (Fault f) c
+  line-faulty f e g =
+      let (o, h) = subst (Found list i facts (F .line)) e (y .found) in
+      record { is = λ T Q t. (fault-form (T .width) facts _ (lookAt T) (b .end) f (at-width T Q _ ∙ o) h, h); within = tt; size = g }
 
-    told :
-        (T : Task) → VersionTask version1 problem steps actions facts at T → Lanes c T (b .k) (b .value) →
-        y ≡ claims (r .kind) (lookAt T (r .k) (r .value))
-    told T S t = C .is facts T S k (r .value) (moved T (S .facts) t) ∙ ap (λ (z : ℕ). claims (r .kind) (lookAt T z (r .value))) k-as
+  module _ (l : Line) (e : r ≡ Sound l) where
+    abbrev found : (formFault (widthOf (F .line)) facts (lineNumber (F .line) list i) ≡ 0) × Reads list i (F .line) l
+    found = sound F facts S list i r y l e
 
-    pub line-claims :
-        (z : ℕ) → y ≡ true → z ≡ r .value + 2 ^ (version1 .width - r .k) →
-        FollowsLine problem steps actions facts at list i b c (Next (record { k = k; value = r .value; end = z })) d
+    placed-at :
+        (T : Task) → Stands T →
+        fault (T .width) (lookAt T) facts (lineNumber (F .line) list i) (b .end) ≡ placed (T .width) facts (lineOf l) (lookAt T) (b .end)
+    placed-at T Q =
+        fault-placed (T .width) facts _ (lookAt T) (b .end) (at-width T Q _ ∙ found .0) ∙
+        ap (λ (z : model.Line). placed (T .width) facts z (lookAt T) (b .end)) (sym (found .1 .is))
+
+    pub line-apart : (l .value ≡ b .end → ⊥) → length c ≡ 256 → Follows (Fault 68) c
     unfolding first
-    line-claims z h g =
-        record {
-          is =
-              λ T S t. (
-                fault-told list facts i r e R (b .end) begins T y true (told T S t) h,
-                g ∙ ends-at list facts i r e R (b .end) begins,
-                moved T (S .facts) t,
-              );
-          within = record { k = fits; value = R .small };
-          size = D .size;
-        }
+    line-apart h g = record { is = λ T Q t. (placed-at T Q ∙ rw (ne-eqb (l .value) (b .end) h), omega arith); within = tt; size = g }
 
-    pub line-denied : y ≡ false → FollowsLine problem steps actions facts at list i b c (Fault 69) d
-    unfolding first
-    line-denied h =
-        record {
-          is = λ T S t. (fault-told list facts i r e R (b .end) begins T y false (told T S t) h, omega arith);
-          within = tt;
-          size = D .size;
-        }
+    module _ (begins : l .value ≡ b .end) (W : Within F facts b) (k : ℕ) (k-as : k ≡ l .k) (w : ℕ) (w-as : w ≡ F .width) (x x′ : ℕ)
+        (x-is : x ≡ raised w (b .value)) (x′-is : x′ ≡ raised w (l .value)) (d : List ℕ) (D : SetsCase c (b .k) x k x′ d)
+        (u : Bool) (C : Claims problem steps actions at (l .kind) d u) where
+      width-as : (T : Task) → Stands T → w ≡ T .width
+      width-as T Q = w-as ∙ sym (Q .width)
 
--- what `check_at` answered
-pub checked-fault :
-    (list : List ℕ) (i n : ℕ) (r : Checked) → ChecksForm list i n (version1 .line) r → (f : ℕ) → r ≡ Faulty f →
-    (formFault (version1 .width) n (lineIn list i) ≡ f) × (0 < f)
-checked-fault list i n r y f e = subst (Found list i n (version1 .line)) e (y .found)
+      moved : (T : Task) → Stands T → Lanes c T (b .k) (b .value) → Lanes d T k (l .value)
+      moved T Q t =
+          D .is (T .width) (T .facts) (b .value) (l .value) (omega (arith, Q .width, S .word)) (omega (arith, Q .few, Q .width, S .sensible .width))
+          (x-is ∙ ap (λ (z : ℕ). raised z (b .value)) (width-as T Q)) (x′-is ∙ ap (λ (z : ℕ). raised z (l .value)) (width-as T Q))
+          (omega (arith, W .k, Q .facts)) (omega (arith, k-fits F facts S list i r y l e, Q .facts)) t
 
-pub checked-sound :
-    (list : List ℕ) (i n : ℕ) (r : Checked) → ChecksForm list i n (version1 .line) r → (l : Line) → r ≡ Sound l →
-    (formFault (version1 .width) n (lineIn list i) ≡ 0) × Reads list i (version1 .line) l
-checked-sound list i n r y l e = subst (Found list i n (version1 .line)) e (y .found)
+      claimed :
+          (T : Task) → Stands T → Lanes c T (b .k) (b .value) → (z : Bool) → u ≡ z →
+          fault (T .width) (lookAt T) facts (lineNumber (F .line) list i) (b .end) ≡ first (not z) 69 0
+      unfolding first
+      claimed T Q t z h =
+          let m : claims (l .kind) (lookAt T (l .k) (l .value)) ≡ z =
+          ap (λ (q : ℕ). claims (l .kind) (lookAt T q (l .value))) (sym k-as) ∙ sym (C .is T (Q .stands) k (l .value) (moved T Q t)) ∙ h
+          in
+          placed-at T Q ∙ rw (eq-eqb (l .value) (b .end) begins, m)
 
-pub span-small : (k : ℕ) → 2 ^ (version1 .width - k) ≤ 2 ^ version1 .width
-span-small k = pow-mono {i = version1 .width - k} {j = version1 .width} (omega arith)
+      pub line-claims : (z : ℕ) → u ≡ true → z ≡ l .value + 2 ^ (w - k) → Follows (Next (record { k = k; value = l .value; end = z })) d
+      unfolding first
+      line-claims z h g =
+          record {
+            is =
+                λ T Q t. (
+                  claimed T Q t true h,
+                  g ∙ (λ j. begins j + 2 ^ (width-as T Q j - (k-as ∙ ap (λ (q : model.Line). q .k) (found .1 .is)) j)),
+                  moved T Q t,
+                );
+            within = record { k = omega (arith, k-fits F facts S list i r y l e); value = line-small F facts S list i r y l e };
+            size = D .size;
+          }
+
+      pub line-denied : u ≡ false → Follows (Fault 69) d
+      unfolding first
+      line-denied h = record { is = λ T Q t. (claimed T Q t false h, omega arith); within = tt; size = D .size }
+
+-- numbers of so many bits, in a word
+pub word-fits : (F : Limits) (n : ℕ) → Followable F n → (w v : ℕ) → w ≡ F .width → v < 2 ^ F .width → (0 < w) × (w ≤ 64) × (v < 2 ^ w)
+word-fits F n S w v e h = (omega (arith, S .sensible .line, S .sensible .bits), omega (arith, S .word), rw e h)
+
+pub span-small : (F : Limits) (n : ℕ) → Followable F n → (w k v half : ℕ) → w ≡ F .width → v < 2 ^ F .width → half ≡ 2 ^ (w - k) → v + half < 2 ^ 64
+span-small F n S w k v half e h g =
+    let i = pow-mono {i = F .width - k} {j = F .width} (omega arith) in
+    let j = pow-mono {i = suc (F .width)} {j = 64} (omega (arith, S .word)) in
+    omega (arith, pow-suc 2 (F .width), ap (λ (x : ℕ). 2 ^ (x - k)) e)
 
 -- ---- the lines one by one
 
-module _ (w : ℕ) (look : ℕ → ℕ → model.Look) (n : ℕ) (list : List ℕ) where
-  lines-more : (m p : ℕ) → 0 < m → linesFrom version1 list m p ≡ lineAt version1 list p ∷ linesFrom version1 list (m - 1) (p + 8)
+module _ (F : Limits) (w : ℕ) (look : ℕ → ℕ → model.Look) (n : ℕ) (list : List ℕ) where
+  lines-more : (m p : ℕ) → 0 < m → linesFrom F list m p ≡ lineAt F list p ∷ linesFrom F list (m - 1) (p + F .line)
   unfolding linesFrom
   lines-more zero p h = absurd (omega arith)
   lines-more (suc m) p h = let e : suc m - 1 ≡ m = omega arith in rw e
 
   pub follow-fault :
-      (m p i x f : ℕ) → 0 < m → fault w look n (lineAt version1 list p) x ≡ f → 0 < f →
-      follow w look n (linesFrom version1 list m p) i x ≡ refused f i
+      (m p i x f : ℕ) → 0 < m → fault w look n (lineAt F list p) x ≡ f → 0 < f →
+      follow w look n (linesFrom F list m p) i x ≡ refused f i
   unfolding follow
   follow-fault m p i x f h e g = rw (lines-more m p h, e) (refuses f g)
     where
-      refuses : (f : ℕ) → 0 < f → refuseAt f i (follow w look n (linesFrom version1 list (m - 1) (p + 8)) (suc i) (x + 2 ^ (w - lineAt version1 list p .k))) ≡ refused f i
+      refuses : (f : ℕ) → 0 < f → refuseAt f i (follow w look n (linesFrom F list (m - 1) (p + F .line)) (suc i) (x + 2 ^ (w - lineAt F list p .k))) ≡ refused f i
       refuses zero g = absurd (omega arith)
       refuses (suc f) g = unfold refuseAt in refl
 
   pub follow-next :
-      (m p i x e : ℕ) → 0 < m → fault w look n (lineAt version1 list p) x ≡ 0 → e ≡ x + 2 ^ (w - lineAt version1 list p .k) →
-      follow w look n (linesFrom version1 list m p) i x ≡ follow w look n (linesFrom version1 list (m - 1) (p + 8)) (i + 1) e
+      (m p i x e : ℕ) → 0 < m → fault w look n (lineAt F list p) x ≡ 0 → e ≡ x + 2 ^ (w - lineAt F list p .k) →
+      follow w look n (linesFrom F list m p) i x ≡ follow w look n (linesFrom F list (m - 1) (p + F .line)) (i + 1) e
   unfolding follow refuseAt
   follow-next m p i x e h f g = rw (lines-more m p h, f, refuseAt, add-one, g)
 
-  pub follow-ends : (m p i x : ℕ) → m ≡ 0 → x ≡ 2 ^ w → follow w look n (linesFrom version1 list m p) i x ≡ answered i
+  pub follow-ends : (m p i x : ℕ) → m ≡ 0 → x ≡ 2 ^ w → follow w look n (linesFrom F list m p) i x ≡ answered i
   unfolding linesFrom follow ends
   follow-ends m p i x z e = rw (z, linesFrom, follow, eq-eqb x (2 ^ w) e)
 
-  pub follow-short : (m p i x : ℕ) → m ≡ 0 → (x ≡ 2 ^ w → ⊥) → follow w look n (linesFrom version1 list m p) i x ≡ refused 70 i
+  pub follow-short : (m p i x : ℕ) → m ≡ 0 → (x ≡ 2 ^ w → ⊥) → follow w look n (linesFrom F list m p) i x ≡ refused 70 i
   unfolding linesFrom follow ends
   follow-short m p i x z e = rw (z, linesFrom, follow, ne-eqb x (2 ^ w) e)
 
 -- ---- whole lists
 
 -- i of m lines are followed, the last of them b, whose case the table c has: what is left answers for all
-pub record Followed-so-far (problem steps actions : List ℕ) (facts : ℕ) (at : Places) (list : List ℕ) (m : ℕ) (c : List ℕ) (b : Before) (i : ℕ) : Type 0 where
+pub record Followed-so-far (F : Limits) (problem steps actions : List ℕ) (facts : ℕ) (at : Places) (list : List ℕ) (m : ℕ) (c : List ℕ) (b : Before) (i : ℕ) : Type 0 where
   pub same :
-      (T : Task) → VersionTask version1 problem steps actions facts at T →
-      (follow (version1 .width) (lookAt T) facts (linesFrom version1 list m 5) 0 0 ≡
-      follow (version1 .width) (lookAt T) facts (linesFrom version1 list (m - i) (5 + 8 * i)) i (b .end)) ×
+      (T : Task) → VersionTask F problem steps actions facts at T →
+      (follow (T .width) (lookAt T) facts (linesFrom F list m headBytes) 0 0 ≡
+      follow (T .width) (lookAt T) facts (linesFrom F list (m - i) (headBytes + F .line * i)) i (b .end)) ×
       Lanes c T (b .k) (b .value)
   pub few : i ≤ m
-  pub within : Within facts b
+  pub within : Within F facts b
   pub size : length c ≡ 256
 
-module _ (problem steps actions : List ℕ) (facts : ℕ) (at : Places) (list : List ℕ) (m : ℕ) where
-  pub none-followed :
-      (n : ℕ) → n ≡ facts → (c : List ℕ) → NoneFixed n c →
-      Followed-so-far problem steps actions facts at list m c (record { k = 0; value = 0; end = 0 }) 0
+-- the bytes of a line that is not past the last
+pub line-inside : (size i m n : ℕ) → i < m → headBytes + size * m ≤ n → headBytes + size * i + size ≤ n
+line-inside size i m n h l = omega (arith, mul-le-mul-left size h, mul-suc size i)
+
+module _ (F : Limits) (problem steps actions : List ℕ) (facts : ℕ) (at : Places) (list : List ℕ) (m : ℕ) where
+  abbrev So-far : List ℕ → Before → ℕ → Type 0
+  So-far c b i = Followed-so-far F problem steps actions facts at list m c b i
+
+  abbrev Answers : FollowAnswer → Type 0
+  Answers r = FollowsLines F problem steps actions facts at list m r
+
+  pub none-followed : (n : ℕ) → n ≡ facts → (c : List ℕ) → NoneFixed n c → So-far c (record { k = 0; value = 0; end = 0 }) 0
   none-followed n e c N =
       record {
         same =
             λ T S. (
-              ap (λ (k : ℕ). follow (version1 .width) (lookAt T) facts (linesFrom version1 list k 5) 0 0) (omega arith),
-              rw (case-first (version1 .width) (T .facts), sym (S .facts), sym e) (N .is),
+              ap₂ (λ (k p : ℕ). follow (T .width) (lookAt T) facts (linesFrom F list k p) 0 0) (omega arith) (omega (arith, mul-zero (F .line))),
+              rw (case-first (T .width) (T .facts), sym (S .facts), sym e) (N .is),
             );
         few = omega arith;
-        within = record { k = omega arith; value = omega (arith, pow-pos (version1 .width)) };
+        within = record { k = omega arith; value = omega (arith, pow-pos (F .width)) };
         size = N .size;
       }
 
-  module _ (c : List ℕ) (b : Before) (i : ℕ) (o : Followed-so-far problem steps actions facts at list m c b i) (r : Followed) (d : List ℕ)
-      (h : i < m) (y : FollowsLine problem steps actions facts at list i b c r d) where
-    pub lines-fault : (f : ℕ) → r ≡ Fault f → FollowsLines problem steps actions facts at list m (FollowRefused (record { number = f; place = i }))
+  module _ (c : List ℕ) (b : Before) (i : ℕ) (o : So-far c b i) (r : Followed) (d : List ℕ) (h : i < m)
+      (y : FollowsLine F problem steps actions facts at list i b c r d) where
+    line-told : (T : Task) → VersionTask F problem steps actions facts at T → (q : Followed) → r ≡ q → LineIs F list facts i (b .end) T q d
+    line-told T S q e = subst (λ (q : Followed). LineIs F list facts i (b .end) T q d) e (y .is T S (o .same T S .1))
+
+    pub lines-fault : (f : ℕ) → r ≡ Fault f → Answers (FollowRefused (record { number = f; place = i }))
     unfolding lineAt
     lines-fault f e =
         record {
           is =
               λ T S.
-              let (p, t) = o .same T S in
-              let (a, l) = subst (λ (q : Followed). LineIs list facts i (b .end) T q d) e (y .is T S t) in
-              sym (p ∙ follow-fault (version1 .width) (lookAt T) facts list (m - i) (5 + 8 * i) i (b .end) f (omega arith) a l);
+              let (a, l) = line-told T S (Fault f) e in
+              sym (o .same T S .0 ∙ follow-fault F (T .width) (lookAt T) facts list (m - i) (headBytes + F .line * i) i (b .end) f (omega arith) a l);
         }
 
-    pub lines-next : (b′ : Before) → r ≡ Next b′ → Followed-so-far problem steps actions facts at list m d b′ (i + 1)
+    pub lines-next : (b′ : Before) → r ≡ Next b′ → So-far d b′ (i + 1)
     unfolding lineAt
     lines-next b′ e =
         record {
           same =
               λ T S.
-              let (p, t) = o .same T S in
-              let (a, z, t′) = subst (λ (q : Followed). LineIs list facts i (b .end) T q d) e (y .is T S t) in (
-                p ∙
-                    follow-next (version1 .width) (lookAt T) facts list (m - i) (5 + 8 * i) i (b .end) (b′ .end) (omega arith) a z ∙
-                    at-line T (m - i - 1) (m - (i + 1)) (5 + 8 * i + 8) (5 + 8 * (i + 1)) (omega arith) (omega arith),
-                t′,
+              let (a, z, t) = line-told T S (Next b′) e in (
+                o .same T S .0 ∙
+                    follow-next F (T .width) (lookAt T) facts list (m - i) (headBytes + F .line * i) i (b .end) (b′ .end) (omega arith) a z ∙
+                    ap₂ (λ (k p : ℕ). follow (T .width) (lookAt T) facts (linesFrom F list k p) (i + 1) (b′ .end)) (omega arith) (omega (arith, mul-add (F .line) i 1)),
+                t,
               );
           few = omega arith;
-          within = subst (NextWithin facts) e (y .within);
+          within = subst (NextWithin F facts) e (y .within);
           size = y .size;
         }
-      where
-        at-line :
-            (T : Task) (u v p q : ℕ) → u ≡ v → p ≡ q →
-            follow (version1 .width) (lookAt T) facts (linesFrom version1 list u p) (i + 1) (b′ .end) ≡
-            follow (version1 .width) (lookAt T) facts (linesFrom version1 list v q) (i + 1) (b′ .end)
-        at-line T u v p q =
-            ap₂ (λ (k l : ℕ). follow (version1 .width) (lookAt T) facts (linesFrom version1 list k l) (i + 1) (b′ .end))
 
-  module _ (c : List ℕ) (b : Before) (i : ℕ) (o : Followed-so-far problem steps actions facts at list m c b i) (h : m ≤ i) where
+  module _ (c : List ℕ) (b : Before) (i : ℕ) (o : So-far c b i) (h : m ≤ i) (w whole : ℕ) (w-as : w ≡ F .width) (all : whole ≡ 2 ^ (w - 0)) where
     all-followed : i ≡ m
     all-followed = omega (arith, o .few)
 
-    pub lines-short : (b .end ≡ 2 ^ version1 .width → ⊥) → FollowsLines problem steps actions facts at list m (FollowRefused (record { number = 70; place = m }))
+    whole-is : (T : Task) → VersionTask F problem steps actions facts at T → whole ≡ 2 ^ T .width
+    whole-is T S = all ∙ ap (λ (x : ℕ). 2 ^ x) (omega (arith, S .width))
+
+    pub lines-short : (b .end ≡ whole → ⊥) → Answers (FollowRefused (record { number = 70; place = m }))
     lines-short d =
         record {
           is =
               λ T S.
-              sym (o .same T S .0 ∙ follow-short (version1 .width) (lookAt T) facts list (m - i) (5 + 8 * i) i (b .end) (omega arith) d ∙ ap (refused 70) all-followed);
+              sym
+              (o .same T S .0 ∙
+              follow-short F (T .width) (lookAt T) facts list (m - i) _ i (b .end) (omega arith) (λ e. d (e ∙ sym (whole-is T S))) ∙
+              ap (refused 70) all-followed);
         }
 
-    pub lines-pass : b .end ≡ 2 ^ version1 .width → FollowsLines problem steps actions facts at list m (Passes m)
+    pub lines-pass : b .end ≡ whole → Answers (Passes m)
     lines-pass d =
         record {
           is =
               λ T S.
-              sym (o .same T S .0 ∙ follow-ends (version1 .width) (lookAt T) facts list (m - i) (5 + 8 * i) i (b .end) (omega arith) d ∙ ap answered all-followed);
+              sym
+              (o .same T S .0 ∙
+              follow-ends F (T .width) (lookAt T) facts list (m - i) _ i (b .end) (omega arith) (d ∙ whole-is T S) ∙
+              ap answered all-followed);
         }
 
 -- ---- the block
 
-module _ (problem steps : List ℕ) (parts : Problem) (list : List ℕ) where
+pub lines-inside : (size n : ℕ) → 0 < size → headBytes ≤ n → headBytes + size * ((n - headBytes) / size) ≤ n
+lines-inside size n h l = omega (arith, mul-div-le (n - headBytes) size)
+
+module _ (F : Limits) (problem steps : List ℕ) (parts : Problem) (list : List ℕ) where
   pub body-refused :
-      ((length list - 5) % 8 ≡ 0 → ⊥) → FollowsBody problem steps parts list (FollowRefused (record { number = 64; place = length list }))
-  body-refused h = record { is = λ T S. rw (ne-eqb ((length list - 5) % 8) 0 h) }
+      ((length list - headBytes) % F .line ≡ 0 → ⊥) → FollowsBody F problem steps parts list (FollowRefused (record { number = 64; place = length list }))
+  body-refused h = record { is = λ T S. rw (ne-eqb ((length list - headBytes) % F .line) 0 h) }
 
   pub body-lines :
-      (r : FollowAnswer) → (length list - 5) % 8 ≡ 0 →
-      FollowsLines problem steps (parts .action) (parts .facts) (placesOf parts) list ((length list - 5) / 8) r →
-      FollowsBody problem steps parts list r
-  body-lines r h y = record { is = λ T S. y .is T S ∙ rw (eq-eqb ((length list - 5) % 8) 0 h) (over T S) }
-    where
-      over :
-          (T : Task) → TaskIn version1 problem steps parts T →
-          follow (version1 .width) (lookAt T) (parts .facts) (linesFrom version1 list ((length list - 5) / 8) 5) 0 0 ≡
-          follow (T .width) (lookAt T) (T .facts) (linesFrom version1 list ((length list - 5) / 8) 5) 0 0
-      over T S = ap₂ (λ (w n : ℕ). follow w (lookAt T) n (linesFrom version1 list ((length list - 5) / 8) 5) 0 0) (sym (S .width)) (S .facts)
+      (r : FollowAnswer) → (length list - headBytes) % F .line ≡ 0 →
+      FollowsLines F problem steps (parts .action) (parts .facts) (placesOf parts) list ((length list - headBytes) / F .line) r →
+      FollowsBody F problem steps parts list r
+  body-lines r h y =
+      record {
+        is =
+            λ T S.
+            y .is T S ∙
+            rw (eq-eqb ((length list - headBytes) % F .line) 0 h)
+            (ap (λ (n : ℕ). follow (T .width) (lookAt T) n (linesFrom F list ((length list - headBytes) / F .line) headBytes) 0 0) (S .facts));
+      }
 
 -- ---- the operation
-
-list-header-refused : (list : List ℕ) (r : Refusal) → Refused r ≡ nextOf (header list 60 65533 1 0) → listOf version1 list ≡ refusal r
-unfolding listOf caseList _>>_ andThen answerOf
-list-header-refused list r e = rw (next-refused (header list 60 65533 1 0) r (sym e))
 
 tested-list :
     (b : Bool) (n q : ℕ) (ls : List model.Line) →
@@ -379,52 +373,54 @@ unfolding require andThen answerOf done
 tested-list true n q ls = refl
 tested-list false n q ls = refl
 
-list-body :
-    (list : List ℕ) (q : ℕ) (u : Unit {0}) → header list 60 65533 1 0 ≡ got u q →
-    listOf version1 list ≡
-    cond (eqb ((length list - 5) % 8) 0) (answered (linesFrom version1 list ((length list - 5) / 8) 5)) (refused 64 (length list))
-unfolding listOf caseList _>>_ andThen
-list-body list q u e =
-    rw e (tested-list (eqb ((length list - 5) % 8) 0) (length list) q (linesFrom version1 list ((length list - 5) / 8) 5))
+by-test :
+    (b : Bool) (k : List model.Line → Answer ℕ) (ls : List model.Line) (n : ℕ) →
+    Answer._>>=_ (cond b (answered ls) (refused 64 n)) k ≡ cond b (k ls) (refused 64 n)
+unfolding Answer._>>=_
+by-test true k ls n = refl
+by-test false k ls n = refl
 
-pub header-five : (list : List ℕ) (q : ℕ) → Reading-Next q ≡ nextOf (header list 60 65533 1 0) → 5 ≤ length list
-header-five list q e =
-    let g = next-got (header list 60 65533 1 0) q (sym e) in
-    header-got list 60 65533 1 q (g .value) (g .is) .0
+pub header-five : (list : List ℕ) (most version q : ℕ) → Reading-Next q ≡ nextOf (header list 60 most version 0) → headBytes ≤ length list
+header-five list most version q e = let g = next-got (header list 60 most version 0) q (sym e) in header-got list 60 most version q (g .value) (g .is) .0
+
+module _ (F : Limits) (list : List ℕ) (most : ℕ) (most-is : most ≡ headBytes + F .line * F .lines) where
+  abbrev headed : Read (Unit {0})
+  headed = header list 60 most (F .version) 0
+
+  list-refused : (r : Refusal) → Refused r ≡ nextOf headed → listOf F list ≡ refusal r
+  unfolding listOf caseList _>>_ andThen answerOf
+  list-refused r e = rw (← most-is, next-refused headed r (sym e))
+
+  list-body :
+      (q : ℕ) → Reading-Next q ≡ nextOf headed →
+      listOf F list ≡
+      cond (eqb ((length list - headBytes) % F .line) 0) (answered (linesFrom F list ((length list - headBytes) / F .line) headBytes)) (refused 64 (length list))
+  unfolding listOf caseList _>>_ andThen
+  list-body q e = let g = next-got headed q (sym e) in rw (← most-is, g .is) (tested-list _ (length list) q _)
 
 pub follow-refused :
     (s t list : List ℕ) (r : blocks.Task) → FindsTask version1 s t r → r .refused ≡ true → refusal (r .refusal) ≡ followList version1 s t list
 unfolding followList Answer._>>=_
 follow-refused s t list r f h = rw (f .refusal h)
 
-module _ (problem plan : List ℕ) (r : blocks.Task) (o : StandsFound version1 problem plan r) where
-  pub facts-most : r .problem .facts ≤ version1 .facts
-  facts-most = omega (arith, o .facts, o .few)
+module _ (problem plan : List ℕ) (r : blocks.Task) (f : FindsTask version1 problem plan r) (o : StandsFound version1 problem plan r) where
+  pub followable : Followable (r .limits) (r .problem .facts)
+  followable = record { sensible = o .sensible; word = subst (λ (F : Limits). F .width < 64) (sym (f .limits)) (omega arith); facts = omega (arith, o .facts, o .few) }
 
-module _ (problem plan list : List ℕ) (r : blocks.Task) (o : StandsFound version1 problem plan r) where
-  pub follow-header : (y : Refusal) → Refused y ≡ nextOf (header list 60 65533 1 0) → refusal y ≡ followList version1 problem plan list
-  unfolding Answer._>>=_
-  follow-header y e = sym (follow-is version1 problem plan (o .task) (o .read) list ∙ rw (list-header-refused list y e))
+  module _ (list : List ℕ) (most : ℕ) (most-is : most ≡ headBytes + r .limits .line * r .limits .lines) where
+    -- the operation, by the numbers that were found
+    follow-by : followList version1 problem plan list ≡ Answer._>>=_ (listOf (r .limits) list) (λ ls. follow (o .task .width) (lookAt (o .task)) (o .task .facts) ls 0 0)
+    unfolding Answer._>>=_
+    follow-by = follow-is version1 problem plan (o .task) (o .read) list ∙ rw (f .limits)
 
-  body-is : (q : ℕ) → Reading-Next q ≡ nextOf (header list 60 65533 1 0) → followList version1 problem plan list ≡ bodyAnswer (o .task) list
-  unfolding Answer._>>=_
-  body-is q e =
-      let g = next-got (header list 60 65533 1 0) q (sym e) in
-      follow-is version1 problem plan (o .task) (o .read) list ∙
-      rw (list-body list q (g .value) (g .is)) (by-test (eqb ((length list - 5) % 8) 0))
-    where
-      by-test :
-          (b : Bool) →
-          Answer._>>=_ (cond b (answered (linesFrom version1 list ((length list - 5) / 8) 5)) (refused 64 (length list)))
-          (λ ls. follow (o .task .width) (lookAt (o .task)) (o .task .facts) ls 0 0) ≡
-          cond b
-          (follow (o .task .width) (lookAt (o .task)) (o .task .facts) (linesFrom version1 list ((length list - 5) / 8) 5) 0 0)
-          (refused 64 (length list))
-      by-test true = refl
-      by-test false = refl
+    pub follow-header : (y : Refusal) → Refused y ≡ nextOf (headed (r .limits) list most most-is) → refusal y ≡ followList version1 problem plan list
+    unfolding Answer._>>=_
+    follow-header y e = sym (follow-by ∙ rw (list-refused (r .limits) list most most-is y e))
 
-  pub follow-body :
-      (u : FollowAnswer) (q : ℕ) → Reading-Next q ≡ nextOf (header list 60 65533 1 0) → (steps : List ℕ) →
-      steps ≡ take (length plan - headBytes) (drop headBytes plan) → FollowsBody problem steps (r .problem) list u →
-      followAnswer u ≡ followList version1 problem plan list
-  follow-body u q e steps p y = y .is (o .task) (found-in version1 problem plan r o steps p) ∙ sym (body-is q e)
+    pub follow-body :
+        (u : FollowAnswer) (q : ℕ) → Reading-Next q ≡ nextOf (headed (r .limits) list most most-is) → (steps : List ℕ) →
+        steps ≡ take (length plan - headBytes) (drop headBytes plan) → FollowsBody (r .limits) problem steps (r .problem) list u →
+        followAnswer u ≡ followList version1 problem plan list
+    follow-body u q e steps p y =
+        y .is (o .task) (found-in version1 problem plan r o steps p) ∙
+        sym (follow-by ∙ rw (list-body (r .limits) list most most-is q e) (by-test (eqb ((length list - headBytes) % r .limits .line) 0) _ _ (length list)))

@@ -7,7 +7,7 @@ ghost use Rattle.model.specs.Read.{headBytes};
 ghost use Rattle.model.specs.Limits.{version1};
 ghost use Rattle.model.specs.Operations.{followList};
 ghost use Rattle.model.specs.Answers.{followAnswer};
-ghost use Rattle.follow.specs.Follows.{Claims, Within, FollowsLine, FollowsLines, FollowsBody};
+ghost use Rattle.follow.specs.Follows.{Followable, Claims, Within, FollowsLine, FollowsLines, FollowsBody};
 ghost use Rattle.follow.specs.Promise.{FollowPromised};
 use blocks::Places;
 use blocks::check_header;
@@ -16,7 +16,6 @@ use execute::look_at_cases;
 use formula::Reading;
 use lines::Checked;
 use lines::check_at;
-use model::CaseList;
 use model::FollowAnswer;
 use model::Limits;
 use model::Problem;
@@ -27,9 +26,6 @@ use table::lane_bit;
 use table::none_fixed;
 use table::set_case;
 use table::word_of;
-
-// The bits of a number.
-const WIDTH: usize = CaseList::WIDTH as usize;
 
 // The line before: its case, which the table has in every lane, and where it ended.
 pub struct Before {
@@ -73,25 +69,27 @@ fn follow_line(
     actions: &[usize; 64],
     facts: u8,
     at: Places,
+    limits: Limits,
     list: &[u8],
     line: usize,
     before: Before,
     c: &mut [u64; 256],
 ) -> Followed
-    requires { ⌜ (facts ≤ version1 .facts) × Within facts before × (headBytes + version1 .line * line + version1 .line ≤ length (now list)) × (length (now c) ≡ 256) ⌝ }
-    ensures { λ r. ⌜ FollowsLine (now (problem .entry)) (now (steps .entry)) (now (actions .entry)) facts at (now (list .entry)) line before (now (c .entry)) r (now (c .exit)) ⌝ }
+    requires { ⌜ Followable limits facts × Within limits facts before × (headBytes + limits .line * line + limits .line ≤ length (now list)) × (length (now c) ≡ 256) ⌝ }
+    ensures { λ r. ⌜ FollowsLine limits (now (problem .entry)) (now (steps .entry)) (now (actions .entry)) facts at (now (list .entry)) line before (now (c .entry)) r (now (c .exit)) ⌝ }
 {
-    match check_at(list, line, facts, CaseList::LINE_BYTES) {
+    match check_at(list, line, facts, limits.line) {
         Checked::Fault(number) => Followed::Fault(number),
         Checked::Sound(l) => {
             if l.value != before.end {
                 return Followed::Fault(68);
             }
             let k = wide(l.k);
-            let word = word_of(WIDTH, l.value);
-            set_case(c, before.k, word_of(WIDTH, before.value), k, word);
+            let width = wide(limits.width);
+            let word = word_of(width, l.value);
+            set_case(c, before.k, word_of(width, before.value), k, word);
             if check_claim(problem, steps, actions, at, l.kind, c) {
-                let end = l.value + span(WIDTH, k);
+                let end = l.value + span(width, k);
                 Followed::Next(Before {
                     k,
                     value: l.value,
@@ -111,11 +109,12 @@ fn follow_lines(
     actions: &[usize; 64],
     facts: u8,
     at: Places,
+    limits: Limits,
     list: &[u8],
     lines: usize,
 ) -> FollowAnswer
-    requires { ⌜ (facts ≤ version1 .facts) × (headBytes + version1 .line * lines ≤ length (now list)) ⌝ }
-    ensures { λ r. ⌜ FollowsLines (now (problem .entry)) (now (steps .entry)) (now (actions .entry)) facts at (now (list .entry)) lines r ⌝ }
+    requires { ⌜ Followable limits facts × (headBytes + limits .line * lines ≤ length (now list)) ⌝ }
+    ensures { λ r. ⌜ FollowsLines limits (now (problem .entry)) (now (steps .entry)) (now (actions .entry)) facts at (now (list .entry)) lines r ⌝ }
 {
     let mut c = none_fixed(wide(facts));
     let mut before = Before {
@@ -125,7 +124,18 @@ fn follow_lines(
     };
     let mut i: usize = 0;
     while i < lines {
-        match follow_line(problem, steps, actions, facts, at, list, i, before, &mut c) {
+        match follow_line(
+            problem,
+            steps,
+            actions,
+            facts,
+            at,
+            limits,
+            list,
+            i,
+            before,
+            &mut c,
+        ) {
             Followed::Fault(number) => {
                 return FollowAnswer::Refused(Refusal {
                     number,
@@ -138,7 +148,7 @@ fn follow_lines(
         }
         i = i + 1;
     }
-    if before.end != CaseList::NUMBERS {
+    if before.end != span(wide(limits.width), 0) {
         return FollowAnswer::Refused(Refusal {
             number: 70,
             place: lines as u64,
@@ -148,12 +158,18 @@ fn follow_lines(
 }
 
 // The lines of a list block whose header is right.
-fn follow_body(problem: &[u8], steps: &[u8], parts: Problem, list: &[u8]) -> FollowAnswer
-    requires { ⌜ (parts .facts ≤ version1 .facts) × (headBytes ≤ length (now list)) ⌝ }
-    ensures { λ r. ⌜ FollowsBody (now (problem .entry)) (now (steps .entry)) parts (now (list .entry)) r ⌝ }
+fn follow_body(
+    problem: &[u8],
+    steps: &[u8],
+    parts: Problem,
+    limits: Limits,
+    list: &[u8],
+) -> FollowAnswer
+    requires { ⌜ Followable limits (parts .facts) × (headBytes ≤ length (now list)) ⌝ }
+    ensures { λ r. ⌜ FollowsBody limits (now (problem .entry)) (now (steps .entry)) parts (now (list .entry)) r ⌝ }
 {
     let body = list.len() - Limits::HEAD_BYTES;
-    if body % CaseList::LINE_BYTES != 0 {
+    if body % limits.line != 0 {
         return FollowAnswer::Refused(Refusal {
             number: 64,
             place: list.len() as u64,
@@ -170,8 +186,9 @@ fn follow_body(problem: &[u8], steps: &[u8], parts: Problem, list: &[u8]) -> Fol
         &actions,
         parts.facts,
         at,
+        limits,
         list,
-        body / CaseList::LINE_BYTES,
+        body / limits.line,
     )
 }
 
@@ -185,12 +202,14 @@ pub fn follow_list(problem: &[u8], plan: &[u8], list: &[u8]) -> FollowAnswer
         let refusal = task.refusal;
         return FollowAnswer::Refused(refusal);
     }
-    match check_header(list, 60, CaseList::MAX_BYTES, Limits::VERSION) {
+    let limits = task.limits;
+    let most = Limits::HEAD_BYTES + limits.line * limits.lines;
+    match check_header(list, 60, most, limits.version) {
         Reading::Refused(r) => FollowAnswer::Refused(r),
         Reading::Next(_) => {
             let from = Limits::HEAD_BYTES;
             let parts = task.problem;
-            follow_body(problem, &plan[from..], parts, list)
+            follow_body(problem, &plan[from..], parts, limits, list)
         }
     }
 }

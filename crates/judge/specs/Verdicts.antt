@@ -1,9 +1,9 @@
 -- What the walk of a whole problem answers, and the verdict by it.
 use mathlib.Core.Path.{_≡_}
 use mathlib.Core.List.{List}
-use Prim.Native.Nat.{ℕ, _+_, _*_, _≤_}
+use Prim.Native.Nat.{ℕ, _+_, _*_}
 use lib.ListN.{length}
-use Rattle.model.specs.Limits.{version1}
+use Rattle.model.specs.declared.Limits.{Limits}
 use Rattle.model.specs.Answer.{answered}
 use Rattle.model.specs.Case.{Task, runOf, IsState}
 use Rattle.model.specs.Walk.{Line, walked, Verdict, right, wrong, undecided, judged}
@@ -17,24 +17,24 @@ use Rattle.lines.specs.Putting.{Puts}
 use Rattle.judge.specs.declared.walk.Ending.{Ending}
 use Rattle.judge.specs.Walks.{Walks}
 
-abbrev pub WalksTask : List ℕ → List ℕ → Problem → ℕ → Ending → List ℕ → ℕ → List ℕ → Type 0
-WalksTask problem steps parts g r before to after = Walks (TaskIn version1 problem steps parts) walked g r before to after
+abbrev pub WalksTask : Limits → List ℕ → List ℕ → Problem → ℕ → Ending → List ℕ → ℕ → List ℕ → Type 0
+WalksTask F problem steps parts g r before to after = Walks F (TaskIn F problem steps parts) walked g r before to after
 
-pub record OutcomeOf (problem steps : List ℕ) (parts : Problem) (x : ℕ) (r : Outcome) : Type 0 where
-  pub is : (T : Task) → TaskIn version1 problem steps parts T → IsState T x → outcome r ≡ runOf T x
+pub record OutcomeOf (F : Limits) (problem steps : List ℕ) (parts : Problem) (x : ℕ) (r : Outcome) : Type 0 where
+  pub is : (T : Task) → TaskIn F problem steps parts T → IsState T x → outcome r ≡ runOf T x
 
 -- the lines of a right verdict stand in the buffer from `to` on, if they fit
-abbrev pub LaysLines : Verdict (List Line) → List ℕ → ℕ → List ℕ → Type 0
-LaysLines (right ls a) before to after = Puts before to ls (to + version1 .line * length ls) after
-LaysLines (wrong s o a) before to after = Unit {0}
-LaysLines (undecided a) before to after = Unit {0}
+abbrev pub LaysLines : Limits → Verdict (List Line) → List ℕ → ℕ → List ℕ → Type 0
+LaysLines F (right ls a) before to after = Puts F before to ls (to + F .line * length ls) after
+LaysLines F (wrong s o a) before to after = Unit {0}
+LaysLines F (undecided a) before to after = Unit {0}
 
 -- the verdict v is answered, with its lines in the buffer
-pub record Judges (v : Verdict (List Line)) (r : JudgeAnswer) (before : List ℕ) (to : ℕ) (after : List ℕ) : Type 0 where
+pub record Judges (F : Limits) (v : Verdict (List Line)) (r : JudgeAnswer) (before : List ℕ) (to : ℕ) (after : List ℕ) : Type 0 where
   pub answer : judgeAnswer r ≡ answered (lineCount v)
-  pub lays : LaysLines v before to after
+  pub lays : LaysLines F v before to after
 
 -- so it is with every task that stands in the blocks
-pub record JudgesTask (problem steps : List ℕ) (parts : Problem) (g : ℕ) (r : JudgeAnswer) (before : List ℕ) (to : ℕ) (after : List ℕ) : Type 0 where
+pub record JudgesTask (F : Limits) (problem steps : List ℕ) (parts : Problem) (g : ℕ) (r : JudgeAnswer) (before : List ℕ) (to : ℕ) (after : List ℕ) : Type 0 where
   pub size : length after ≡ length before
-  pub is : (T : Task) → TaskIn version1 problem steps parts T → Judges (judged T g) r before to after
+  pub is : (T : Task) → TaskIn F problem steps parts T → Judges F (judged T g) r before to after

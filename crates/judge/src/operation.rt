@@ -2,6 +2,7 @@
 ghost use mathlib.Core.Path.{_≡_};
 ghost use Prim.Native.Nat.{_≤_};
 ghost use Rattle.model.specs.Limits.{version1};
+ghost use Rattle.model.specs.WellFormed.{Sensible};
 ghost use Rattle.model.specs.Operations as operations;
 ghost use Rattle.model.specs.Answers.{judgeAnswer};
 ghost use Rattle.judge.specs.Walks.{LevelsOf};
@@ -12,12 +13,12 @@ use crate::walk::Ending;
 use crate::walk::walk_block;
 use blocks::Places;
 use blocks::find_task;
-use execute::run_state;
-use execute::state_table;
+use execute::run_task;
 use model::JudgeAnswer;
 use model::Limits;
 use model::Outcome;
 use model::Problem;
+use model::RunAnswer;
 use table::fix_levels;
 use table::none_fixed;
 
@@ -33,12 +34,13 @@ pub fn walk_task(
     problem: &[u8],
     steps: &[u8],
     parts: Problem,
+    limits: Limits,
     grant: u64,
     out: &mut [u8],
     to: usize,
 ) -> Ending
-    requires { ⌜ parts .facts ≤ version1 .facts ⌝ }
-    ensures { λ r. ⌜ WalksTask (now (problem .entry)) (now (steps .entry)) parts grant r (now (out .entry)) to (now (out .exit)) ⌝ }
+    requires { ⌜ Sensible limits × (parts .facts ≤ limits .facts) ⌝ }
+    ensures { λ r. ⌜ WalksTask limits (now (problem .entry)) (now (steps .entry)) parts grant r (now (out .entry)) to (now (out .exit)) ⌝ }
 {
     let facts = crate::wide(parts.facts);
     let at = Places {
@@ -59,6 +61,7 @@ pub fn walk_task(
         steps,
         &actions,
         at,
+        limits,
         &c,
         first,
         levels,
@@ -69,17 +72,14 @@ pub fn walk_task(
 }
 
 // How the run of the state numbered `state` ends. (A number that is no state misses; the walk names none.)
-fn outcome_of(problem: &[u8], steps: &[u8], parts: Problem, state: u64) -> Outcome
-    requires { ⌜ parts .facts ≤ version1 .facts ⌝ }
-    ensures { λ r. ⌜ OutcomeOf (now (problem .entry)) (now (steps .entry)) parts state r ⌝ }
+fn outcome_of(problem: &[u8], steps: &[u8], parts: Problem, limits: Limits, state: u64) -> Outcome
+    requires { ⌜ Sensible limits × (parts .facts ≤ limits .facts) ⌝ }
+    ensures { λ r. ⌜ OutcomeOf limits (now (problem .entry)) (now (steps .entry)) parts state r ⌝ }
 {
-    let start = state_table(state, crate::wide(parts.facts));
-    if !start.valid {
-        return Outcome::Missed;
+    match run_task(problem, steps, parts, limits, state) {
+        RunAnswer::Refused(_) => Outcome::Missed,
+        RunAnswer::Ended(outcome) => outcome,
     }
-    let table = start.table;
-    let actions = parts.action;
-    run_state(problem, steps, &actions, parts.goal, table)
 }
 
 // The verdict on a problem and a plan that were read, by one walk, with the lines of a right plan from `to` on.
@@ -87,17 +87,18 @@ pub fn judge_task(
     problem: &[u8],
     steps: &[u8],
     parts: Problem,
+    limits: Limits,
     grant: u64,
     out: &mut [u8],
     to: usize,
 ) -> JudgeAnswer
-    requires { ⌜ parts .facts ≤ version1 .facts ⌝ }
-    ensures { λ r. ⌜ JudgesTask (now (problem .entry)) (now (steps .entry)) parts grant r (now (out .entry)) to (now (out .exit)) ⌝ }
+    requires { ⌜ Sensible limits × (parts .facts ≤ limits .facts) ⌝ }
+    ensures { λ r. ⌜ JudgesTask limits (now (problem .entry)) (now (steps .entry)) parts grant r (now (out .entry)) to (now (out .exit)) ⌝ }
 {
-    match walk_task(problem, steps, parts, grant, out, to) {
+    match walk_task(problem, steps, parts, limits, grant, out, to) {
         Ending::Out => JudgeAnswer::Undecided { visits: grant },
         Ending::Failed { state, visits } => {
-            let outcome = outcome_of(problem, steps, parts, state);
+            let outcome = outcome_of(problem, steps, parts, limits, state);
             JudgeAnswer::Wrong {
                 state,
                 outcome,
@@ -124,7 +125,8 @@ pub fn judge(problem: &[u8], plan: &[u8], grant: u64) -> JudgeAnswer
         return JudgeAnswer::Refused(refusal);
     }
     let parts = task.problem;
+    let limits = task.limits;
     let head = Limits::HEAD_BYTES;
     let mut room = [0u8; 1];
-    judge_task(problem, &plan[head..], parts, grant, &mut room, 0)
+    judge_task(problem, &plan[head..], parts, limits, grant, &mut room, 0)
 }

@@ -2,14 +2,15 @@
 // walk goes through it depth first, and an open case at its edge begins a block of its own. The grant that is left goes in, the visits come
 // out, and each closed case is a line in the buffer, where that has room.
 ghost use mathlib.Core.Path.{_≡_};
-ghost use Prim.Native.Nat.{suc, _+_, _-_, _^_, _<_};
+ghost use Prim.Native.Nat.{_+_, _<_};
 ghost use lib.ListN.{length};
-ghost use Rattle.model.specs.Limits.{version1};
 ghost use Rattle.judge.specs.Walks.{LevelsOf, BlockFits, NodeFits, WalksBlock, WalksNode, WalksParts, Addable, Joins};
 use blocks::Places;
 use execute::look_at_cases;
 use lines::add_line;
-use model::CaseList;
+use model::Limits;
+use numbers::span;
+use numbers::wide;
 use table::fix_levels;
 use table::fix_path;
 use table::lane_bit;
@@ -82,20 +83,13 @@ fn joined(lines: u64, visits: u64, second: Ending) -> Ending
     }
 }
 
-// Half of what a case covers that fixes k facts.
-fn half_of(k: usize) -> u64
-    requires { ⌜ k < version1 .width ⌝ }
-    ensures { λ r. ⌜ r ≡ 2 ^ (version1 .width - suc k) ⌝ }
-{
-    CaseList::NUMBERS >> (k + 1)
-}
-
 // The walk from a case whose block this table is.
 pub fn walk_block(
     problem: &[u8],
     steps: &[u8],
     actions: &[usize; 64],
     at: Places,
+    limits: Limits,
     c: &[u64; 256],
     case: Case,
     levels: usize,
@@ -103,8 +97,8 @@ pub fn walk_block(
     out: &mut [u8],
     to: usize,
 ) -> Ending
-    requires { ⌜ (length (now c) ≡ 256) × BlockFits case levels ⌝ }
-    ensures { λ r. ⌜ WalksBlock (now (problem .entry)) (now (steps .entry)) (now (actions .entry)) at (now (c .entry)) case levels grant r (now (out .entry)) to (now (out .exit)) ⌝ }
+    requires { ⌜ (length (now c) ≡ 256) × BlockFits limits case levels ⌝ }
+    ensures { λ r. ⌜ WalksBlock limits (now (problem .entry)) (now (steps .entry)) (now (actions .entry)) at (now (c .entry)) case levels grant r (now (out .entry)) to (now (out .exit)) ⌝ }
 {
     let found = look_at_cases(problem, steps, actions, at.initial, at.goal, c);
     let block = Block {
@@ -118,6 +112,7 @@ pub fn walk_block(
         steps,
         actions,
         at,
+        limits,
         c,
         block,
         case,
@@ -134,6 +129,7 @@ fn walk_node(
     steps: &[u8],
     actions: &[usize; 64],
     at: Places,
+    limits: Limits,
     c: &[u64; 256],
     block: Block,
     case: Case,
@@ -142,14 +138,14 @@ fn walk_node(
     out: &mut [u8],
     to: usize,
 ) -> Ending
-    requires { ⌜ (length (now c) ≡ 256) × NodeFits block case lane ⌝ }
-    ensures { λ r. ⌜ WalksNode (now (problem .entry)) (now (steps .entry)) (now (actions .entry)) at (now (c .entry)) block case lane grant r (now (out .entry)) to (now (out .exit)) ⌝ }
+    requires { ⌜ (length (now c) ≡ 256) × NodeFits limits block case lane ⌝ }
+    ensures { λ r. ⌜ WalksNode limits (now (problem .entry)) (now (steps .entry)) (now (actions .entry)) at (now (c .entry)) block case lane grant r (now (out .entry)) to (now (out .exit)) ⌝ }
 {
     if grant == 0 {
         return Ending::Out;
     }
     if lane_bit(block.empty, lane) == 1 {
-        let next = add_line(out, to, EMPTY, case.k, case.number);
+        let next = add_line(out, to, limits, EMPTY, case.k, case.number);
         return Ending::Closed {
             lines: 1,
             visits: 1,
@@ -157,7 +153,7 @@ fn walk_node(
         };
     }
     if lane_bit(block.carries, lane) == 1 {
-        let next = add_line(out, to, CARRIES, case.k, case.number);
+        let next = add_line(out, to, limits, CARRIES, case.k, case.number);
         return Ending::Closed {
             lines: 1,
             visits: 1,
@@ -170,6 +166,7 @@ fn walk_node(
             steps,
             actions,
             at,
+            limits,
             c,
             block,
             case,
@@ -194,6 +191,7 @@ fn walk_node(
         steps,
         actions,
         at,
+        limits,
         &below,
         case,
         levels,
@@ -209,6 +207,7 @@ fn walk_parts(
     steps: &[u8],
     actions: &[usize; 64],
     at: Places,
+    limits: Limits,
     c: &[u64; 256],
     block: Block,
     case: Case,
@@ -217,8 +216,8 @@ fn walk_parts(
     out: &mut [u8],
     to: usize,
 ) -> Ending
-    requires { ⌜ (length (now c) ≡ 256) × NodeFits block case lane × (case .k < block .first + block .levels) × (grant < 18446744073709551615) ⌝ }
-    ensures { λ r. ⌜ WalksParts (now (problem .entry)) (now (steps .entry)) (now (actions .entry)) at (now (c .entry)) block case lane grant r (now (out .entry)) to (now (out .exit)) ⌝ }
+    requires { ⌜ (length (now c) ≡ 256) × NodeFits limits block case lane × (case .k < block .first + block .levels) × (grant < 18446744073709551615) ⌝ }
+    ensures { λ r. ⌜ WalksParts limits (now (problem .entry)) (now (steps .entry)) (now (actions .entry)) at (now (c .entry)) block case lane grant r (now (out .entry)) to (now (out .exit)) ⌝ }
 {
     let first = Case {
         k: case.k + 1,
@@ -230,6 +229,7 @@ fn walk_parts(
         steps,
         actions,
         at,
+        limits,
         c,
         block,
         first,
@@ -248,16 +248,18 @@ fn walk_parts(
             visits,
             next,
         } => {
+            let half = span(wide(limits.width), case.k + 1);
             let second = Case {
                 k: case.k + 1,
                 left: case.left - 1,
-                number: case.number + half_of(case.k),
+                number: case.number + half,
             };
             let rest = walk_node(
                 problem,
                 steps,
                 actions,
                 at,
+                limits,
                 c,
                 block,
                 second,

@@ -1,25 +1,17 @@
 -- A line's bytes, and the faults of its form. Assumes nothing.
 use mathlib.Core.Path.{_≡_, refl, sym, ap, _∙_, subst}
 use mathlib.Core.List.{List}
-use Prim.Native.Nat.{ℕ, zero, suc, _+_, _-_, _*_, _%_, _^_, _≤_, _<_}
-use native.Mathlib.Nat.{pow-suc}
+use Prim.Native.Nat.{ℕ, _+_, _-_, _*_, _%_, _^_, _≤_, _<_}
 use native.Mathlib.Omega.{arith}
 use lib.ListN.{getD, take, drop}
-use lib.Pow.{pow-add}
 use borrow.Author.Tests.{lt-ltb, le-ltb, eq-eqb, ne-eqb}
 use Rattle.model.specs.Walk as model
 use Rattle.model.specs.CaseList.{first}
 use Rattle.model.specs.Read.{headBytes, bigEndian}
+use Rattle.model.proofs.Laws.Reading.{byte-bits}
 use Rattle.lines.specs.declared.form.Line.{Line}
 use Rattle.lines.specs.declared.form.Checked.the-variants.{Fault, Sound}
 use Rattle.lines.specs.Lines.{widthOf, lineNumber, lineOf, Reads, formFault, ChecksForm}
-
--- a byte is eight bits
-bits-of : (n : ℕ) → 256 ^ n ≡ 2 ^ (8 * n)
-bits-of zero = refl
-bits-of (suc n) =
-    let e : 8 * suc n ≡ 8 * n + 8 = omega arith in
-    pow-suc 256 n ∙ ap (λ (x : ℕ). x * 256) (bits-of n) ∙ sym (ap (λ (x : ℕ). 2 ^ x) e ∙ pow-add 2 (8 * n) 8)
 
 pub line-read :
     (s : List ℕ) (i size x : ℕ) → x ≡ bigEndian (take (size - 2) (drop (headBytes + size * i + 2) s)) → x < 256 ^ (size - 2) →
@@ -27,7 +19,7 @@ pub line-read :
 line-read s i size x e h =
     record {
       is = ap (λ (v : ℕ). record { kind = getD s (headBytes + size * i) 0; k = getD s (headBytes + size * i + 1) 0; value = v }) e;
-      small = rw (← bits-of (size - 2)) h;
+      small = rw (← byte-bits (size - 2)) h;
     }
 
 module _ (s : List ℕ) (i n size : ℕ) (l : Line) (read : Reads s i size l) where

@@ -90,10 +90,10 @@ module _ (F : Limits) where
     pub effects : F .effects ≤ maxEffects
     pub line : 2 < F .line
     pub lines : F .line * F .lines < 256 ^ 4
-    -- a state has a bit for each fact, fits a word, and fills a line's values
+    -- a state has a bit for each fact, fits a word, and fills a line's bytes of values
     pub word : F .width ≤ 64
     pub width : F .facts ≤ F .width
-    pub value : 2 ^ F .width ≡ 256 ^ (F .line - 2)
+    pub bits : F .width ≡ 8 * (F .line - 2)
 
 -- a line that fixes declared facts and has no bit set past them, and whose claim is so; a state is w bits wide and has n facts
 pub record LineHolds (w : ℕ) (look : ℕ → ℕ → Look) (n : ℕ) (l : Line) : Type 0 where

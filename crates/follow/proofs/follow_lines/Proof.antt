@@ -1,43 +1,45 @@
 -- `follow_lines` meets its contract: the table has the case of the line before, and what is left to follow answers for all. Assumes nothing.
 use Prim.Native.Nat.{_-_}
-use Rattle.follow.proofs.Following.{Followed-so-far, none-followed, lines-fault, lines-next, lines-short, lines-pass}
+use native.Mathlib.Omega.{arith}
+use Rattle.follow.proofs.Following.{Followed-so-far, line-inside, none-followed, lines-fault, lines-next, lines-short, lines-pass}
 use borrow.Author.Needs.{needs}
 use Rattle.follow.proofs.follow_lines.Statement.{statement}
 use Rattle.follow.proofs.follow_lines.Tie as tie
 
 abbrev Inv-loop : tie.InvT-loop
-Inv-loop problem steps actions facts at list lines c₀ before₀ i₀ c before i = Followed-so-far problem steps actions facts at list lines c before i
+Inv-loop problem steps actions facts at limits list lines c₀ before₀ i₀ c before i = Followed-so-far limits problem steps actions facts at list lines c before i
 
 abbrev μ-loop : tie.MeasureT-loop
-μ-loop problem steps actions facts at list lines c₀ before₀ i₀ c before i = lines - i
+μ-loop problem steps actions facts at limits list lines c₀ before₀ i₀ c before i = lines - i
 
 loop-holds : tie.Need-loop-holds Inv-loop μ-loop
-loop-holds c = none-followed _ _ _ _ _ _ _ _ (c .before .wide .ensures .0) _ (c .none-fixed .ensures)
+loop-holds c = none-followed _ _ _ _ _ _ _ _ _ (c .before .wide .ensures .0) _ (c .none-fixed .ensures)
 
 follow-line-requires : tie.Need-follow-line-requires Inv-loop μ-loop
 follow-line-requires c κs =
     let o = c .before .before .loop .inv in
-    (c .before .before .before .before .before .before .before .before .pre .0, o .within, search needs, o .size)
+    let p = c .before .before .before .before .before .before .before .before .pre in
+    (p .0, o .within, line-inside _ _ _ _ (c .before .loop-test .taken) (p .1), o .size)
 
 returns : tie.Need-returns Inv-loop μ-loop
 returns c =
     let l = c .before .before .before in
-    lines-fault _ _ _ _ _ _ _ _ _ _ (l .before .before .before .loop .inv) _ _ (l .before .before .loop-test .taken) (l .follow-line .ensures) _ (c .before .number .given .1)
+    lines-fault _ _ _ _ _ _ _ _ _ _ _ (l .before .before .before .loop .inv) _ _ (l .before .before .loop-test .taken) (l .follow-line .ensures) _ (c .before .number .given .1)
 
 loop-again : tie.Need-loop-again Inv-loop μ-loop
 loop-again c =
     let l = c .before .before .before in
-    lines-next _ _ _ _ _ _ _ _ _ _ (l .before .before .before .loop .inv) _ _ (l .before .before .loop-test .taken) (l .follow-line .ensures) _ (c .before .next .given .1)
+    lines-next _ _ _ _ _ _ _ _ _ _ _ (l .before .before .before .loop .inv) _ _ (l .before .before .loop-test .taken) (l .follow-line .ensures) _ (c .before .next .given .1)
 
 returns-2 : tie.Need-returns-2 Inv-loop μ-loop
 returns-2 c =
-    let l = c .before .before in
-    lines-short _ _ _ _ _ _ _ _ _ _ (l .before .loop .inv) (l .loop-test .left) (c .if1 .taken)
+    let l = c .before .before .before .before in
+    lines-short _ _ _ _ _ _ _ _ _ _ _ (l .before .loop .inv) (l .loop-test .left) _ _ (c .before .before .before .wide2 .ensures .0) (c .before .before .span .ensures) (c .if1 .taken)
 
 returns-3 : tie.Need-returns-3 Inv-loop μ-loop
 returns-3 c =
-    let l = c .before .before in
-    lines-pass _ _ _ _ _ _ _ _ _ _ (l .before .loop .inv) (l .loop-test .left) (c .if1 .left)
+    let l = c .before .before .before .before in
+    lines-pass _ _ _ _ _ _ _ _ _ _ _ (l .before .loop .inv) (l .loop-test .left) _ _ (c .before .before .before .wide2 .ensures .0) (c .before .before .span .ensures) (c .if1 .left)
 
 pub follow-lines-spec : {M : Type 1} → statement M
 follow-lines-spec =
@@ -55,5 +57,7 @@ follow-lines-spec =
     (λ c. search needs)
     (λ c. search needs)
     loop-again
+    (λ c κs. search needs)
+    (λ c κs. omega (arith, c .wide2 .ensures .0, c .before .before .before .before .before .before .before .before .pre .0 .word))
     returns-2
     returns-3)

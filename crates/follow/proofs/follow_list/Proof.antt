@@ -2,7 +2,7 @@
 use mathlib.Core.Path.{refl, sym, _∙_}
 use native.Mathlib.Omega.{arith}
 use Rattle.blocks.proofs.Promise.{of-slice}
-use Rattle.follow.proofs.Following.{facts-most, follow-refused, follow-header, follow-body, header-five}
+use Rattle.follow.proofs.Following.{followable, follow-refused, follow-header, follow-body, header-five}
 use Rattle.follow.proofs.Promise.{follow-promised}
 use borrow.Author.Needs.{needs}
 use Rattle.follow.proofs.follow_list.Statement.{statement}
@@ -15,36 +15,27 @@ returns c =
     (e, follow-promised _ _ _ (of-slice (k .before .before .before .args .list .now) (k .shared-slice-known3 .given)) _ e)
 
 sub-follow-body : tie.Need-sub-follow-body
-sub-follow-body c =
-    let e = c .before .before .before .before in
-    omega (arith, e .before .find-task .ensures .stands (e .if1 .left) .fits)
-
-part-follow-body-start : tie.Need-part-follow-body-start
-part-follow-body-start c =
-    let e = c .before .before .before .before in
-    omega (arith, e .before .find-task .ensures .stands (e .if1 .left) .fits)
+sub-follow-body c = omega (arith, c .before .before .before .before .before .before .before .find-task .ensures .stands (c .before .before .before .before .before .before .if1 .left) .fits)
 
 follow-body-requires : tie.Need-follow-body-requires
 follow-body-requires c κs =
-    let t = c .before .before in
-    let e = t .before .before .before in
-    (facts-most _ _ _ (e .before .find-task .ensures .stands (e .if1 .left)), header-five _ _ (sym (t .enum-told .given .1) ∙ t .before .before .check-header .ensures))
+    let f = c .before .before .before .before .before .before .before .before .find-task .ensures in
+    (followable _ _ _ f (f .stands (c .before .before .before .before .before .before .before .if1 .left)), header-five _ _ _ _ (sym (c .before .before .enum-told .given .1) ∙ c .before .before .before .before .check-header .ensures))
 
 returns-2 : tie.Need-returns-2
 returns-2 c =
     let h = c .before .before .before in
-    let t = h .before .before in
-    let k = t .before in
-    let e = follow-header _ _ _ _ (t .find-task .ensures .stands (h .before .if1 .left)) _ (sym (c .before .r .given .1) ∙ h .check-header .ensures) in
+    let k = c .before .before .before .before .before .before .before .before in
+    let f = c .before .before .before .before .before .before .before .find-task .ensures in
+    let e = follow-header _ _ _ f (f .stands (c .before .before .before .before .before .before .if1 .left)) _ _ refl _ (sym (c .before .r .given .1) ∙ h .check-header .ensures) in
     (e, follow-promised _ _ _ (of-slice (k .before .before .before .args .list .now) (k .shared-slice-known3 .given)) _ e)
 
 returns-3 : tie.Need-returns-3
 returns-3 c =
     let n = c .before .before .before in
-    let h = n .before .before in
-    let t = h .before .before in
-    let k = t .before in
-    let e = follow-body _ _ _ _ (t .find-task .ensures .stands (h .before .if1 .left)) _ _ (sym (n .enum-told .given .1) ∙ h .check-header .ensures) _ refl (c .follow-body .ensures) in
+    let k = c .before .before .before .before .before .before .before .before .before .before in
+    let f = c .before .before .before .before .before .before .before .before .before .find-task .ensures in
+    let e = follow-body _ _ _ f (f .stands (c .before .before .before .before .before .before .before .before .if1 .left)) _ _ refl _ _ (sym (n .enum-told .given .1) ∙ n .before .before .check-header .ensures) _ refl (c .follow-body .ensures) in
     (e, follow-promised _ _ _ (of-slice (k .before .before .before .args .list .now) (k .shared-slice-known3 .given)) _ e)
 
 pub follow-list-spec : {M : Type 1} → statement M
@@ -53,11 +44,13 @@ follow-list-spec =
     (tie.spec
     (λ c κs. search needs)
     returns
+    (λ c. omega (arith, (c .before .before .before .find-task .ensures .stands (c .before .before .if1 .left)) .sensible .lines))
+    (λ c. omega (arith, (c .before .before .before .find-task .ensures .stands (c .before .before .if1 .left)) .sensible .lines))
     (λ c κs. search needs)
     (λ c. search needs)
     (λ c. search needs)
     sub-follow-body
-    part-follow-body-start
+    (λ c. sub-follow-body c)
     (λ c. search needs)
     follow-body-requires
     returns-2

@@ -22,7 +22,7 @@ use Rattle.model.specs.Demands.{linesIn, listWritten, Passing, Demand3}
 use Rattle.model.proofs.Laws.Cover.{Follows}
 use Rattle.model.proofs.Laws.Verdicts.{Passes, Means, judged-means, passes-right, right-closes, walk-passes, walk-fewest}
 use Rattle.model.proofs.Laws.Following.{claimed-le, follow-passes, passes-follow}
-use Rattle.model.proofs.Laws.Reading.{then-got, got-inj, answer-got, length-block}
+use Rattle.model.proofs.Laws.Reading.{then-got, got-inj, answer-got, length-block, byte-bits}
 use Rattle.model.proofs.Laws.ListCodec.{length-lines, list-sound, list-accepted}
 use Rattle.model.proofs.Laws.Tasks.{answer-then, list-for-is, follow-is, Fits}
 use Rattle.model.proofs.Laws.Judging.{judged-in}
@@ -55,7 +55,7 @@ module _ (F : Limits) (S : Sensible F) (w : ℕ) (look : ℕ → ℕ → Look) (
       let r = follows-ok ls (x + 2 ^ (w - l .k)) (f .0 .1, f .1 .1) in
       let p = pow-pos (w - l .k) in
       let v : l .value < 2 ^ w = omega (arith, r .0, f .0 .0) in
-      let e : 2 ^ w ≡ 256 ^ (F .line - 2) = ap (λ (x : ℕ). 2 ^ x) w-fits ∙ S .value in (
+      let e : 2 ^ w ≡ 256 ^ (F .line - 2) = ap (λ (x : ℕ). 2 ^ x) (w-fits ∙ S .bits) ∙ sym (byte-bits (F .line - 2)) in (
         omega (arith, r .0),
         (
           record {

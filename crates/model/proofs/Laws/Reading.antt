@@ -9,6 +9,7 @@ use native.Mathlib.Omega.{arith}
 use lib.ListN.{length, getD, take, drop, length-append, length-drop}
 use lib.Seq.{drop-cons, getD-drop, take-all, length-take-le, take-length}
 use lib.Arith.{mod-mul}
+use lib.Pow.{pow-add}
 use lib.Dec.{ltb, leb, lit<}
 use borrow.Author.Tests.{ltb-true, leb-true, eqb-true, lt-ltb, le-leb, eq-eqb}
 use Rattle.model.specs.Answer.{answered}
@@ -114,7 +115,13 @@ module _ {s : List ℕ} where
   pub is-whole : Span s (length s) 0 s (length s)
   is-whole = rw take-length at (span-here (length s) 0 (length s) (omega arith) (omega arith))
 
--- numbers in bytes
+-- numbers in bytes; a byte is eight bits
+pub byte-bits : (n : ℕ) → 256 ^ n ≡ 2 ^ (8 * n)
+byte-bits zero = refl
+byte-bits (suc n) =
+    let e : 8 * suc n ≡ 8 * n + 8 = omega arith in
+    rw (pow-suc 256 n, byte-bits n, e, pow-add 2 (8 * n) 8)
+
 pub length-bytesOf : (k n : ℕ) → length (bytesOf k n) ≡ k
 unfolding bytesOf
 length-bytesOf zero n = refl

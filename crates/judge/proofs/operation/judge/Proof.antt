@@ -11,16 +11,19 @@ returns : tie.Need-returns
 returns c = let e = judge-refused _ _ _ (c .before .before .find-task .ensures) (c .before .if1 .taken) _ in (e, judge-promised _ _ _ _ e)
 
 sub-judge-task : tie.Need-sub-judge-task
-sub-judge-task c = omega (arith, (c .before .before .find-task .ensures .stands (c .before .if1 .left)) .fits)
-
-part-judge-task-start : tie.Need-part-judge-task-start
-part-judge-task-start c = sub-judge-task c
+sub-judge-task c = let k = c .before .before in omega (arith, k .before .find-task .ensures .stands (k .if1 .left) .fits)
 
 judge-task-requires : tie.Need-judge-task-requires
-judge-task-requires c κs = few-facts _ _ _ (c .before .before .before .before .find-task .ensures .stands (c .before .before .before .if1 .left))
+judge-task-requires c κs =
+    let k = c .before .before .before .before in
+    let o = k .before .find-task .ensures .stands (k .if1 .left) in
+    (o .sensible, few-facts _ _ _ o)
 
 returns-2 : tie.Need-returns-2
-returns-2 c = let e = judge-found _ _ _ (c .before .before .before .before .before .before .find-task .ensures .stands (c .before .before .before .before .before .if1 .left)) _ _ refl _ _ _ _ (c .before .judge-task .ensures) in (e, judge-promised _ _ _ _ e)
+returns-2 c =
+    let k = c .before .before .before .before .before .before in
+    let e = judge-found _ _ _ (k .before .find-task .ensures .stands (k .if1 .left)) _ _ refl _ _ _ _ (c .before .judge-task .ensures) in
+    (e, judge-promised _ _ _ _ e)
 
 pub judge-spec : {M : Type 1} → statement M
 judge-spec =
@@ -29,7 +32,7 @@ judge-spec =
     (λ c κs. search needs)
     returns
     sub-judge-task
-    part-judge-task-start
+    (λ c. sub-judge-task c)
     (λ c. search needs)
     (λ c. search needs)
     judge-task-requires

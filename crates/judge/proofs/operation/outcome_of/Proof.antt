@@ -1,15 +1,14 @@
 -- `outcome_of` meets its contract. Assumes nothing.
 use borrow.Author.Needs.{needs}
-use borrow.Author.Tests.{not-true}
-use Rattle.judge.proofs.Verdicts.{outcome-none, outcome-run}
+use Rattle.judge.proofs.Verdicts.{outcome-none, outcome-ended}
 use Rattle.judge.proofs.operation.outcome_of.Statement.{statement}
 use Rattle.judge.proofs.operation.outcome_of.Tie as tie
 
 returns : tie.Need-returns
-returns c = outcome-none _ _ _ _ _ (c .before .before .before .wide .ensures .0) _ (c .before .before .state-table .ensures) _ (not-true _ (c .if1 .taken))
+returns c = outcome-none _ _ _ _ _ _ (c .before .before .run-task .ensures) _ _ (c .enum-told .given .1)
 
 returns-2 : tie.Need-returns-2
-returns-2 c = outcome-run _ _ _ _ _ (c .before .before .before .before .before .before .before .wide .ensures .0) _ (c .before .before .before .before .before .before .state-table .ensures) _ (c .run-state .ensures)
+returns-2 c = outcome-ended _ _ _ _ _ _ (c .before .before .before .run-task .ensures) _ (c .before .outcome .given .1)
 
 pub outcome-of-spec : {M : Type 1} → statement M
-outcome-of-spec = tie.close (tie.spec (λ c κs. search needs) (λ c κs. search needs) returns (λ c κs. search needs) returns-2)
+outcome-of-spec = tie.close (tie.spec (λ c κs. search needs) (λ c. search needs) (λ c. search needs) returns returns-2)

@@ -12,10 +12,11 @@ use Rattle.judge.proofs.walk.walk_parts.Reads as walk-parts
 use Rattle.judge.proofs.walk.walk_parts.Kinds as walk-parts-kinds
 use Rattle.judge.proofs.walk.+walk_block+walk_node+walk_parts.Lts-walk_parts as walk-parts-lts
 use Rattle.execute.proofs.look_at_cases.Reads as look-at-cases-reads
-use Rattle.judge.proofs.walk.half_of.Reads as half-of-reads
 use Rattle.judge.proofs.walk.joined.Reads as joined-reads
 use Rattle.judge.proofs.walk.levels_of.Reads as levels-of-reads
 use Rattle.lines.proofs.add_line.Reads as add-line-reads
+use Rattle.numbers.proofs.span.Reads as span-reads
+use Rattle.numbers.proofs.wide.Reads as wide-reads
 use Rattle.table.proofs.fix_levels.Reads as fix-levels-reads
 use Rattle.table.proofs.fix_path.Reads as fix-path-reads
 use Rattle.table.proofs.lane_bit.Reads as lane-bit-reads
@@ -24,16 +25,16 @@ use Rattle.judge.proofs.walk.+walk_block+walk_node+walk_parts.Tie.{clos
 use mathlib.Core.Path.{sym, _∙_}
 use native.Mathlib.Omega.{arith}
 use borrow.Author.Needs.{needs}
-use Rattle.judge.proofs.Walking.{node-out, node-empty, node-carries, node-fails, node-splits, lane-small, first-fits, second-fits, addable, half-room, failed-count, closed-count, parts-out, parts-failed, parts-joined, block-fits, block-walks, node-edge, edge-fits}
+use Rattle.judge.proofs.Walking.{node-out, node-empty, node-carries, node-fails, node-splits, lane-small, first-fits, second-fits, addable, half-is, half-room, failed-count, closed-count, parts-out, parts-failed, parts-joined, block-fits, block-walks, node-edge, edge-fits}
 
 abbrev μ-walk-block : Measures 5 walk-block-kinds.ps ℕ
-μ-walk-block κs a = 4 * a .1 .1 .1 .1 .1 .0 .left + 2 + 2 * (1 - a .1 .1 .1 .1 .1 .1 .0)
+μ-walk-block κs a = 4 * a .1 .1 .1 .1 .1 .1 .0 .left + 2 + 2 * (1 - a .1 .1 .1 .1 .1 .1 .1 .0)
 
 abbrev μ-walk-node : Measures 5 walk-node-kinds.ps ℕ
-μ-walk-node κs a = 4 * a .1 .1 .1 .1 .1 .1 .0 .left + 1 + 2 * (1 - (a .1 .1 .1 .1 .1 .0 .first + a .1 .1 .1 .1 .1 .0 .levels - a .1 .1 .1 .1 .1 .1 .0 .k))
+μ-walk-node κs a = 4 * a .1 .1 .1 .1 .1 .1 .1 .0 .left + 1 + 2 * (1 - (a .1 .1 .1 .1 .1 .1 .0 .first + a .1 .1 .1 .1 .1 .1 .0 .levels - a .1 .1 .1 .1 .1 .1 .1 .0 .k))
 
 abbrev μ-walk-parts : Measures 5 walk-parts-kinds.ps ℕ
-μ-walk-parts κs a = 4 * a .1 .1 .1 .1 .1 .1 .0 .left
+μ-walk-parts κs a = 4 * a .1 .1 .1 .1 .1 .1 .1 .0 .left
 
 abbrev walk-block-at : ℕ → In 5 walk-block-kinds.ps
 walk-block-at t =
@@ -65,37 +66,37 @@ abbrev walk-node-calls : ℕ → walk-node-lts.Claims
 walk-node-calls t = (lane-bit-reads.Asked, lane-bit-reads.Learnt, add-line-reads.Asked, add-line-reads.Learnt, walk-parts-below t, walk-parts.Post, fix-path-reads.Asked, fix-path-reads.Learnt, levels-of-reads.Asked, levels-of-reads.Learnt, fix-levels-reads.Asked, fix-levels-reads.Learnt, walk-block-below t, walk-block.Post)
 
 abbrev walk-parts-calls : ℕ → walk-parts-lts.Claims
-walk-parts-calls t = (walk-node-below t, walk-node.Post, half-of-reads.Asked, half-of-reads.Learnt, joined-reads.Asked, joined-reads.Learnt)
+walk-parts-calls t = (walk-node-below t, walk-node.Post, wide-reads.Asked, wide-reads.Learnt, span-reads.Asked, span-reads.Learnt, joined-reads.Asked, joined-reads.Learnt)
 
 walk-block-look-at-cases-requires : (t : ℕ) → walk-block-lts.Need-look-at-cases-requires (walk-block-calls t) (walk-block-at t) walk-block.Post
 walk-block-look-at-cases-requires t c κs = c .before .before .before .pre .1 .0
 
 walk-block-walk-node-requires : (t : ℕ) → walk-block-lts.Need-walk-node-requires (walk-block-calls t) (walk-block-at t) walk-block.Post
-walk-block-walk-node-requires t c κs = (omega (arith, c .before .before .before .before .before .pre .0), (c .before .before .before .before .before .pre .1 .0, block-fits _ _ _ _ (c .before .before .before .before .before .pre .1 .1)))
+walk-block-walk-node-requires t c κs = (omega (arith, c .before .before .before .before .before .pre .0), (c .before .before .before .before .before .pre .1 .0, block-fits _ _ _ _ _ (c .before .before .before .before .before .pre .1 .1)))
 
 walk-block-returns : (t : ℕ) → walk-block-lts.Need-returns (walk-block-calls t) (walk-block-at t) walk-block.Post
-walk-block-returns t c = block-walks _ _ _ _ _ _ _ _ _ _ (c .before .before .before .before .before .before .before .before .pre .1 .1) _ (c .before .before .before .before .look-at-cases .ensures) _ _ (c .before .before .walk-node .ensures)
+walk-block-returns t c = block-walks _ _ _ _ _ _ _ _ _ _ _ (c .before .before .before .before .before .before .before .before .pre .1 .1) _ (c .before .before .before .before .look-at-cases .ensures) _ _ (c .before .before .walk-node .ensures)
 
 walk-node-returns : (t : ℕ) → walk-node-lts.Need-returns (walk-node-calls t) (walk-node-at t) walk-node.Post
-walk-node-returns t c = node-out _ _ _ _ _ _ _ _ _ _ _ (c .if1 .taken)
+walk-node-returns t c = node-out _ _ _ _ _ _ _ _ _ _ _ _ (c .if1 .taken)
 
 walk-node-lane-bit-requires : (t : ℕ) → walk-node-lts.Need-lane-bit-requires (walk-node-calls t) (walk-node-at t) walk-node.Post
-walk-node-lane-bit-requires t c κs = lane-small _ _ _ (c .before .before .before .before .pre .1 .1)
+walk-node-lane-bit-requires t c κs = lane-small _ _ _ _ (c .before .before .before .before .pre .1 .1)
 
 walk-node-add-line-requires : (t : ℕ) → walk-node-lts.Need-add-line-requires (walk-node-calls t) (walk-node-at t) walk-node.Post
 walk-node-add-line-requires t c κs = omega (arith, c .before .before .before .before .before .before .before .pre .1 .1 .fits .slots)
 
 walk-node-returns-2 : (t : ℕ) → walk-node-lts.Need-returns-2 (walk-node-calls t) (walk-node-at t) walk-node.Post
-walk-node-returns-2 t c = node-empty _ _ _ _ _ _ _ _ _ _ _ (lane-small _ _ _ (c .before .before .before .before .before .before .before .before .before .before .pre .1 .1)) (omega (arith, c .before .before .before .before .before .before .if1 .left)) (sym (c .before .before .before .before .before .lane-bit .ensures) ∙ c .before .before .before .before .if2 .taken) _ _ (c .before .before .add-line .ensures)
+walk-node-returns-2 t c = node-empty _ _ _ _ _ _ _ _ _ _ _ _ (lane-small _ _ _ _ (c .before .before .before .before .before .before .before .before .before .before .pre .1 .1)) (omega (arith, c .before .before .before .before .before .before .if1 .left)) (sym (c .before .before .before .before .before .lane-bit .ensures) ∙ c .before .before .before .before .if2 .taken) _ _ (c .before .before .add-line .ensures)
 
 walk-node-lane-bit-requires-2 : (t : ℕ) → walk-node-lts.Need-lane-bit-requires-2 (walk-node-calls t) (walk-node-at t) walk-node.Post
-walk-node-lane-bit-requires-2 t c κs = lane-small _ _ _ (c .before .before .before .before .before .before .pre .1 .1)
+walk-node-lane-bit-requires-2 t c κs = lane-small _ _ _ _ (c .before .before .before .before .before .before .pre .1 .1)
 
 walk-node-add-line-requires-2 : (t : ℕ) → walk-node-lts.Need-add-line-requires-2 (walk-node-calls t) (walk-node-at t) walk-node.Post
 walk-node-add-line-requires-2 t c κs = omega (arith, c .before .before .before .before .before .before .before .before .before .pre .1 .1 .fits .slots)
 
 walk-node-returns-3 : (t : ℕ) → walk-node-lts.Need-returns-3 (walk-node-calls t) (walk-node-at t) walk-node.Post
-walk-node-returns-3 t c = node-carries _ _ _ _ _ _ _ _ _ _ _ (lane-small _ _ _ (c .before .before .before .before .before .before .before .before .before .before .before .before .pre .1 .1)) (omega (arith, c .before .before .before .before .before .before .before .before .if1 .left)) (λ e. c .before .before .before .before .before .before .if2 .left (c .before .before .before .before .before .before .before .lane-bit .ensures ∙ e)) (sym (c .before .before .before .before .before .lane-bit2 .ensures) ∙ c .before .before .before .before .if3 .taken) _ _ (c .before .before .add-line2 .ensures)
+walk-node-returns-3 t c = node-carries _ _ _ _ _ _ _ _ _ _ _ _ (lane-small _ _ _ _ (c .before .before .before .before .before .before .before .before .before .before .before .before .pre .1 .1)) (omega (arith, c .before .before .before .before .before .before .before .before .if1 .left)) (λ e. c .before .before .before .before .before .before .if2 .left (c .before .before .before .before .before .before .before .lane-bit .ensures ∙ e)) (sym (c .before .before .before .before .before .lane-bit2 .ensures) ∙ c .before .before .before .before .if3 .taken) _ _ (c .before .before .add-line2 .ensures)
 
 walk-node-add-if4 : (t : ℕ) → walk-node-lts.Need-add-if4 (walk-node-calls t) (walk-node-at t) walk-node.Post
 walk-node-add-if4 t c = omega (arith, c .before .before .before .before .before .before .before .before .before .pre .1 .1 .inside, c .before .before .before .before .before .before .before .before .before .pre .1 .1 .fits .slots)
@@ -107,73 +108,22 @@ walk-node-walk-parts-requires : (t : ℕ) → walk-node-lts.Need-walk-parts-requ
 walk-node-walk-parts-requires t c κs = (omega (arith, c .before .before .before .before .before .before .before .before .before .before .before .before .pre .0), (c .before .before .before .before .before .before .before .before .before .before .before .before .pre .1 .0, c .before .before .before .before .before .before .before .before .before .before .before .before .pre .1 .1, c .before .if4 .taken, omega (arith, c .before .before .before .before .before .before .before .before .if1 .left)))
 
 walk-node-returns-4 : (t : ℕ) → walk-node-lts.Need-returns-4 (walk-node-calls t) (walk-node-at t) walk-node.Post
-walk-node-returns-4 t c = node-splits _ _ _ _ _ _ _ _ _ _ _ (lane-small _ _ _ (c .before .before .before .before .before .before .before .before .before .before .before .before .before .before .before .pre .1 .1)) (omega (arith, c .before .before .before .before .before .before .before .before .before .before .before .if1 .left)) (λ e. c .before .before .before .before .before .before .before .before .before .if2 .left (c .before .before .before .before .before .before .before .before .before .before .lane-bit .ensures ∙ e)) (λ e. c .before .before .before .before .before .before .before .if3 .left (c .before .before .before .before .before .before .before .before .lane-bit2 .ensures ∙ e)) (omega (arith, c .before .before .before .before .if4 .taken, c .before .before .before .before .before .before .before .before .before .before .before .before .before .before .before .pre .1 .1 .inside)) _ _ (c .before .before .walk-parts .ensures)
+walk-node-returns-4 t c = node-splits _ _ _ _ _ _ _ _ _ _ _ _ (lane-small _ _ _ _ (c .before .before .before .before .before .before .before .before .before .before .before .before .before .before .before .pre .1 .1)) (omega (arith, c .before .before .before .before .before .before .before .before .before .before .before .if1 .left)) (λ e. c .before .before .before .before .before .before .before .before .before .if2 .left (c .before .before .before .before .before .before .before .before .before .before .lane-bit .ensures ∙ e)) (λ e. c .before .before .before .before .before .before .before .if3 .left (c .before .before .before .before .before .before .before .before .lane-bit2 .ensures ∙ e)) (omega (arith, c .before .before .before .before .if4 .taken, c .before .before .before .before .before .before .before .before .before .before .before .before .before .before .before .pre .1 .1 .inside)) _ _ (c .before .before .walk-parts .ensures)
 
 walk-node-returns-5 : (t : ℕ) → walk-node-lts.Need-returns-5 (walk-node-calls t) (walk-node-at t) walk-node.Post
-walk-node-returns-5 t c = node-fails _ _ _ _ _ _ _ _ _ _ _ (lane-small _ _ _ (c .before .before .before .before .before .before .before .before .before .before .before .before .before .pre .1 .1)) (omega (arith, c .before .before .before .before .before .before .before .before .before .if1 .left)) (λ e. c .before .before .before .before .before .before .before .if2 .left (c .before .before .before .before .before .before .before .before .lane-bit .ensures ∙ e)) (λ e. c .before .before .before .before .before .if3 .left (c .before .before .before .before .before .before .lane-bit2 .ensures ∙ e)) (c .if5 .taken)
+walk-node-returns-5 t c = node-fails _ _ _ _ _ _ _ _ _ _ _ _ (lane-small _ _ _ _ (c .before .before .before .before .before .before .before .before .before .before .before .before .before .pre .1 .1)) (omega (arith, c .before .before .before .before .before .before .before .before .before .if1 .left)) (λ e. c .before .before .before .before .before .before .before .if2 .left (c .before .before .before .before .before .before .before .before .lane-bit .ensures ∙ e)) (λ e. c .before .before .before .before .before .if3 .left (c .before .before .before .before .before .before .lane-bit2 .ensures ∙ e)) (c .if5 .taken)
 
 walk-node-fix-path-requires : (t : ℕ) → walk-node-lts.Need-fix-path-requires (walk-node-calls t) (walk-node-at t) walk-node.Post
-walk-node-fix-path-requires t c κs = (c .before .before .before .before .before .before .before .before .before .before .before .before .before .before .before .pre .1 .0, lane-small _ _ _ (c .before .before .before .before .before .before .before .before .before .before .before .before .before .before .before .pre .1 .1), omega (arith, c .before .before .before .before .before .before .before .before .before .before .before .before .before .before .before .pre .1 .1 .inside, c .before .before .before .before .before .before .before .before .before .before .before .before .before .before .before .pre .1 .1 .fits .slots))
+walk-node-fix-path-requires t c κs = (c .before .before .before .before .before .before .before .before .before .before .before .before .before .before .before .pre .1 .0, lane-small _ _ _ _ (c .before .before .before .before .before .before .before .before .before .before .before .before .before .before .before .pre .1 .1), omega (arith, c .before .before .before .before .before .before .before .before .before .before .before .before .before .before .before .pre .1 .1 .inside, c .before .before .before .before .before .before .before .before .before .before .before .before .before .before .before .pre .1 .1 .fits .slots))
 
 walk-node-fix-levels-requires : (t : ℕ) → walk-node-lts.Need-fix-levels-requires (walk-node-calls t) (walk-node-at t) walk-node.Post
 walk-node-fix-levels-requires t c κs = (c .before .before .fix-path .ensures .size, c .before .levels-of .ensures .few, omega (arith, c .before .levels-of .ensures .inside, c .before .before .before .before .before .before .before .before .before .before .before .before .before .before .before .before .before .before .pre .1 .1 .fits .slots))
 
 walk-node-walk-block-requires : (t : ℕ) → walk-node-lts.Need-walk-block-requires (walk-node-calls t) (walk-node-at t) walk-node.Post
-walk-node-walk-block-requires t c κs = (omega (arith, c .before .before .before .before .before .before .before .before .before .before .before .before .before .before .before .before .before .before .before .before .before .pre .0, c .before .before .before .before .levels-of .ensures .some (omega (arith, c .before .before .before .before .before .before .before .before .if5 .left)), c .before .before .before .before .before .before .before .before .before .before .if4 .left, c .before .before .before .before .before .before .before .before .before .before .before .before .before .before .before .before .before .before .before .before .before .pre .1 .1 .within), (c .before .before .fix-levels .ensures .size, edge-fits _ _ _ _ (c .before .before .before .before .before .before .before .before .before .before .before .before .before .before .before .before .before .before .before .before .before .pre .1 .1) (c .before .before .before .before .levels-of .ensures)))
+walk-node-walk-block-requires t c κs = (omega (arith, c .before .before .before .before .before .before .before .before .before .before .before .before .before .before .before .before .before .before .before .before .before .pre .0, c .before .before .before .before .levels-of .ensures .some (omega (arith, c .before .before .before .before .before .before .before .before .if5 .left)), c .before .before .before .before .before .before .before .before .before .before .if4 .left, c .before .before .before .before .before .before .before .before .before .before .before .before .before .before .before .before .before .before .before .before .before .pre .1 .1 .within), (c .before .before .fix-levels .ensures .size, edge-fits _ _ _ _ _ (c .before .before .before .before .before .before .before .before .before .before .before .before .before .before .before .before .before .before .before .before .before .pre .1 .1) (c .before .before .before .before .levels-of .ensures)))
 
 walk-node-returns-6 : (t : ℕ) → walk-node-lts.Need-returns-6 (walk-node-calls t) (walk-node-at t) walk-node.Post
-walk-node-returns-6 t c = node-edge _ _ _ _ _ _ _ _ _ _ _ (c .before .before .before .before .before .before .before .before .before .before .before .before .before .before .before .before .before .before .before .before .before .before .before .before .pre .1 .1) _ _ _ (c .before .before .before .before .before .before .before .before .fix-path .ensures) (c .before .before .before .before .before .fix-levels .ensures) (c .before .before .before .before .before .before .before .levels-of .ensures) _ _ (c .before .before .walk-block .ensures)
-
-walk-parts-add-walk-node : (t : ℕ) → walk-parts-lts.Need-add-walk-node (walk-parts-calls t) (walk-parts-at t) walk-parts.Post
-walk-parts-add-walk-node t c = omega (arith, c .before .before .before .before .pre .1 .1 .fits .slots)
-
-walk-parts-sub-t21 : (t : ℕ) → walk-parts-lts.Need-sub-t21 (walk-parts-calls t) (walk-parts-at t) walk-parts.Post
-walk-parts-sub-t21 t c = omega (arith, c .before .before .before .before .before .pre .1 .1 .inside, c .before .before .before .before .before .pre .1 .2)
-
-walk-parts-mul-walk-node : (t : ℕ) → walk-parts-lts.Need-mul-walk-node (walk-parts-calls t) (walk-parts-at t) walk-parts.Post
-walk-parts-mul-walk-node t c = omega (arith, lane-small _ _ _ (c .before .before .before .before .before .pre .1 .1))
-
-walk-parts-walk-node-requires : (t : ℕ) → walk-parts-lts.Need-walk-node-requires (walk-parts-calls t) (walk-parts-at t) walk-parts.Post
-walk-parts-walk-node-requires t c κs = (omega (arith, c .before .before .before .before .before .before .pre .0, c .before .before .before .before .before .before .pre .1 .1 .inside, c .before .before .before .before .before .before .pre .1 .2), (c .before .before .before .before .before .before .pre .1 .0, first-fits _ _ _ (c .before .before .before .before .before .before .pre .1 .1) (c .before .before .before .before .before .before .pre .1 .2)))
-
-walk-parts-add-t26 : (t : ℕ) → walk-parts-lts.Need-add-t26 (walk-parts-calls t) (walk-parts-at t) walk-parts.Post
-walk-parts-add-t26 t c = omega (arith, failed-count _ _ _ _ (c .before .before .before .before .before .walk-node .ensures .counted) (c .before .state .given .1), c .before .before .before .before .before .before .before .before .before .before .before .before .pre .1 .3)
-
-walk-parts-add-walk-node-2 : (t : ℕ) → walk-parts-lts.Need-add-walk-node-2 (walk-parts-calls t) (walk-parts-at t) walk-parts.Post
-walk-parts-add-walk-node-2 t c = omega (arith, c .before .before .before .before .before .before .before .before .before .before .before .before .before .pre .1 .1 .fits .slots)
-
-walk-parts-sub-walk-node : (t : ℕ) → walk-parts-lts.Need-sub-walk-node (walk-parts-calls t) (walk-parts-at t) walk-parts.Post
-walk-parts-sub-walk-node t c = omega (arith, c .before .before .before .before .before .before .before .before .before .before .before .before .before .before .pre .1 .1 .inside, c .before .before .before .before .before .before .before .before .before .before .before .before .before .before .pre .1 .2)
-
-walk-parts-half-of-requires : (t : ℕ) → walk-parts-lts.Need-half-of-requires (walk-parts-calls t) (walk-parts-at t) walk-parts.Post
-walk-parts-half-of-requires t c κs = omega (arith, c .before .before .before .before .before .before .before .before .before .before .before .before .before .before .pre .1 .1 .inside, c .before .before .before .before .before .before .before .before .before .before .before .before .before .before .pre .1 .1 .fits .slots, c .before .before .before .before .before .before .before .before .before .before .before .before .before .before .pre .1 .2)
-
-walk-parts-add-walk-node-3 : (t : ℕ) → walk-parts-lts.Need-add-walk-node-3 (walk-parts-calls t) (walk-parts-at t) walk-parts.Post
-walk-parts-add-walk-node-3 t c = omega (arith, half-room _ _ _ (c .before .before .before .before .before .before .before .before .before .before .before .before .before .before .before .before .pre .1 .1) (c .before .before .before .before .before .before .before .before .before .before .before .before .before .before .before .before .pre .1 .2) _ (c .before .half-of .ensures))
-
-walk-parts-mul-walk-node-2 : (t : ℕ) → walk-parts-lts.Need-mul-walk-node-2 (walk-parts-calls t) (walk-parts-at t) walk-parts.Post
-walk-parts-mul-walk-node-2 t c = omega (arith, lane-small _ _ _ (c .before .before .before .before .before .before .before .before .before .before .before .before .before .before .before .before .pre .1 .1))
-
-walk-parts-add-walk-node-4 : (t : ℕ) → walk-parts-lts.Need-add-walk-node-4 (walk-parts-calls t) (walk-parts-at t) walk-parts.Post
-walk-parts-add-walk-node-4 t c = omega (arith, lane-small _ _ _ (c .before .before .before .before .before .before .before .before .before .before .before .before .before .before .before .before .pre .1 .1))
-
-walk-parts-sub-walk-node-2 : (t : ℕ) → walk-parts-lts.Need-sub-walk-node-2 (walk-parts-calls t) (walk-parts-at t) walk-parts.Post
-walk-parts-sub-walk-node-2 t c = closed-count _ _ _ _ _ (c .before .before .before .before .before .before .before .before .before .walk-node .ensures .counted) (c .before .before .before .before .before .lines .given .1) .0
-
-walk-parts-walk-node-requires-2 : (t : ℕ) → walk-parts-lts.Need-walk-node-requires-2 (walk-parts-calls t) (walk-parts-at t) walk-parts.Post
-walk-parts-walk-node-requires-2 t c κs = (omega (arith, c .before .before .before .before .before .before .before .before .before .before .before .before .before .before .before .before .before .pre .0, c .before .before .before .before .before .before .before .before .before .before .before .before .before .before .before .before .before .pre .1 .1 .inside, c .before .before .before .before .before .before .before .before .before .before .before .before .before .before .before .before .before .pre .1 .2), (c .before .before .before .before .before .before .before .before .before .before .before .before .before .before .before .before .before .pre .1 .0, second-fits _ _ _ (c .before .before .before .before .before .before .before .before .before .before .before .before .before .before .before .before .before .pre .1 .1) (c .before .before .before .before .before .before .before .before .before .before .before .before .before .before .before .before .before .pre .1 .2) _ (c .before .before .half-of .ensures)))
-
-walk-parts-joined-requires : (t : ℕ) → walk-parts-lts.Need-joined-requires (walk-parts-calls t) (walk-parts-at t) walk-parts.Post
-walk-parts-joined-requires t c κs = let k = closed-count _ _ _ _ _ (c .before .before .before .before .before .before .before .before .before .before .before .before .before .walk-node .ensures .counted) (c .before .before .before .before .before .before .before .before .before .lines .given .1) in addable _ _ _ (c .before .before .walk-node2 .result) (c .before .before .before .before .before .before .before .before .before .before .before .before .before .before .before .before .before .before .before .before .pre .1 .3) (k .0) (k .1) (c .before .before .walk-node2 .ensures .counted)
-
-walk-parts-returns : (t : ℕ) → walk-parts-lts.Need-returns (walk-parts-calls t) (walk-parts-at t) walk-parts.Post
-walk-parts-returns t c = parts-out _ _ _ _ _ _ _ _ _ _ _ (c .before .before .before .before .before .before .before .before .before .before .before .pre .1 .1) (c .before .before .before .before .before .before .before .before .before .before .before .pre .1 .2) _ _ (c .before .before .before .before .walk-node .ensures) (c .enum-told .given .1)
-
-walk-parts-returns-2 : (t : ℕ) → walk-parts-lts.Need-returns-2 (walk-parts-calls t) (walk-parts-at t) walk-parts.Post
-walk-parts-returns-2 t c = parts-failed _ _ _ _ _ _ _ _ _ _ _ (c .before .before .before .before .before .before .before .before .before .before .before .before .pre .1 .1) (c .before .before .before .before .before .before .before .before .before .before .before .before .pre .1 .2) _ _ (c .before .before .before .before .before .walk-node .ensures) _ _ (c .before .state .given .1)
-
-walk-parts-returns-3 : (t : ℕ) → walk-parts-lts.Need-returns-3 (walk-parts-calls t) (walk-parts-at t) walk-parts.Post
-walk-parts-returns-3 t c = parts-joined _ _ _ _ _ _ _ _ _ _ _ (c .before .before .before .before .before .before .before .before .before .before .before .before .before .before .before .before .before .before .before .before .before .pre .1 .1) (c .before .before .before .before .before .before .before .before .before .before .before .before .before .before .before .before .before .before .before .before .before .pre .1 .2) _ _ (c .before .before .before .before .before .before .before .before .before .before .before .before .before .before .walk-node .ensures) _ _ _ (c .before .before .before .before .before .before .before .before .before .before .lines .given .1) _ (c .before .before .before .before .before .before .half-of .ensures) _ _ (c .before .before .before .walk-node2 .ensures) _ (c .joined .ensures)
+walk-node-returns-6 t c = node-edge _ _ _ _ _ _ _ _ _ _ _ _ (c .before .before .before .before .before .before .before .before .before .before .before .before .before .before .before .before .before .before .before .before .before .before .before .before .pre .1 .1) _ _ _ (c .before .before .before .before .before .before .before .before .fix-path .ensures) (c .before .before .before .before .before .fix-levels .ensures) (c .before .before .before .before .before .before .before .levels-of .ensures) _ _ (c .before .before .walk-block .ensures)
 
 pub +walk-block+walk-node+walk-parts-spec : {M : Type 1} → statement M
 +walk-block+walk-node+walk-parts-spec =
@@ -211,26 +161,28 @@ pub +walk-block+walk-node+walk-parts-spec : {M : Type 1} → statement M
     λ t. walk-parts-lts.spec (walk-parts-calls t)
     (walk-parts-at t)
     walk-parts.Post
-    (walk-parts-add-walk-node t)
-    (walk-parts-sub-t21 t)
-    (walk-parts-mul-walk-node t)
-    (walk-parts-walk-node-requires t)
+    (λ c. omega (arith, c .before .before .before .before .pre .1 .1 .fits .slots, c .before .before .before .before .pre .1 .1 .fits .sensible .facts))
+    (λ c. omega (arith, c .before .before .before .before .before .pre .1 .1 .inside, c .before .before .before .before .before .pre .1 .2))
+    (λ c. omega (arith, lane-small _ _ _ _ (c .before .before .before .before .before .pre .1 .1)))
+    (λ c κs. let p = c .before .before .before .before .before .before .pre in (omega (arith, p .0, p .1 .1 .inside, p .1 .2), (p .1 .0, first-fits _ _ _ _ (p .1 .1) (p .1 .2))))
     (λ c. search needs)
     (λ c. search needs)
-    (walk-parts-add-t26 t)
+    (λ c. omega (arith, failed-count _ _ _ _ (c .before .before .before .before .before .walk-node .ensures .counted) (c .before .state .given .1), c .before .before .before .before .before .before .before .before .before .before .before .before .pre .1 .3))
     (λ c. search needs)
-    (walk-parts-add-walk-node-2 t)
-    (walk-parts-sub-walk-node t)
-    (walk-parts-half-of-requires t)
-    (walk-parts-add-walk-node-3 t)
-    (walk-parts-mul-walk-node-2 t)
-    (walk-parts-add-walk-node-4 t)
-    (walk-parts-sub-walk-node-2 t)
-    (walk-parts-walk-node-requires-2 t)
-    (walk-parts-joined-requires t)
+    (λ c κs. search needs)
+    (λ c. let f = c .before .before .before .before .before .before .before .before .before .before .before .before .before .before .pre .1 .1 .fits in omega (arith, f .slots, f .sensible .facts))
+    (λ c κs. let p = c .before .before .before .before .before .before .before .before .before .before .before .before .before .before .pre in let f = p .1 .1 .fits in omega (arith, p .1 .1 .inside, p .1 .2, f .slots, f .sensible .width, f .sensible .word, c .before .wide .ensures .0))
+    (λ c. let f = c .before .before .before .before .before .before .before .before .before .before .before .before .before .before .before .before .pre .1 .1 .fits in omega (arith, f .slots, f .sensible .facts))
+    (λ c. let p = c .before .before .before .before .before .before .before .before .before .before .before .before .before .before .before .before .before .pre in omega (arith, p .1 .1 .inside, p .1 .2))
+    (λ c. let p = c .before .before .before .before .before .before .before .before .before .before .before .before .before .before .before .before .before .before .pre in omega (arith, half-room _ _ _ _ (p .1 .1) (p .1 .2) _ (half-is _ _ _ _ (p .1 .1) (p .1 .2) _ _ (c .before .before .before .before .before .wide .ensures .0) (c .before .before .before .span .ensures))))
+    (λ c. omega (arith, lane-small _ _ _ _ (c .before .before .before .before .before .before .before .before .before .before .before .before .before .before .before .before .before .before .pre .1 .1)))
+    (λ c. omega (arith, lane-small _ _ _ _ (c .before .before .before .before .before .before .before .before .before .before .before .before .before .before .before .before .before .before .pre .1 .1)))
+    (λ c. closed-count _ _ _ _ _ (c .before .before .before .before .before .before .before .before .before .before .before .walk-node .ensures .counted) (c .before .before .before .before .before .before .before .lines .given .1) .0)
+    (λ c κs. let p = c .before .before .before .before .before .before .before .before .before .before .before .before .before .before .before .before .before .before .before .pre in (omega (arith, p .0, p .1 .1 .inside, p .1 .2), (p .1 .0, second-fits _ _ _ _ (p .1 .1) (p .1 .2) _ (half-is _ _ _ _ (p .1 .1) (p .1 .2) _ _ (c .before .before .before .before .before .before .wide .ensures .0) (c .before .before .before .before .span .ensures)))))
+    (λ c κs. let k = closed-count _ _ _ _ _ (c .before .before .before .before .before .before .before .before .before .before .before .before .before .before .before .walk-node .ensures .counted) (c .before .before .before .before .before .before .before .before .before .before .before .lines .given .1) in addable _ _ _ (c .before .before .walk-node2 .result) (c .before .before .before .before .before .before .before .before .before .before .before .before .before .before .before .before .before .before .before .before .before .before .pre .1 .3) (k .0) (k .1) (c .before .before .walk-node2 .ensures .counted))
     (λ c. search needs)
-    (walk-parts-returns t)
+    (λ c. parts-out _ _ _ _ _ _ _ _ _ _ _ _ (c .before .before .before .before .before .before .before .before .before .before .before .pre .1 .1) (c .before .before .before .before .before .before .before .before .before .before .before .pre .1 .2) _ _ (c .before .before .before .before .walk-node .ensures) (c .enum-told .given .1))
     (λ c. search needs)
-    (walk-parts-returns-2 t)
+    (λ c. parts-failed _ _ _ _ _ _ _ _ _ _ _ _ (c .before .before .before .before .before .before .before .before .before .before .before .before .pre .1 .1) (c .before .before .before .before .before .before .before .before .before .before .before .before .pre .1 .2) _ _ (c .before .before .before .before .before .walk-node .ensures) _ _ (c .before .state .given .1))
     (λ c. search needs)
-    (walk-parts-returns-3 t)
+    (λ c. let p = c .before .before .before .before .before .before .before .before .before .before .before .before .before .before .before .before .before .before .before .before .before .before .before .pre in parts-joined _ _ _ _ _ _ _ _ _ _ _ _ (p .1 .1) (p .1 .2) _ _ (c .before .before .before .before .before .before .before .before .before .before .before .before .before .before .before .before .walk-node .ensures) _ _ _ (c .before .before .before .before .before .before .before .before .before .before .before .before .lines .given .1) _ (half-is _ _ _ _ (p .1 .1) (p .1 .2) _ _ (c .before .before .before .before .before .before .before .before .before .before .wide .ensures .0) (c .before .before .before .before .before .before .before .before .span .ensures)) _ _ (c .before .before .before .walk-node2 .ensures) _ (c .joined .ensures))
