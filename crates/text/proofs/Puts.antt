@@ -9,12 +9,16 @@ use native.Mathlib.Numerals.{add-one}
 use lib.Dec.{eqb}
 use lib.ListN.{length, getD, set, take, drop, length-append, length-set}
 use lib.Seq.{sets, take-suc, take-length, drop-cons}
-use borrow.Author.Tests.{lt-ltb, le-ltb, eq-eqb, ne-eqb}
+use borrow.Author.Tests.{lt-ltb, le-ltb, ne-eqb}
 use Rattle.model.specs.Action.{tabulate}
 use Rattle.model.specs.Case.{bit}
 use Rattle.model.specs.Text.{ascii}
 use Rattle.model.specs.declared.Limits.{Limits}
-use Rattle.model.specs.DeskText.{decimal, marks, kindText, lineText, sentence}
+use Rattle.model.specs.DeskText.{decimal, marks, wrongLine, kindText, lineText, sentence}
+use Rattle.model.specs.Answers.{outcome}
+use Rattle.model.specs.declared.Stop.{Stop}
+use Rattle.model.specs.declared.Outcome.{Outcome}
+use Rattle.model.specs.declared.Outcome.the-variants.{Reached, Missed, Blocked}
 use Rattle.model.proofs.Laws.Tabulate.{length-tabulate}
 use Rattle.lines.specs.declared.form.Line as lines
 use Rattle.lines.specs.Lines.{Reads, lineNumber}
@@ -44,15 +48,15 @@ byte {l} {at} {x} h = record { end = refl; bytes = refl; within = simp length-se
 
 -- ---- numbers
 
-pub digit-first : {l : List ℕ} {at x n : ℕ} → at < length l → n < 10 → x ≡ 48 + n → Put l at (decimal n) (at + 1) (set l at x)
-digit-first {l} {at} {x} {n} room h e = put-as (ap (λ (y : ℕ). y ∷ []) e ∙ one-digit n h) (byte room)
+pub digit-first : {l : List ℕ} {at n : ℕ} → at < length l → n < 10 → Put l at (decimal n) (at + 1) (set l at (48 + n))
+digit-first {n = n} room h = put-as (one-digit n h) (byte room)
 
 module _ {n : ℕ} (h : 10 ≤ n) (f : n < 2 ^ 64) where
   pub tenth-short : length (decimal (n / 10)) < 20
   tenth-short = omega (arith, simp length-append at (ap length (more-digits n h f)), decimal-most n)
 
-  pub digit-last : {l m : List ℕ} {at p x : ℕ} → Put l at (decimal (n / 10)) p m → p < length m → x ≡ 48 + n % 10 → Put l at (decimal n) (p + 1) (set m p x)
-  digit-last put room e = put-as (ap (λ (y : ℕ). decimal (n / 10) ++ (y ∷ [])) e ∙ more-digits n h f) (put then byte room)
+  pub digit-last : {l m : List ℕ} {at p : ℕ} → Put l at (decimal (n / 10)) p m → p < length m → Put l at (decimal n) (p + 1) (set m p (48 + n % 10))
+  digit-last put room = put-as (more-digits n h f) (put then byte room)
 
 -- ---- forms
 
@@ -118,17 +122,13 @@ module _ (w k v : ℕ) where
   unfolding mark
   mark-past i h = simp (le-ltb _ _ h)
 
-  pub mark-yes : (i s : ℕ) → i < k → s ≡ 2 ^ (w - (i + 1)) → v / s % 2 ≡ 1 → 49 ≡ mark w k v i
+  pub mark-bit : (i s : ℕ) → i < k → s ≡ 2 ^ (w - (i + 1)) → 48 + v / s % 2 ≡ mark w k v i
   unfolding mark bit
-  mark-yes i s h e g =
-      let z : v / 2 ^ (w - suc i) % 2 ≡ 1 = rw (e, add-one) at g in
-      simp (lt-ltb _ _ h, eq-eqb _ _ z)
-
-  pub mark-no : (i s : ℕ) → i < k → s ≡ 2 ^ (w - (i + 1)) → (v / s % 2 ≡ 1 → ⊥) → 48 ≡ mark w k v i
-  unfolding mark bit
-  mark-no i s h e g =
-      let z : v / 2 ^ (w - suc i) % 2 ≡ 1 → ⊥ = rw (e, add-one) at g in
-      simp (lt-ltb _ _ h, ne-eqb _ _ z)
+  mark-bit i s h e = rw (e, add-one, lt-ltb i k h) (by (v / 2 ^ (w - suc i) % 2) (omega arith)) where
+    by : (x : ℕ) → x < 2 → 48 + x ≡ cond (eqb x 1) 49 48
+    by zero g = refl
+    by (suc zero) g = refl
+    by (suc (suc x)) g = absurd (omega arith)
 
 pub pow-pos : (n : ℕ) → 0 < 2 ^ n
 pow-pos zero = omega arith
@@ -137,6 +137,22 @@ pow-pos (suc n) = omega (arith, pow-suc 2 n, pow-pos n)
 pub kind-carries : (d : ℕ) → (d ≡ 0 → ⊥) → kindText d ≡ ascii "carries"
 kind-carries zero e = absurd (e refl)
 kind-carries (suc d) e = refl
+
+-- the line of a wrong plan, by how its run ended
+module _ (F : Limits) (n s v : ℕ) {o : Outcome} {a b c d : List ℕ} {p q r : ℕ} (x : Put a 0 (ascii "wrong ") p b) (y : Put b p (marks (F .width) n n s) q c) where
+  pub wrong-reached : o ≡ Reached → Put c q (filled (ascii " at end visited A\n") v 0) r d → Put a 0 (wrongLine F n s (outcome o) v) r d
+  unfolding ascii filled shown wrongLine sentence
+  wrong-reached e z = rw e (x then y then z)
+
+  pub wrong-missed : o ≡ Missed → Put c q (filled (ascii " at end visited A\n") v 0) r d → Put a 0 (wrongLine F n s (outcome o) v) r d
+  unfolding ascii filled shown wrongLine sentence
+  wrong-missed e z = rw e (x then y then z)
+
+  pub wrong-blocked :
+      (t : Stop) → o ≡ Blocked t → Put c q (filled (ascii " at step A visited B\n") (t .step) v) r d →
+      Put a 0 (wrongLine F n s (outcome o) v) r d
+  unfolding ascii filled shown wrongLine sentence
+  wrong-blocked t e z = rw e (x then y then z)
 
 -- a line of a list, from what was read
 pub line-put :

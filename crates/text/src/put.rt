@@ -8,25 +8,17 @@ use model::Limits;
 use numbers::span;
 use numbers::wide;
 
-// The digit d as a byte.
-fn digit(d: u64) -> u8
-    requires { ⌜ d < 10 ⌝ }
-    ensures { λ r. ⌜ r ≡ 48 + d ⌝ }
-{
-    48 + d as u8
-}
-
 // Numbers are written in decimal, leading digit first: the tenth's digits, and then the last one.
 fn write_decimal(out: &mut [u8], at: usize, n: u64) -> usize
     requires { ⌜ at + maxDigits ≤ length (now out) ⌝ }
     ensures { λ r. ⌜ Put (now (out .entry)) at (decimal n) r (now (out .exit)) ⌝ }
 {
     if n < 10 {
-        out[at] = digit(n);
+        out[at] = 48 + n as u8;
         return at + 1;
     }
     let p = write_decimal(out, at, n / 10);
-    out[p] = digit(n % 10);
+    out[p] = 48 + (n % 10) as u8;
     p + 1
 }
 
@@ -67,10 +59,7 @@ fn mark(limits: Limits, i: u8, k: u8, value: u64) -> u8
     if k <= i {
         return b'?';
     }
-    if value / span(wide(limits.width), wide(i) + 1) % 2 == 1 {
-        return b'1';
-    }
-    b'0'
+    48 + (value / span(wide(limits.width), wide(i) + 1) % 2) as u8
 }
 
 // One mark per fact.

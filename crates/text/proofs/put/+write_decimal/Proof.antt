@@ -1,56 +1,53 @@
--- `write_decimal` meets its contract. Assumes nothing.
+-- `write_decimal` meets its contract: the number falls. Assumes nothing.
 use Prim.Native.Nat.{ℕ, _<_}
-use borrow.Fn.Kinds.{In}
-use borrow.Fn.PlainCycle.{Measures, is, falls, and}
-use Rattle.text.proofs.put.write_decimal.Reads as write-decimal
-use Rattle.text.proofs.put.write_decimal.Kinds as write-decimal-kinds
-use Rattle.text.proofs.put.+write_decimal.Lts-write_decimal as write-decimal-lts
-use Rattle.text.proofs.put.digit.Reads as digit-reads
-use Rattle.text.proofs.put.+write_decimal.{statement}
-use Rattle.text.proofs.put.+write_decimal.Tie.{close}
 use native.Mathlib.Omega.{arith}
 use borrow.Author.Needs.{needs}
+use borrow.Fn.Kinds.{In}
+use borrow.Fn.PlainCycle.{Measures, is, falls, and}
 use Rattle.text.proofs.Puts.{digit-first, tenth-short, digit-last}
+use Rattle.text.proofs.put.write_decimal.Reads.{Pre, Post}
+use Rattle.text.proofs.put.write_decimal.Kinds.{ps}
+use Rattle.text.proofs.put.+write_decimal.Lts-write_decimal as lts
+use Rattle.text.proofs.put.+write_decimal.{statement}
+use Rattle.text.proofs.put.+write_decimal.Tie.{close}
 
-abbrev μ-write-decimal : Measures 1 write-decimal-kinds.ps ℕ
-μ-write-decimal κs a = a .1 .1 .0
+abbrev μ : Measures 1 ps ℕ
+μ κs a = a .1 .1 .0
 
-abbrev write-decimal-at : ℕ → In 1 write-decimal-kinds.ps
-write-decimal-at t =
-    and 1 write-decimal-kinds.ps (is 1 write-decimal-kinds.ps μ-write-decimal t) write-decimal.Pre
+abbrev At : ℕ → In 1 ps
+At t = and 1 ps (is 1 ps μ t) Pre
 
-abbrev write-decimal-below : ℕ → In 1 write-decimal-kinds.ps
-write-decimal-below t =
-    and
-    1
-    write-decimal-kinds.ps
-    (falls 1 write-decimal-kinds.ps _<_ μ-write-decimal t)
-    write-decimal.Pre
+abbrev Calls : ℕ → lts.Claims
+Calls t = (and 1 ps (falls 1 ps _<_ μ t) Pre, Post)
 
-abbrev write-decimal-calls : ℕ → write-decimal-lts.Claims
-write-decimal-calls t = (digit-reads.Asked, digit-reads.Learnt, write-decimal-below t, write-decimal.Post)
+-- where the last digit goes
+last : (t : ℕ) → lts.Need-slice-write-out-2 (Calls t) (At t) Post
+last t c =
+    let w = c .before .before in
+    omega (arith, tenth-short (w .before .before .if1 .left) (search needs), w .write-decimal .kept .0, w .write-decimal .ensures .end)
 
-write-decimal-returns : (t : ℕ) → write-decimal-lts.Need-returns (write-decimal-calls t) (write-decimal-at t) write-decimal.Post
-write-decimal-returns t c = digit-first (omega arith) (c .before .if1 .taken) (c .digit .ensures)
-
-write-decimal-slice-write-out-2 : (t : ℕ) → write-decimal-lts.Need-slice-write-out-2 (write-decimal-calls t) (write-decimal-at t) write-decimal.Post
-write-decimal-slice-write-out-2 t c = omega (arith, tenth-short (c .before .before .before .before .before .if1 .left) (search needs), c .before .before .before .write-decimal .kept .0, c .before .before .before .write-decimal .ensures .end)
-
-write-decimal-returns-2 : (t : ℕ) → write-decimal-lts.Need-returns-2 (write-decimal-calls t) (write-decimal-at t) write-decimal.Post
-write-decimal-returns-2 t c = digit-last (c .before .before .before .before .before .if1 .left) (search needs) (c .before .before .before .write-decimal .ensures) (write-decimal-slice-write-out-2 t c) (c .digit2 .ensures)
+returns-2 : (t : ℕ) → lts.Need-returns-2 (Calls t) (At t) Post
+returns-2 t c =
+    let w = c .before .before in
+    digit-last (w .before .before .if1 .left) (search needs) (w .write-decimal .ensures) (last t c)
 
 pub +write-decimal-spec : {M : Type 1} → statement M
-+write-decimal-spec = close μ-write-decimal λ t. write-decimal-lts.spec (write-decimal-calls t)
-    (write-decimal-at t)
-    write-decimal.Post
-    (λ c κs. search needs)
++write-decimal-spec =
+    close μ λ t.
+    lts.spec
+    (Calls t)
+    (At t)
+    Post
+    (λ c. search needs)
+    (λ c. search needs)
     (λ c. omega arith)
     (λ c. search needs)
     (λ c. search needs)
-    (write-decimal-returns t)
+    (λ c. digit-first (omega arith) (c .if1 .taken))
     (λ c κs. (omega arith, omega arith))
-    (λ c κs. search needs)
-    (write-decimal-slice-write-out-2 t)
     (λ c. search needs)
     (λ c. search needs)
-    (write-decimal-returns-2 t)
+    (last t)
+    (λ c. search needs)
+    (λ c. search needs)
+    (returns-2 t)

@@ -1,15 +1,16 @@
 -- `mark` meets its contract. Assumes nothing.
+use mathlib.Core.Path.{ap₂, _∙_}
+use Prim.Native.Nat.{ℕ, _+_, _-_, _^_}
 use native.Mathlib.Omega.{arith}
 use borrow.Author.Needs.{needs}
-use Rattle.text.proofs.Puts.{mark-past, mark-yes, mark-no, pow-pos}
+use Rattle.text.proofs.Puts.{mark-past, mark-bit, pow-pos}
 use Rattle.text.proofs.put.mark.Statement.{statement}
 use Rattle.text.proofs.put.mark.Tie as tie
 
 returns-2 : tie.Need-returns-2
-returns-2 c = mark-yes _ _ _ _ _ (omega arith) (cc) (c .if2 .taken)
-
-returns-3 : tie.Need-returns-3
-returns-3 c = mark-no _ _ _ _ _ (omega arith) (cc) (c .if2 .left)
+returns-2 c =
+    mark-bit _ _ _ _ _ (omega arith)
+    (c .span .ensures ∙ ap₂ (λ (w i : ℕ). 2 ^ (w - (i + 1))) (c .before .before .wide .ensures .0) (c .before .wide2 .ensures .0))
 
 pub mark-spec : {M : Type 1} → statement M
 mark-spec =
@@ -21,5 +22,6 @@ mark-spec =
     (λ c. search needs)
     (λ c κs. search needs)
     (λ c. simp (c .span .ensures) (pow-pos _))
-    returns-2
-    returns-3)
+    (λ c. search needs)
+    (λ c. search needs)
+    returns-2)
