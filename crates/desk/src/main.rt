@@ -1,5 +1,6 @@
 // The desk program: judges the plan in one file for the problem in another, and prints the verdict and its list.
 use libc::STDOUT_FILENO;
+use model::Limits;
 use model::Plan;
 use model::Problem;
 use report::Page;
@@ -7,7 +8,7 @@ use report::Rest;
 ghost use Prim.Native.Nat.{_+_, _*_, _≤_};
 ghost use lib.ListN.{length};
 ghost use Rattle.model.specs.Read.{headBytes};
-ghost use Rattle.model.specs.Limits.{version1};
+ghost use Rattle.text.specs.Written.{Narrow};
 ghost use Rattle.io.specs.Counts.{Counts};
 
 // One byte more than a block may have: a longer file is cut there, and still refused as too long.
@@ -53,31 +54,32 @@ fn print(text: &[u8], n: usize)
 }
 
 // So many lines of a list block.
-fn print_list(list: &[u8], count: usize, facts: u8)
-    requires { ⌜ (headBytes + version1 .line * count ≤ length (now list)) × (facts ≤ version1 .facts) ⌝ }
+fn print_list(limits: Limits, facts: u8, list: &[u8], count: usize)
+    requires { ⌜ Narrow limits × (facts ≤ limits .facts) × (headBytes + limits .line * count ≤ length (now list)) ⌝ }
 {
-    let mut text = [0u8; 64];
+    let mut line = [0u8; 160];
     let mut i: usize = 0;
     while i < count {
-        let n = report::list_line(list, i, facts, &mut text);
-        print(&text, n);
+        let n = text::list_line(limits, facts, list, i, &mut line);
+        print(&line, n);
         i = i + 1;
     }
 }
 
 // What follows the first line: a right plan's list, or that it is too long.
 fn print_rest(page: Page, list: &[u8])
-    requires { ⌜ (page .facts ≤ version1 .facts) × (headBytes + version1 .line * version1 .lines ≤ length (now list)) ⌝ }
+    requires { ⌜ Narrow (page .limits) × (page .facts ≤ page .limits .facts) × (headBytes + page .limits .line * page .limits .lines ≤ length (now list)) ⌝ }
 {
     match report::what_follows(page) {
         Rest::Nothing => {}
         Rest::TooLong => {
-            let mut text = [0u8; 64];
-            let n = report::too_long(&mut text);
-            print(&text, n);
+            let mut line = [0u8; 160];
+            let n = text::too_long(&mut line);
+            print(&line, n);
         }
         Rest::Lines { count } => {
-            print_list(list, count, page.facts);
+            let limits = page.limits;
+            print_list(limits, page.facts, list, count);
         }
     }
 }
@@ -89,8 +91,10 @@ fn main() {
     let q = load(2, &mut plan);
     let mut list = io::large_buffer();
     let page = report::page_of(&problem[..p], &plan[..q], &mut list);
-    let mut line = [0u8; 128];
-    let n = report::first_line(page, &mut line);
+    let mut line = [0u8; 160];
+    let limits = page.limits;
+    let answer = page.answer;
+    let n = text::first_line(limits, page.facts, answer, &mut line);
     print(&line, n);
     print_rest(page, &list);
 }

@@ -1,5 +1,2 @@
-pub mod Decimal
-pub mod Puts
-pub mod Sentences
 pub mod Cut
 pub mod Pages

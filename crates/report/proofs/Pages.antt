@@ -12,6 +12,7 @@ use borrow.Author.Tests.{leb-true, le-leb, lt-leb}
 use denote.Enum.Declared.{tagOf}
 use types.Run.{OneOf}
 use Rattle.model.proofs.JudgeAnswer.{the-type}
+use Rattle.model.specs.declared.Limits.{Limits}
 use Rattle.model.specs.Limits.{version1}
 use Rattle.model.specs.Answer.{answered}
 use Rattle.model.specs.Case.{Task}
@@ -34,10 +35,11 @@ use Rattle.blocks.specs.declared.plan.Task as blocks
 use Rattle.blocks.specs.Parts.{FindsTask}
 use Rattle.blocks.specs.Standing.{StandsFound}
 use Rattle.lines.proofs.Stores.{length-lines}
+use Rattle.text.specs.Written.{Narrow, firstOf}
 use Rattle.judge.specs.Verdicts.{LaysLines, JudgesTask}
 use Rattle.judge.proofs.Verdicts.{few-facts}
 use Rattle.blocks.proofs.Standing.{found-in}
-use Rattle.report.specs.Pages.{firstOf, restOf, pageLine, listed, restText, PageOf, countOf, FollowsPage}
+use Rattle.report.specs.Pages.{restOf, listed, restText, PageOf, countOf, FollowsPage}
 use Rattle.report.specs.declared.page.Page.{Page}
 use Rattle.report.specs.declared.page.Rest.{Rest}
 use Rattle.report.specs.declared.page.Rest.the-variants.{Nothing, TooLong, Lines}
@@ -58,7 +60,7 @@ lines-read before ls room ok =
     let i : p ≡ 5 = omega (arith, span-length x, length-take-le 5 before (omega arith)) in
     codec.lines-ok version1 version1-sensible l ls 5 q ok (subst (λ (j : ℕ). Span l (length l) j bytes q) i y))
 
-listed-is : (n : ℕ) (list : List ℕ) (c i p : ℕ) → p ≡ 5 + 8 * i → listed n list i c ≡ linesText version1 n (linesFrom version1 list c p)
+listed-is : (n : ℕ) (list : List ℕ) (c i p : ℕ) → p ≡ 5 + 8 * i → listed version1 n list i c ≡ linesText version1 n (linesFrom version1 list c p)
 unfolding linesText linesFrom listed lineAt
 listed-is n list zero i p h = refl
 listed-is n list (suc c) i p h =
@@ -76,7 +78,7 @@ lines-fit T h w g ls a e =
 module _ (n : ℕ) (before after : List ℕ) (room : 65533 ≤ length before) where
   list-is :
       (ls : List Line) (b : Bool) → leb (length ls) 8191 ≡ b → Each (LineOk version1) ls → (a : ℕ) → LaysLines (right ls a) before 5 after →
-      restText n after (restOf (answered (right (length ls) a))) ≡ listText version1 n ls
+      restText version1 n after (restOf version1 (answered (right (length ls) a))) ≡ listText version1 n ls
   unfolding listText
   list-is ls true e ok a lays =
       let h : 5 + 8 * length ls ≤ length before = omega (arith, leb-true (length ls) 8191 e) in
@@ -89,7 +91,7 @@ module _ (n : ℕ) (before after : List ℕ) (room : 65533 ≤ length before) wh
 
   rest-is :
       (v : Verdict (List Line)) → ((ls : List Line) (a : ℕ) → v ≡ right ls a → Each (LineOk version1) ls) → LaysLines v before 5 after →
-      restText n after (restOf (answered (lineCount v))) ≡ verdictRest version1 n v
+      restText version1 n after (restOf version1 (answered (lineCount v))) ≡ verdictRest version1 n v
   unfolding verdictRest
   rest-is (right ls a) ok lays = list-is ls _ refl (ok ls a refl) a lays
   rest-is (wrong s o a) ok lays = refl
@@ -97,39 +99,42 @@ module _ (n : ℕ) (before after : List ℕ) (room : 65533 ≤ length before) wh
 
 -- ---- the page
 
-module _ (s t : List ℕ) (r : blocks.Task) where
-  pub page-refused :
-      FindsTask version1 s t r → r .refused ≡ true → (list : List ℕ) →
-      PageOf s t list (record { facts = 0; answer = Refused (r .refusal) })
+version1-narrow : Narrow version1
+version1-narrow = record { facts = omega arith; word = omega arith; some = omega arith; value = omega arith }
+
+module _ (F : Limits) (is : F ≡ version1) (s t : List ℕ) (r : blocks.Task) (after : List ℕ) (room : 65533 ≤ length after) where
+  pub page-refused : FindsTask version1 s t r → r .refused ≡ true → PageOf s t after (record { limits = F; facts = 0; answer = Refused (r .refusal) })
   unfolding firstLine answerLine laterLines answerRest
-  page-refused f e list = record { most = omega arith; first = rw (f .refusal e); later = rw (f .refusal e) }
+  page-refused f e =
+      rw is
+      record { narrow = version1-narrow; most = omega arith; room = room; first = rw (f .refusal e); later = rw (f .refusal e) }
 
   pub page-found :
-      (F : StandsFound version1 s t r) (steps : List ℕ) → steps ≡ take (length t - headBytes) (drop headBytes t) →
-      (a : JudgeAnswer) (before after : List ℕ) → 65533 ≤ length before → JudgesTask s steps (r .problem) deskGrant a before headBytes after →
-      PageOf s t after (record { facts = r .problem .facts; answer = a })
+      (found : StandsFound version1 s t r) (steps : List ℕ) → steps ≡ take (length t - headBytes) (drop headBytes t) →
+      (a : JudgeAnswer) (before : List ℕ) → 65533 ≤ length before → JudgesTask s steps (r .problem) deskGrant a before headBytes after →
+      PageOf s t after (record { limits = F; facts = r .problem .facts; answer = a })
   unfolding firstLine answerLine laterLines answerRest
-  page-found F steps own a before after room J =
-      let T = F .task in
-      let j = J .is T (found-in version1 s t r F steps own) in
+  page-found found steps own a before fit J =
+      let T = found .task in
+      let j = J .is T (found-in version1 s t r found steps own) in
       let n = r .problem .facts in
+      rw is
       record {
-        most = few-facts s t r F;
-        first = ap (firstOf n) (j .answer) ∙ rw (F .read, F .facts);
+        narrow = version1-narrow;
+        most = few-facts s t r found;
+        room = room;
+        first = ap (firstOf version1 n) (j .answer) ∙ rw (found .read, found .facts);
         later =
-            ap (λ x. restText n after (restOf x)) (j .answer) ∙
-            rest-is n before after room (judged T deskGrant) (lines-fit T (F .few) (F .width) deskGrant) (j .lays) ∙
-            rw (F .read, F .facts);
+            ap (λ x. restText version1 n after (restOf version1 x)) (j .answer) ∙
+            rest-is n before after fit (judged T deskGrant) (lines-fit T (found .few) (found .width) deskGrant) (j .lays) ∙
+            rw (found .read, found .facts);
       }
 
--- ---- its two parts, by the judge's answer
+-- ---- what follows, by the judge's answer
 
 module _ (p : Page) where
-  pub line-by : {a : JudgeAnswer} → p .answer ≡ a → firstOf (p .facts) (judgeAnswer a) ≡ pageLine p
-  line-by e = ap (λ x. firstOf (p .facts) (judgeAnswer x)) (sym e)
-
-  rest-by : (a : JudgeAnswer) → p .answer ≡ a → (r : Rest) → r ≡ restOf (judgeAnswer a) → countOf r ≤ 8191 → FollowsPage p r
-  rest-by a e r i h = record { is = i ∙ ap (λ x. restOf (judgeAnswer x)) (sym e); few = h }
+  rest-by : (a : JudgeAnswer) → p .answer ≡ a → (r : Rest) → r ≡ restOf (p .limits) (judgeAnswer a) → countOf r ≤ p .limits .lines → FollowsPage p r
+  rest-by a e r i h = record { is = i ∙ ap (λ x. restOf (p .limits) (judgeAnswer x)) (sym e); few = h }
 
   -- the tag is none of a right plan's answer
   pub none-follows : OneOf (0 ∷ 2 ∷ 3 ∷ []) (tagOf the-type (p .answer)) → FollowsPage p Nothing
@@ -140,8 +145,8 @@ module _ (p : Page) where
     by (Wrong s o v) e k = rest-by (Wrong s o v) e Nothing refl (omega arith)
     by (Undecided v) e k = rest-by (Undecided v) e Nothing refl (omega arith)
 
-  pub too-long-follows : (n v : ℕ) → p .answer ≡ Right n v → 8191 < n → FollowsPage p TooLong
-  too-long-follows n v e h = rest-by (Right n v) e TooLong (rw (lt-leb n 8191 h)) (omega arith)
+  pub too-long-follows : (n v : ℕ) → p .answer ≡ Right n v → p .limits .lines < n → FollowsPage p TooLong
+  too-long-follows n v e h = rest-by (Right n v) e TooLong (rw (lt-leb n (p .limits .lines) h)) (omega arith)
 
-  pub lines-follow : (n v : ℕ) → p .answer ≡ Right n v → n ≤ 8191 → FollowsPage p (Lines n)
-  lines-follow n v e h = rest-by (Right n v) e (Lines n) (rw (le-leb n 8191 h)) h
+  pub lines-follow : (n v : ℕ) → p .answer ≡ Right n v → n ≤ p .limits .lines → FollowsPage p (Lines n)
+  lines-follow n v e h = rest-by (Right n v) e (Lines n) (rw (le-leb n (p .limits .lines) h)) h

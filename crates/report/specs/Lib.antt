@@ -1,4 +1,2 @@
 -- What is written, in the words of model/specs.
-pub mod Written
-pub mod Parts
 pub mod Pages

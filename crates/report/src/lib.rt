@@ -1,11 +1,6 @@
-// The desk program's text, written into lent buffers: its first line, and one line after it at a time.
-pub mod line;
+// The desk program's page: the verdict and what follows it, decided once.
 pub mod page;
-pub mod text;
 
-pub use line::first_line;
-pub use line::list_line;
-pub use line::too_long;
 pub use page::Page;
 pub use page::Rest;
 pub use page::page_of;

@@ -6,15 +6,15 @@ ghost use Rattle.model.specs.Limits.{version1};
 ghost use Rattle.report.specs.Pages.{PageOf, FollowsPage};
 use blocks::find_task;
 use judge::judge_task;
-use model::CaseList;
 use model::JudgeAnswer;
 use model::Limits;
 
 // The program's grant is fixed.
 const GRANT: u64 = 1000000;
 
-// The judge's answer, and over how many facts its values are marked: for a refusal, none.
+// The judge's answer, of which version, and over how many facts its values are marked: for a refusal, none.
 pub struct Page {
+    pub limits: Limits,
     pub facts: u8,
     pub answer: JudgeAnswer,
 }
@@ -31,16 +31,22 @@ pub fn page_of(problem: &[u8], plan: &[u8], list: &mut [u8]) -> Page
     requires { ⌜ headBytes + version1 .line * version1 .lines ≤ length (now list) ⌝ }
     ensures { λ r. ⌜ PageOf (now (problem .entry)) (now (plan .entry)) (now (list .exit)) r ⌝ }
 {
+    let limits = Limits::version1();
     let task = find_task(problem, plan);
     if task.refused {
         let refusal = task.refusal;
         let answer = JudgeAnswer::Refused(refusal);
-        return Page { facts: 0, answer };
+        return Page {
+            limits,
+            facts: 0,
+            answer,
+        };
     }
     let parts = task.problem;
     let head = Limits::HEAD_BYTES;
     let answer = judge_task(problem, &plan[head..], parts, GRANT, list, head);
     Page {
+        limits,
         facts: parts.facts,
         answer,
     }
@@ -54,7 +60,7 @@ pub fn what_follows(page: Page) -> Rest
     let JudgeAnswer::Right { lines, visits: _ } = answer else {
         return Rest::Nothing;
     };
-    if lines > CaseList::MAX_LINES as u64 {
+    if lines > page.limits.lines as u64 {
         return Rest::TooLong;
     }
     Rest::Lines {

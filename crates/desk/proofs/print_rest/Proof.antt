@@ -1,15 +1,15 @@
 -- `print_rest` meets its contract. Assumes nothing.
-use mathlib.Core.Path.{subst}
-use Prim.Native.Nat.{_≤_}
+use native.Mathlib.Nat.{mul-le-mul-left}
 use native.Mathlib.Omega.{arith}
 use borrow.Author.Needs.{needs}
-use Rattle.report.specs.declared.page.Rest.{Rest}
-use Rattle.report.specs.Pages.{countOf}
 use Rattle.desk.proofs.print_rest.Statement.{statement}
 use Rattle.desk.proofs.print_rest.Tie as tie
 
 print-list-requires : tie.Need-print-list-requires
-print-list-requires c κs = (omega (arith, subst (λ (r : Rest). countOf r ≤ 8191) (c .before .count .given .1) (c .before .before .before .what-follows .ensures .few)), search needs)
+print-list-requires c κs =
+    let k = c .before .before .before .before .before .before .args .page .limits .line in
+    let h = rw (c .before .before .count .given .1) at (c .before .before .before .before .what-follows .ensures .few) in
+    (search needs, search needs, omega (arith, mul-le-mul-left k h))
 
 pub print-rest-spec : {M : Type 1} → statement M
 print-rest-spec =

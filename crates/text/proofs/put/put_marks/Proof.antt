@@ -1,0 +1,42 @@
+-- `put_marks` meets its contract: the marks so far. Assumes nothing.
+use mathlib.Core.Path.{_≡_, refl, ap}
+use Prim.Native.Nat.{_+_, _-_, _≤_}
+use native.Mathlib.Omega.{arith}
+use lib.ListN.{length, length-set}
+use Rattle.model.specs.DeskText.{marks}
+use Rattle.text.specs.Written.{Put}
+use Rattle.text.proofs.Puts.{put-as, nothing, marks-more}
+use Rattle.text.proofs.put.put_marks.Statement.{statement}
+use Rattle.text.proofs.put.put_marks.Tie as tie
+
+abbrev Inv-loop : tie.InvT-loop
+Inv-loop out₀ at limits facts k value i₀ to₀ out i to = (i ≤ facts) × (to ≡ at + i) × (length out ≡ length out₀) × Put out₀ at (marks (limits .width) i k value) to out
+
+abbrev μ-loop : tie.MeasureT-loop
+μ-loop out₀ at limits facts k value i₀ to₀ out i to = facts - i
+
+loop-holds : tie.Need-loop-holds Inv-loop μ-loop
+unfolding marks
+loop-holds c = (omega arith, omega arith, refl, nothing (omega arith))
+
+loop-again : tie.Need-loop-again Inv-loop μ-loop
+loop-again c = (omega arith, omega arith, simp length-set (c .before .before .loop .inv .2), marks-more _ _ _ _ _ (c .mark .ensures) (c .before .before .loop .inv .3) (omega arith))
+
+returns : tie.Need-returns Inv-loop μ-loop
+returns c = let e : c .before .loop .i ≡ c .before .before .before .args .facts = omega arith in (rw e at (c .before .loop .inv .3), omega arith)
+
+pub put-marks-spec : {M : Type 1} → statement M
+put-marks-spec =
+    tie.close
+    (tie.spec
+    Inv-loop
+    μ-loop
+    loop-holds
+    (λ c κs. (omega arith, omega arith))
+    (λ c. omega arith)
+    (λ c. omega arith)
+    (λ c. omega arith)
+    (λ c. omega arith)
+    loop-again
+    (λ c. c .before .loop .inv .2)
+    returns)
