@@ -34,10 +34,8 @@ use Rattle.model.proofs.Laws.Lists.{follows-ok}
 use Rattle.blocks.specs.declared.plan.Task as blocks
 use Rattle.blocks.specs.Parts.{FindsTask}
 use Rattle.blocks.specs.Standing.{StandsFound}
-use Rattle.lines.proofs.Stores.{length-lines}
 use Rattle.text.specs.Written.{Narrow, firstOf}
-use Rattle.judge.specs.Verdicts.{LaysLines, JudgesTask}
-use Rattle.judge.proofs.Verdicts.{few-facts}
+use Rattle.judge.specs.Verdicts.{LaysLines, Judges, JudgesTask}
 use Rattle.blocks.proofs.Standing.{found-in}
 use Rattle.report.specs.Pages.{restOf, listed, restText, PageOf, countOf, FollowsPage}
 use Rattle.report.specs.declared.page.Page.{Page}
@@ -52,7 +50,7 @@ lines-read :
     linesFrom version1 (sets before 5 (linesBytes version1 ls)) (length ls) 5 ≡ ls
 lines-read before ls room ok =
     let bytes = linesBytes version1 ls in
-    let fit : 5 + length bytes ≤ length before = omega (arith, length-lines ls) in
+    let fit : 5 + length bytes ≤ length before = omega (arith, codec.length-lines version1 version1-sensible [] ls) in
     let l = take 5 before ++ bytes ++ drop (5 + length bytes) before in
     ap (λ (x : List ℕ). linesFrom version1 x (length ls) 5) (sets-eq bytes before 5 fit) ∙
     (split (take 5 before ++ bytes) (is-whole {s = l}) λ q a b.
@@ -77,7 +75,7 @@ lines-fit T h w g ls a e =
 
 module _ (n : ℕ) (before after : List ℕ) (room : 65533 ≤ length before) where
   list-is :
-      (ls : List Line) (b : Bool) → leb (length ls) 8191 ≡ b → Each (LineOk version1) ls → (a : ℕ) → LaysLines (right ls a) before 5 after →
+      (ls : List Line) (b : Bool) → leb (length ls) 8191 ≡ b → Each (LineOk version1) ls → (a : ℕ) → LaysLines version1 (right ls a) before 5 after →
       restText version1 n after (restOf version1 (answered (right (length ls) a))) ≡ listText version1 n ls
   unfolding listText
   list-is ls true e ok a lays =
@@ -90,7 +88,7 @@ module _ (n : ℕ) (before after : List ℕ) (room : 65533 ≤ length before) wh
   list-is ls false e ok a lays = rw e
 
   rest-is :
-      (v : Verdict (List Line)) → ((ls : List Line) (a : ℕ) → v ≡ right ls a → Each (LineOk version1) ls) → LaysLines v before 5 after →
+      (v : Verdict (List Line)) → ((ls : List Line) (a : ℕ) → v ≡ right ls a → Each (LineOk version1) ls) → LaysLines version1 v before 5 after →
       restText version1 n after (restOf version1 (answered (lineCount v))) ≡ verdictRest version1 n v
   unfolding verdictRest
   rest-is (right ls a) ok lays = list-is ls _ refl (ok ls a refl) a lays
@@ -102,31 +100,33 @@ module _ (n : ℕ) (before after : List ℕ) (room : 65533 ≤ length before) wh
 version1-narrow : Narrow version1
 version1-narrow = record { facts = omega arith; word = omega arith; some = omega arith; value = omega arith }
 
-module _ (F : Limits) (is : F ≡ version1) (s t : List ℕ) (r : blocks.Task) (after : List ℕ) (room : 65533 ≤ length after) where
-  pub page-refused : FindsTask version1 s t r → r .refused ≡ true → PageOf s t after (record { limits = F; facts = 0; answer = Refused (r .refusal) })
+module _ (s t : List ℕ) (r : blocks.Task) (f : FindsTask version1 s t r) (after : List ℕ) (room : 65533 ≤ length after) where
+  pub page-refused : r .refused ≡ true → PageOf s t after (record { limits = r .limits; facts = 0; answer = Refused (r .refusal) })
   unfolding firstLine answerLine laterLines answerRest
-  page-refused f e =
-      rw is
+  page-refused e =
+      rw (f .limits)
       record { narrow = version1-narrow; most = omega arith; room = room; first = rw (f .refusal e); later = rw (f .refusal e) }
 
   pub page-found :
       (found : StandsFound version1 s t r) (steps : List ℕ) → steps ≡ take (length t - headBytes) (drop headBytes t) →
-      (a : JudgeAnswer) (before : List ℕ) → 65533 ≤ length before → JudgesTask s steps (r .problem) deskGrant a before headBytes after →
-      PageOf s t after (record { limits = F; facts = r .problem .facts; answer = a })
+      (a : JudgeAnswer) (before : List ℕ) → 65533 ≤ length before → JudgesTask (r .limits) s steps (r .problem) deskGrant a before headBytes after →
+      PageOf s t after (record { limits = r .limits; facts = r .problem .facts; answer = a })
   unfolding firstLine answerLine laterLines answerRest
   page-found found steps own a before fit J =
       let T = found .task in
-      let j = J .is T (found-in version1 s t r found steps own) in
+      let j = subst (λ (F : Limits). Judges F (judged T deskGrant) a before headBytes after) (f .limits) (J .is T (found-in version1 s t r found steps own)) in
       let n = r .problem .facts in
-      rw is
+      let few : T .facts ≤ version1 .facts = subst (λ (F : Limits). T .facts ≤ F .facts) (f .limits) (found .few) in
+      let wide : T .width ≡ version1 .width = subst (λ (F : Limits). T .width ≡ F .width) (f .limits) (found .width) in
+      rw (f .limits)
       record {
         narrow = version1-narrow;
-        most = few-facts s t r found;
+        most = omega (arith, found .facts);
         room = room;
         first = ap (firstOf version1 n) (j .answer) ∙ rw (found .read, found .facts);
         later =
             ap (λ x. restText version1 n after (restOf version1 x)) (j .answer) ∙
-            rest-is n before after fit (judged T deskGrant) (lines-fit T (found .few) (found .width) deskGrant) (j .lays) ∙
+            rest-is n before after fit (judged T deskGrant) (lines-fit T few wide deskGrant) (j .lays) ∙
             rw (found .read, found .facts);
       }
 

@@ -31,8 +31,8 @@ pub fn page_of(problem: &[u8], plan: &[u8], list: &mut [u8]) -> Page
     requires { ⌜ headBytes + version1 .line * version1 .lines ≤ length (now list) ⌝ }
     ensures { λ r. ⌜ PageOf (now (problem .entry)) (now (plan .entry)) (now (list .exit)) r ⌝ }
 {
-    let limits = Limits::version1();
     let task = find_task(problem, plan);
+    let limits = task.limits;
     if task.refused {
         let refusal = task.refusal;
         let answer = JudgeAnswer::Refused(refusal);
@@ -44,7 +44,7 @@ pub fn page_of(problem: &[u8], plan: &[u8], list: &mut [u8]) -> Page
     }
     let parts = task.problem;
     let head = Limits::HEAD_BYTES;
-    let answer = judge_task(problem, &plan[head..], parts, GRANT, list, head);
+    let answer = judge_task(problem, &plan[head..], parts, limits, GRANT, list, head);
     Page {
         limits,
         facts: parts.facts,
