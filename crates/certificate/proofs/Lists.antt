@@ -58,12 +58,12 @@ block-written F S before after ls n e room h =
 
 -- a walk that closes within its grant laid its lines
 lays-covered :
-    (F : Limits) (g : ℕ) (w : Walked) (r : Ending) (before : List ℕ) (to : ℕ) (after : List ℕ) → Ended F g w r before to after →
-    (ls : List Line) (a : ℕ) → w ≡ covered ls a → a ≤ g → (next : ℕ) × Puts F before to ls next after
-lays-covered F g w Out before to after E ls a e h = absurd (omega (arith, ap visits e))
-lays-covered F g w (Failed x b) before to after (i, j) ls a e h = let z : _≡_ {A = ℕ} 0 1 = cc in absurd (omega arith)
-lays-covered F g w (Closed n b next) before to after (ms, i, j, k, p) ls a e h =
-    let z : ms ≡ ls = cc in (next, subst (λ (l : List Line). Puts F before to l next after) z p)
+    (size g : ℕ) (w : Walked) (r : Ending) (before : List ℕ) (to : ℕ) (after : List ℕ) → Ended size g w r before to after →
+    (ls : List Line) (a : ℕ) → w ≡ covered ls a → a ≤ g → (next : ℕ) × Puts size before to ls next after
+lays-covered size g w Out before to after E ls a e h = absurd (omega (arith, ap visits e))
+lays-covered size g w (Failed x b) before to after (i, j) ls a e h = let z : _≡_ {A = ℕ} 0 1 = cc in absurd (omega arith)
+lays-covered size g w (Closed n b next) before to after (ms, i, j, k, p) ls a e h =
+    let z : ms ≡ ls = cc in (next, subst (λ (l : List Line). Puts size before to l next after) z p)
 
 pub writes-task :
     (F : Limits) → Sensible F → (problem steps : List ℕ) (parts : Problem) (g body : ℕ) (before m after : List ℕ) (r : Ending) →
@@ -73,9 +73,9 @@ writes-task F S problem steps parts g body before m after r room em W =
     record {
       is =
           λ T p ls a w h b.
-          let (next, puts) = lays-covered F g (walked T) r m headBytes after (W .is T p) ls a w h in
-          let q : Put F m headBytes ls next after = puts (omega (arith, ap length em, length-sets before 0 (headOf F body))) in
-          block-written F S before after ls body b room (q .bytes ∙ ap (λ (l : List ℕ). sets l headBytes (linesBytes F ls)) em);
+          let (next, puts) = lays-covered (F .line) g (walked T) r m headBytes after (W .is T p) ls a w h in
+          let q : Put (F .line) m headBytes ls next after = puts (omega (arith, ap length em, length-sets before 0 (headOf F body))) in
+          block-written F S before after ls body b room (q .bytes F refl ∙ ap (λ (l : List ℕ). sets l headBytes (linesBytes F ls)) em);
     }
 
 -- ---- the answer
@@ -122,8 +122,8 @@ module _ (s t : List ℕ) (r : blocks.Task) (f : FindsTask version1 s t r) (o : 
   n≤w : T .facts ≤ T .width
   n≤w = omega (arith, o .few, o .width, o .sensible .width)
 
-  ended : (x : Ending) → w ≡ x → Ended F g (walked T) x room to full
-  ended x e = subst (λ (y : Ending). Ended F g (walked T) y room to full) e (W .is T (found-in version1 s t r o steps own))
+  ended : (x : Ending) → w ≡ x → Ended (F .line) g (walked T) x room to full
+  ended x e = subst (λ (y : Ending). Ended (F .line) g (walked T) y room to full) e (W .is T (found-in version1 s t r o steps own))
 
   for : listFor F s t g (length before) ≡ linesFor F (length before) (judged T g)
   for = list-for-is F s t T (subst (λ (G : Limits). readTask G s t ≡ answered T) (sym (f .limits)) (o .read)) g (length before)

@@ -33,7 +33,7 @@ use Rattle.model.proofs.Laws.Tasks.{state-tested, judge-is}
 use Rattle.blocks.specs.declared.plan.Task as blocks
 use Rattle.blocks.specs.Parts.{FindsTask}
 use Rattle.blocks.specs.Standing.{placesOf, TaskIn, StandsFound}
-use Rattle.lines.specs.Putting.{Puts}
+use Rattle.lines.specs.Lines.{widthOf}
 use Rattle.table.specs.Tables.{NoneFixed}
 use Rattle.table.specs.Blocks.{blockCase, FixesLevels}
 use Rattle.blocks.proofs.Standing.{found-in}
@@ -50,28 +50,28 @@ use Rattle.judge.specs.Verdicts.{WalksTask, OutcomeOf, Judges, JudgesTas
 abbrev pub wholeCase : ℕ → Case
 wholeCase n = record { k = 0; left = n; number = 0 }
 
-pub whole-fits : (F : Limits) (n levels : ℕ) → Sensible F → n ≤ F .facts → LevelsOf n levels → BlockFits F (wholeCase n) levels
+pub whole-fits : (F : Limits) (n levels : ℕ) → Sensible F → n ≤ F .facts → LevelsOf n levels → BlockFits (F .line) (wholeCase n) levels
 whole-fits F n levels S h L =
-    let e : F .width - 0 ≡ F .width = omega arith in
-    record { fits = record { sensible = S; slots = omega arith; numbers = omega (arith, ap (λ (x : ℕ). 2 ^ x) e) }; levels-of = L }
+    let e : widthOf (F .line) - 0 ≡ widthOf (F .line) = omega arith in
+    record { fits = record { least = S .line; most = omega (arith, S .word, S .bits); slots = omega (arith, S .width, S .bits); numbers = omega (arith, ap (λ (x : ℕ). 2 ^ x) e) }; levels-of = L }
 
 pub walks-task :
-    (F : Limits) (problem steps : List ℕ) (parts : Problem) (g n levels : ℕ) → n ≡ parts .facts → LevelsOf n levels → (c₀ c : List ℕ) → NoneFixed n c₀ → FixesLevels c₀ 0 levels c →
-    (r : Ending) (before : List ℕ) (to : ℕ) (after : List ℕ) → WalksBlock F problem steps (parts .action) (placesOf parts) c (wholeCase n) levels g r before to after →
+    (F : Limits) → Sensible F → (problem steps : List ℕ) (parts : Problem) (g n levels : ℕ) → n ≡ parts .facts → LevelsOf n levels → (c₀ c : List ℕ) → NoneFixed n c₀ → FixesLevels c₀ 0 levels c →
+    (r : Ending) (before : List ℕ) (to : ℕ) (after : List ℕ) → WalksBlock (F .line) problem steps (parts .action) (placesOf parts) c (wholeCase n) levels g r before to after →
     WalksTask F problem steps parts g r before to after
 unfolding walked walk
-walks-task F problem steps parts g n levels e L c₀ c N X r before to after W =
+walks-task F S problem steps parts g n levels e L c₀ c N X r before to after W =
     record {
       counted = W .counted;
-      size = W .size;
+      same = W .same;
       is =
           λ T p.
           let i : n ≡ T .facts = e ∙ p .facts in
-          subst (λ (m : ℕ). Walks.Ended F g (walkFrom (T .width) (lookAt T) m (lookAt T 0 0) 0 0) r before to after) i
+          subst (λ (m : ℕ). Walks.Ended (F .line) g (walkFrom (T .width) (lookAt T) m (lookAt T 0 0) 0 0) r before to after) i
           (W .is T
           (record {
             stands = p .stands;
-            case-at = record { width = p .width; left-facts = omega arith; begins = zero-mod (2 ^ (T .width - 0)) };
+            case-at = record { width = p .width ∙ S .bits; left-facts = omega arith; begins = zero-mod (2 ^ (T .width - 0)) };
             table =
                 subst (λ (v : List Kleene). Table c (λ j. blockCase v 0 levels j)) (ap (λ (m : ℕ). replicate m Unknown) i ∙ sym (case-first (T .width) (T .facts)))
                 (X .is (replicate n Unknown) (omega (arith, L .inside, length-replicate n Unknown)) (N .is));
@@ -102,8 +102,8 @@ module _ (F : Limits) (S : Sensible F) (problem steps : List ℕ) (parts : Probl
   n≤w : (T : Task) → TaskIn F problem steps parts T → T .facts ≤ T .width
   n≤w T p = omega (arith, p .few, p .width, S .width)
 
-  ended : (T : Task) → TaskIn F problem steps parts T → (x : Ending) → w ≡ x → Walks.Ended F g (walked T) x before to after
-  ended T p x e = subst (λ (y : Ending). Walks.Ended F g (walked T) y before to after) e (W .is T p)
+  ended : (T : Task) → TaskIn F problem steps parts T → (x : Ending) → w ≡ x → Walks.Ended (F .line) g (walked T) x before to after
+  ended T p x e = subst (λ (y : Ending). Walks.Ended (F .line) g (walked T) y before to after) e (W .is T p)
 
   -- an answer by the verdict of each task
   judged-so :
@@ -111,7 +111,7 @@ module _ (F : Limits) (S : Sensible F) (problem steps : List ℕ) (parts : Probl
       Task-judged r
   judged-so r h =
       record {
-        size = W .size;
+        size = W .same;
         is = λ T p. let (v, e, j) = h T p in subst (λ (x : Verdict (List Line)). Judges F x r before to after) (sym e) j;
       }
 

@@ -8,14 +8,12 @@ use native.Mathlib.Nat.{pow-suc}
 use native.Mathlib.Decide.{ℕ-discrete}
 use lib.ListN.{length, set, length-append}
 use lib.Pow.{pow-pos, pow-mono}
-use Rattle.model.specs.declared.Limits.{Limits}
 use Rattle.model.specs.Kleene.{Kleene, No, Yes, three}
 use Rattle.model.specs.Formula.{eval}
 use Rattle.model.specs.Run.{run}
 use Rattle.model.specs.Case.{caseOf, Task}
 use Rattle.model.specs.Walk as Walk
 use Rattle.model.specs.Walk.{Kind, empty, carries, kindNumber, line, Line, Walked, covered, failed, visits, join, walkFrom, lookOf, lookAt}
-use Rattle.model.specs.WellFormed.{Sensible}
 use Rattle.model.specs.Planes.{laneBit, Table}
 use Rattle.model.proofs.Laws.Cover.{Block, pow-half, rescale, next-block, block-of-mod, mod-of-block}
 use Rattle.model.proofs.Laws.Grants.{visits-walk}
@@ -23,6 +21,7 @@ use Rattle.model.proofs.Laws.Planes.{bit-small}
 use Rattle.model.proofs.Laws.Splitting.{length-case, case-unknown, case-no, case-yes}
 use Rattle.table.specs.Blocks.{blockCase, FixesLevels, FixesPath}
 use Rattle.table.proofs.Blocks.{length-block, block-outside, block-root, part-no, part-yes}
+use Rattle.lines.specs.Lines.{widthOf}
 use Rattle.lines.specs.Putting.{Puts, AddsLine}
 use Rattle.lines.proofs.Stores.{puts-append}
 use Rattle.execute.specs.Cases.{lookBits, LooksAtCases}
@@ -46,15 +45,15 @@ visits-join (failed s a) y = omega arith
 
 -- the first part closed: the second decides
 join-closed :
-    {F : Limits} → Sensible F → (g n a next to : ℕ) (ls : List Line) (y : Walked) (r : Ending) (before mid after : List ℕ) →
-    length mid ≡ length before → length ls ≡ n → a ≤ g → Puts F before to ls next mid → Ended F (g - a) y r mid next after →
-    Ended F (g + 1) (join (covered ls a) y) (joins n a r) before to after
-join-closed S g n a next to ls y Out before mid after same c h p q = omega (arith, visits-closed ls a y)
-join-closed S g n a next to ls y (Failed s b) before mid after same c h p (e, k) =
+    (size : ℕ) → 2 < size → (g n a next to : ℕ) (ls : List Line) (y : Walked) (r : Ending) (before mid after : List ℕ) →
+    length mid ≡ length before → length ls ≡ n → a ≤ g → Puts size before to ls next mid → Ended size (g - a) y r mid next after →
+    Ended size (g + 1) (join (covered ls a) y) (joins n a r) before to after
+join-closed size S g n a next to ls y Out before mid after same c h p q = omega (arith, visits-closed ls a y)
+join-closed size S g n a next to ls y (Failed s b) before mid after same c h p (e, k) =
     let i : suc (a + b) ≡ a + b + 1 = omega arith in (rw (e, i), omega arith)
-join-closed S g n a next to ls y (Closed m b end) before mid after same c h p (ms, e, l, k, q) =
+join-closed size S g n a next to ls y (Closed m b end) before mid after same c h p (ms, e, l, k, q) =
     let i : suc (a + b) ≡ a + b + 1 = omega arith in
-    (ls ++ ms, rw (e, i), length-append ls ms ∙ rw (c, l), omega arith, puts-append _ S before mid after to next end ls ms same p q)
+    (ls ++ ms, rw (e, i), length-append ls ms ∙ rw (c, l), omega arith, puts-append size S before mid after to next end ls ms same p q)
 
 -- ---- one visit
 
@@ -79,12 +78,12 @@ unfolding walkFrom
 walk-split w look zero k v h = absurd (omega arith)
 walk-split w look (suc d) k v h = let e : suc d - 1 ≡ d = omega arith in rw e
 
-module _ (F : Limits) (problem steps actions : List ℕ) (at : Places) (c : List ℕ) (b : walk.Block) (case : Case) (lane g : ℕ) (before : List ℕ) (to : ℕ) where
+module _ (size : ℕ) (problem steps actions : List ℕ) (at : Places) (c : List ℕ) (b : walk.Block) (case : Case) (lane g : ℕ) (before : List ℕ) (to : ℕ) where
   abbrev At : Task → Type 0
-  At = NodeAt F problem steps actions at c b case lane
+  At = NodeAt size problem steps actions at c b case lane
 
   abbrev Found : Ending → List ℕ → Type 0
-  Found r after = WalksNode F problem steps actions at c b case lane g r before to after
+  Found r after = WalksNode size problem steps actions at c b case lane g r before to after
 
   -- what the lane's two bits say is what a visit finds
   node-look : lane < 64 → (T : Task) → At T → lookAt T (case .k) (case .number) ≡ lookBits (laneBit lane (b .empty)) (laneBit lane (b .carries))
@@ -96,27 +95,27 @@ module _ (F : Limits) (problem steps actions : List ℕ) (at : Places) (c : List
 
   pub node-out : g ≡ 0 → Found Out before
   node-out z =
-      record { counted = tt; size = refl; is = λ T N. omega (arith, visits-walk (T .width) (lookAt T) (case .left) (lookAt T (case .k) (case .number)) (case .k) (case .number)) }
+      record { counted = tt; same = refl; is = λ T N. omega (arith, visits-walk (T .width) (lookAt T) (case .left) (lookAt T (case .k) (case .number)) (case .k) (case .number)) }
 
   -- a lane that is closed
   node-closed :
-      (κ : Kind) (next : ℕ) (after : List ℕ) → 0 < g → AddsLine F before to (kindNumber κ) (case .k) (case .number) next after →
+      (κ : Kind) (next : ℕ) (after : List ℕ) → 0 < g → AddsLine size before to (kindNumber κ) (case .k) (case .number) next after →
       ((T : Task) → At T → lookAt T (case .k) (case .number) ≡ Walk.closed κ) → Found (Closed 1 1 next) after
   node-closed κ next after h A look =
       record {
         counted = (omega arith, omega arith);
-        size = A .size;
+        same = A .same;
         is = λ T N. (line κ (case .k) (case .number) ∷ [], rw (look T N, walk-closed), refl, h, A .is);
       }
 
   pub node-empty :
-      lane < 64 → 0 < g → laneBit lane (b .empty) ≡ 1 → (next : ℕ) (after : List ℕ) → AddsLine F before to 0 (case .k) (case .number) next after →
+      lane < 64 → 0 < g → laneBit lane (b .empty) ≡ 1 → (next : ℕ) (after : List ℕ) → AddsLine size before to 0 (case .k) (case .number) next after →
       Found (Closed 1 1 next) after
   node-empty l h e next after A = node-closed empty next after h A (λ T N. node-look l T N ∙ rw e)
 
   pub node-carries :
       lane < 64 → 0 < g → (laneBit lane (b .empty) ≡ 1 → ⊥) → laneBit lane (b .carries) ≡ 1 → (next : ℕ) (after : List ℕ) →
-      AddsLine F before to 1 (case .k) (case .number) next after → Found (Closed 1 1 next) after
+      AddsLine size before to 1 (case .k) (case .number) next after → Found (Closed 1 1 next) after
   node-carries l h n e next after A =
       let z : laneBit lane (b .empty) ≡ 0 = zero-bit lane (b .empty) n in
       node-closed carries next after h A (λ T N. node-look l T N ∙ rw (z, e))
@@ -126,7 +125,7 @@ module _ (F : Limits) (problem steps actions : List ℕ) (at : Places) (c : List
     node-open T N = let y = zero-bit lane (b .empty) n in let z = zero-bit lane (b .carries) m in node-look l T N ∙ rw (y, z)
 
     pub node-fails : case .left ≡ 0 → Found (Failed (case .number) 1) before
-    node-fails z = record { counted = h; size = refl; is = λ T N. (rw (node-open T N, z, walk-failing), h) }
+    node-fails z = record { counted = h; same = refl; is = λ T N. (rw (node-open T N, z, walk-failing), h) }
 
     abbrev parts : Task → Walked
     parts T =
@@ -134,16 +133,16 @@ module _ (F : Limits) (problem steps actions : List ℕ) (at : Places) (c : List
         (walkOf T (case .left - 1) (suc (case .k)) (case .number + 2 ^ (T .width - suc (case .k))))
 
     pub node-splits :
-        0 < case .left → (r : Ending) (after : List ℕ) → WalksParts F problem steps actions at c b case lane (g - 1) r before to after → Found r after
+        0 < case .left → (r : Ending) (after : List ℕ) → WalksParts size problem steps actions at c b case lane (g - 1) r before to after → Found r after
     node-splits k r after P =
         let u : g - 1 + 1 ≡ g = omega arith in
         record {
           counted = subst (λ (x : ℕ). Counted x r) u (P .counted);
-          size = P .size;
+          same = P .same;
           is =
               λ T N.
               rw (node-open T N, walk-split (T .width) (lookAt T) (case .left) (case .k) (case .number) k)
-              (subst (λ (x : ℕ). Ended F x (parts T) r before to after) u (P .is T N));
+              (subst (λ (x : ℕ). Ended size x (parts T) r before to after) u (P .is T N));
         }
 
 -- ---- the parts of a lane's case
@@ -151,26 +150,26 @@ module _ (F : Limits) (problem steps actions : List ℕ) (at : Places) (c : List
 abbrev pub partOf : Case → ℕ → Case
 partOf case v = record { k = case .k + 1; left = case .left - 1; number = v }
 
-pub lane-small : (F : Limits) (b : walk.Block) (case : Case) (lane : ℕ) → NodeFits F b case lane → lane < 64
-lane-small F b case lane N = omega (arith, N .lane-to, pow-mono {i = suc (case .k - b .first)} {j = 6} (omega (arith, N .few, N .within)))
+pub lane-small : (size : ℕ) (b : walk.Block) (case : Case) (lane : ℕ) → NodeFits size b case lane → lane < 64
+lane-small size b case lane N = omega (arith, N .lane-to, pow-mono {i = suc (case .k - b .first)} {j = 6} (omega (arith, N .few, N .within)))
 
-module _ (F : Limits) (b : walk.Block) (case : Case) (lane : ℕ) (N : NodeFits F b case lane) (inner : case .k < b .first + b .levels) where
-  halves : 2 ^ (F .width - case .k) ≡ 2 ^ (F .width - suc (case .k)) + 2 ^ (F .width - suc (case .k))
-  halves = pow-half (F .width) (case .k) (omega (arith, N .inside, N .fits .slots, N .fits .sensible .width))
+module _ (size : ℕ) (b : walk.Block) (case : Case) (lane : ℕ) (N : NodeFits size b case lane) (inner : case .k < b .first + b .levels) where
+  halves : 2 ^ (widthOf size - case .k) ≡ 2 ^ (widthOf size - suc (case .k)) + 2 ^ (widthOf size - suc (case .k))
+  halves = pow-half (widthOf size) (case .k) (omega (arith, N .inside, N .fits .slots))
 
-  pub half-is : (w half : ℕ) → w ≡ F .width → half ≡ 2 ^ (w - (case .k + 1)) → half ≡ 2 ^ (F .width - suc (case .k))
-  half-is w half e h = h ∙ ap (λ (x : ℕ). 2 ^ x) (omega arith)
+  pub half-is : (half : ℕ) → half ≡ 2 ^ (widthOf size - (case .k + 1)) → half ≡ 2 ^ (widthOf size - suc (case .k))
+  half-is half h = h ∙ ap (λ (x : ℕ). 2 ^ x) (omega arith)
 
-  pub half-room : (half : ℕ) → half ≡ 2 ^ (F .width - suc (case .k)) → case .number + half < 2 ^ 64
-  half-room half e = omega (arith, N .fits .numbers, halves, pow-pos (F .width - suc (case .k)), pow-mono (N .fits .sensible .word))
+  pub half-room : (half : ℕ) → half ≡ 2 ^ (widthOf size - suc (case .k)) → case .number + half < 2 ^ 64
+  half-room half e = omega (arith, N .fits .numbers, halves, pow-pos (widthOf size - suc (case .k)), pow-mono {i = widthOf size} {j = 64} (omega (arith, N .fits .most)))
 
-  part-fits : (v i : ℕ) → v + 2 ^ (F .width - suc (case .k)) ≤ 2 ^ F .width → 2 * lane ≤ i → i ≤ 2 * lane + 1 → NodeFits F b (partOf case v) i
+  part-fits : (v i : ℕ) → v + 2 ^ (widthOf size - suc (case .k)) ≤ 2 ^ widthOf size → 2 * lane ≤ i → i ≤ 2 * lane + 1 → NodeFits size b (partOf case v) i
   part-fits v i h l m =
       let e : case .k + 1 - b .first ≡ suc (case .k - b .first) = omega (arith, N .below-first) in
       let p = pow-suc 2 (case .k - b .first) in
       let q = pow-suc 2 (suc (case .k - b .first)) in
       record {
-        fits = record { sensible = N .fits .sensible; slots = omega (arith, N .fits .slots, N .inside); numbers = subst (λ (x : ℕ). v + 2 ^ (F .width - x) ≤ 2 ^ F .width) (omega arith) h };
+        fits = record { least = N .fits .least; most = N .fits .most; slots = omega (arith, N .fits .slots, N .inside); numbers = subst (λ (x : ℕ). v + 2 ^ (widthOf size - x) ≤ 2 ^ widthOf size) (omega arith) h };
         few = N .few;
         inside = omega (arith, N .inside);
         below-first = omega (arith, N .below-first);
@@ -179,18 +178,18 @@ module _ (F : Limits) (b : walk.Block) (case : Case) (lane : ℕ) (N : NodeFits 
         lane-to = rw e (omega (arith, N .lane-to));
       }
 
-  pub first-fits : NodeFits F b (partOf case (case .number)) (2 * lane)
+  pub first-fits : NodeFits size b (partOf case (case .number)) (2 * lane)
   first-fits = part-fits (case .number) (2 * lane) (omega (arith, N .fits .numbers, halves)) (omega arith) (omega arith)
 
-  pub second-fits : (half : ℕ) → half ≡ 2 ^ (F .width - suc (case .k)) → NodeFits F b (partOf case (case .number + half)) (2 * lane + 1)
+  pub second-fits : (half : ℕ) → half ≡ 2 ^ (widthOf size - suc (case .k)) → NodeFits size b (partOf case (case .number + half)) (2 * lane + 1)
   second-fits half e = part-fits (case .number + half) (2 * lane + 1) (omega (arith, N .fits .numbers, halves)) (omega arith) (omega arith)
 
-  module _ (problem steps actions : List ℕ) (at : Places) (c : List ℕ) (T : Task) (A : NodeAt F problem steps actions at c b case lane T) where
+  module _ (problem steps actions : List ℕ) (at : Places) (c : List ℕ) (T : Task) (A : NodeAt size problem steps actions at c b case lane T) where
     k<n : case .k < T .facts
     k<n = omega (arith, N .inside, A .case-at .left-facts)
 
     n≤w : T .facts ≤ T .width
-    n≤w = omega (arith, A .case-at .width, A .case-at .left-facts, N .fits .slots, N .fits .sensible .width)
+    n≤w = omega (arith, A .case-at .width, A .case-at .left-facts, N .fits .slots)
 
     block : Block (T .width) (case .k) (case .number)
     block = block-of-mod (T .width) (case .k) (case .number) (A .case-at .begins)
@@ -205,7 +204,7 @@ module _ (F : Limits) (b : walk.Block) (case : Case) (lane : ℕ) (N : NodeFits 
     part-at :
         (v i : ℕ) (x : Kleene) → Block (T .width) (suc (case .k)) v →
         blockCase (A .root) (b .first) (b .levels) i ≡ set (blockCase (A .root) (b .first) (b .levels) lane) (b .first + (case .k - b .first)) x →
-        caseOf (T .width) (T .facts) (suc (case .k)) v ≡ set (valuesOf T case) (case .k) x → NodeAt F problem steps actions at c b (partOf case v) i T
+        caseOf (T .width) (T .facts) (suc (case .k)) v ≡ set (valuesOf T case) (case .k) x → NodeAt size problem steps actions at c b (partOf case v) i T
     part-at v i x B e f =
         let s : suc (case .k) ≡ case .k + 1 = omega arith in
         let level : b .first + (case .k - b .first) ≡ case .k = omega (arith, N .below-first) in
@@ -224,13 +223,13 @@ module _ (F : Limits) (b : walk.Block) (case : Case) (lane : ℕ) (N : NodeFits 
           lane-is = e ∙ (λ j. set (A .lane-is j) (level j) x) ∙ sym f ∙ ap (λ (k : ℕ). caseOf (T .width) (T .facts) k v) s;
         }
 
-    pub first-at : NodeAt F problem steps actions at c b (partOf case (case .number)) (2 * lane) T
+    pub first-at : NodeAt size problem steps actions at c b (partOf case (case .number)) (2 * lane) T
     first-at =
         part-at (case .number) (2 * lane) No smaller
         (part-no (A .root) (b .first) (b .levels) (case .k - b .first) lane (N .few) (omega (arith, N .below-first)) (N .lane-from) (N .lane-to) room)
         (case-no (T .width) (T .facts) (case .k) (case .number) k<n n≤w block)
 
-    pub second-at : (half : ℕ) → half ≡ 2 ^ (T .width - suc (case .k)) → NodeAt F problem steps actions at c b (partOf case (case .number + half)) (2 * lane + 1) T
+    pub second-at : (half : ℕ) → half ≡ 2 ^ (T .width - suc (case .k)) → NodeAt size problem steps actions at c b (partOf case (case .number + half)) (2 * lane + 1) T
     second-at half e =
         rw e
         (part-at (case .number + 2 ^ (T .width - suc (case .k))) (2 * lane + 1) Yes (next-block (T .width) (suc (case .k)) (case .number) smaller)
@@ -262,11 +261,11 @@ failed-adds n a r s b h e = subst (Addable n a) e h
 pub closed-adds : (n a : ℕ) (r : Ending) (m b next : ℕ) → Addable n a r → r ≡ Closed m b next → (a + b + 1 < 2 ^ 64) × (n + m < 2 ^ 64)
 closed-adds n a r m b next h e = subst (Addable n a) e h
 
-module _ (F : Limits) (problem steps actions : List ℕ) (at : Places) (c : List ℕ) (b : walk.Block) (case : Case) (lane g : ℕ) (before : List ℕ) (to : ℕ)
-    (N : NodeFits F b case lane) (inner : case .k < b .first + b .levels) (r₁ : Ending) (mid : List ℕ)
-    (W₁ : WalksNode F problem steps actions at c b (partOf case (case .number)) (2 * lane) g r₁ before to mid) where
+module _ (size : ℕ) (problem steps actions : List ℕ) (at : Places) (c : List ℕ) (b : walk.Block) (case : Case) (lane g : ℕ) (before : List ℕ) (to : ℕ)
+    (N : NodeFits size b case lane) (inner : case .k < b .first + b .levels) (r₁ : Ending) (mid : List ℕ)
+    (W₁ : WalksNode size problem steps actions at c b (partOf case (case .number)) (2 * lane) g r₁ before to mid) where
   abbrev Joined : Ending → List ℕ → Type 0
-  Joined r after = WalksParts F problem steps actions at c b case lane g r before to after
+  Joined r after = WalksParts size problem steps actions at c b case lane g r before to after
 
   abbrev partWalk : Task → ℕ → Walked
   partWalk T v = walkOf T (case .left - 1) (suc (case .k)) v
@@ -274,45 +273,45 @@ module _ (F : Limits) (problem steps actions : List ℕ) (at : Places) (c : List
   -- how a part's walk ended, as the definition counts
   part-ended :
       (T : Task) (g v : ℕ) (r : Ending) (before : List ℕ) (to : ℕ) (after : List ℕ) →
-      Ended F g (walkOf T (case .left - 1) (case .k + 1) v) r before to after → Ended F g (partWalk T v) r before to after
-  part-ended T g v r before to after = subst (λ (k : ℕ). Ended F g (walkOf T (case .left - 1) k v) r before to after) (omega arith)
+      Ended size g (walkOf T (case .left - 1) (case .k + 1) v) r before to after → Ended size g (partWalk T v) r before to after
+  part-ended T g v r before to after = subst (λ (k : ℕ). Ended size g (walkOf T (case .left - 1) k v) r before to after) (omega arith)
 
-  first-ended : (T : Task) → NodeAt F problem steps actions at c b case lane T → (r : Ending) → r₁ ≡ r → Ended F g (partWalk T (case .number)) r before to mid
+  first-ended : (T : Task) → NodeAt size problem steps actions at c b case lane T → (r : Ending) → r₁ ≡ r → Ended size g (partWalk T (case .number)) r before to mid
   first-ended T A r e =
-      subst (λ (q : Ending). Ended F g (partWalk T (case .number)) q before to mid) e
-      (part-ended T g (case .number) r₁ before to mid (W₁ .is T (first-at F b case lane N inner problem steps actions at c T A)))
+      subst (λ (q : Ending). Ended size g (partWalk T (case .number)) q before to mid) e
+      (part-ended T g (case .number) r₁ before to mid (W₁ .is T (first-at size b case lane N inner problem steps actions at c T A)))
 
   pub parts-out : r₁ ≡ Out → Joined Out mid
-  parts-out e = record { counted = tt; size = W₁ .size; is = λ T A. omega (arith, first-ended T A Out e, visits-join (partWalk T (case .number)) (partWalk T (case .number + 2 ^ (T .width - suc (case .k))))) }
+  parts-out e = record { counted = tt; same = W₁ .same; is = λ T A. omega (arith, first-ended T A Out e, visits-join (partWalk T (case .number)) (partWalk T (case .number + 2 ^ (T .width - suc (case .k))))) }
 
   pub parts-failed : (s a : ℕ) → r₁ ≡ Failed s a → Joined (Failed s (a + 1)) mid
   parts-failed s a e =
       let h = failed-count g r₁ s a (W₁ .counted) e in
       let i : suc a ≡ a + 1 = omega arith in
-      record { counted = omega arith; size = W₁ .size; is = λ T A. (rw (first-ended T A (Failed s a) e .0, i), omega arith) }
+      record { counted = omega arith; same = W₁ .same; is = λ T A. (rw (first-ended T A (Failed s a) e .0, i), omega arith) }
 
   pub parts-joined :
-      (n a next : ℕ) → r₁ ≡ Closed n a next → (half : ℕ) → half ≡ 2 ^ (F .width - suc (case .k)) → (r₂ : Ending) (after : List ℕ) →
-      WalksNode F problem steps actions at c b (partOf case (case .number + half)) (2 * lane + 1) (g - a) r₂ mid next after →
+      (n a next : ℕ) → r₁ ≡ Closed n a next → (half : ℕ) → half ≡ 2 ^ (widthOf size - suc (case .k)) → (r₂ : Ending) (after : List ℕ) →
+      WalksNode size problem steps actions at c b (partOf case (case .number + half)) (2 * lane + 1) (g - a) r₂ mid next after →
       (r : Ending) → r ≡ joins n a r₂ → Joined r after
   parts-joined n a next closes half e r₂ after W₂ r i =
       let k = closed-count g r₁ n a next (W₁ .counted) closes in
       rw i
       (record {
         counted = counted-joins g n a r₂ (k .0) (k .1) (W₂ .counted);
-        size = W₂ .size ∙ W₁ .size;
+        same = W₂ .same ∙ W₁ .same;
         is =
             λ T A.
             let (ls, y, z, u, p) = first-ended T A (Closed n a next) closes in
             let w : half ≡ 2 ^ (T .width - suc (case .k)) = e ∙ rw (A .case-at .width) in
-            let v = part-ended T (g - a) (case .number + half) r₂ mid next after (W₂ .is T (second-at F b case lane N inner problem steps actions at c T A half w)) in
-            rw (y, ← w) (join-closed (N .fits .sensible) g n a next to ls _ r₂ before mid after (W₁ .size) z u p v);
+            let v = part-ended T (g - a) (case .number + half) r₂ mid next after (W₂ .is T (second-at size b case lane N inner problem steps actions at c T A half w)) in
+            rw (y, ← w) (join-closed size (N .fits .least) g n a next to ls _ r₂ before mid after (W₁ .same) z u p v);
       })
 
 -- ---- a block
 
-pub block-fits : (F : Limits) (case : Case) (levels x y : ℕ) → BlockFits F case levels → NodeFits F (record { first = case .k; levels = levels; empty = x; carries = y }) case 1
-block-fits F case levels x y B =
+pub block-fits : (size : ℕ) (case : Case) (levels x y : ℕ) → BlockFits size case levels → NodeFits size (record { first = case .k; levels = levels; empty = x; carries = y }) case 1
+block-fits size case levels x y B =
     let z : case .k - case .k ≡ 0 = omega arith in
     record {
       fits = B .fits;
@@ -325,14 +324,14 @@ block-fits F case levels x y B =
     }
 
 pub block-walks :
-    (F : Limits) (problem steps actions : List ℕ) (at : Places) (c : List ℕ) (case : Case) (levels g : ℕ) (before : List ℕ) (to : ℕ) (B : BlockFits F case levels) (found : Looks) →
+    (size : ℕ) (problem steps actions : List ℕ) (at : Places) (c : List ℕ) (case : Case) (levels g : ℕ) (before : List ℕ) (to : ℕ) (B : BlockFits size case levels) (found : Looks) →
     LooksAtCases problem steps actions (at .initial) (at .goal) c found → (r : Ending) (after : List ℕ) →
-    WalksNode F problem steps actions at c (record { first = case .k; levels = levels; empty = found .empty; carries = found .carries }) case 1 g r before to after →
-    WalksBlock F problem steps actions at c case levels g r before to after
-block-walks F problem steps actions at c case levels g before to B found L r after W =
+    WalksNode size problem steps actions at c (record { first = case .k; levels = levels; empty = found .empty; carries = found .carries }) case 1 g r before to after →
+    WalksBlock size problem steps actions at c case levels g r before to after
+block-walks size problem steps actions at c case levels g before to B found L r after W =
     record {
       counted = W .counted;
-      size = W .size;
+      same = W .same;
       is =
           λ T A.
           W .is T
@@ -354,14 +353,14 @@ block-walks F problem steps actions at c case levels g before to B found L r aft
 
 -- an open case at a block's edge begins a block of its own
 pub node-edge :
-    (F : Limits) (problem steps actions : List ℕ) (at : Places) (c : List ℕ) (b : walk.Block) (case : Case) (lane g : ℕ) (before : List ℕ) (to : ℕ) (N : NodeFits F b case lane)
+    (size : ℕ) (problem steps actions : List ℕ) (at : Places) (c : List ℕ) (b : walk.Block) (case : Case) (lane g : ℕ) (before : List ℕ) (to : ℕ) (N : NodeFits size b case lane)
     (path below : List ℕ) (levels : ℕ) → FixesPath c (b .first) (b .levels) lane path → FixesLevels path (case .k) levels below → LevelsOf (case .left) levels →
-    (r : Ending) (after : List ℕ) → WalksBlock F problem steps actions at below case levels g r before to after →
-    WalksNode F problem steps actions at c b case lane g r before to after
-node-edge F problem steps actions at c b case lane g before to N path below levels P X L r after W =
+    (r : Ending) (after : List ℕ) → WalksBlock size problem steps actions at below case levels g r before to after →
+    WalksNode size problem steps actions at c b case lane g r before to after
+node-edge size problem steps actions at c b case lane g before to N path below levels P X L r after W =
     record {
       counted = W .counted;
-      size = W .size;
+      same = W .same;
       is =
           λ T A.
           W .is T
@@ -376,5 +375,5 @@ node-edge F problem steps actions at c b case lane g before to N path below leve
           });
     }
 
-pub edge-fits : (F : Limits) (b : walk.Block) (case : Case) (lane levels : ℕ) → NodeFits F b case lane → LevelsOf (case .left) levels → BlockFits F case levels
-edge-fits F b case lane levels N L = record { fits = N .fits; levels-of = L }
+pub edge-fits : (size : ℕ) (b : walk.Block) (case : Case) (lane levels : ℕ) → NodeFits size b case lane → LevelsOf (case .left) levels → BlockFits size case levels
+edge-fits size b case lane levels N L = record { fits = N .fits; levels-of = L }

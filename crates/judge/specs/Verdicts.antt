@@ -18,14 +18,14 @@ use Rattle.judge.specs.declared.walk.Ending.{Ending}
 use Rattle.judge.specs.Walks.{Walks}
 
 abbrev pub WalksTask : Limits → List ℕ → List ℕ → Problem → ℕ → Ending → List ℕ → ℕ → List ℕ → Type 0
-WalksTask F problem steps parts g r before to after = Walks F (TaskIn F problem steps parts) walked g r before to after
+WalksTask F problem steps parts g r before to after = Walks (F .line) (TaskIn F problem steps parts) walked g r before to after
 
 pub record OutcomeOf (F : Limits) (problem steps : List ℕ) (parts : Problem) (x : ℕ) (r : Outcome) : Type 0 where
   pub is : (T : Task) → TaskIn F problem steps parts T → IsState T x → outcome r ≡ runOf T x
 
 -- the lines of a right verdict stand in the buffer from `to` on, if they fit
 abbrev pub LaysLines : Limits → Verdict (List Line) → List ℕ → ℕ → List ℕ → Type 0
-LaysLines F (right ls a) before to after = Puts F before to ls (to + F .line * length ls) after
+LaysLines F (right ls a) before to after = Puts (F .line) before to ls (to + F .line * length ls) after
 LaysLines F (wrong s o a) before to after = Unit {0}
 LaysLines F (undecided a) before to after = Unit {0}
 

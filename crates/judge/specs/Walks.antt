@@ -3,16 +3,15 @@ use mathlib.Core.Path.{_≡_}
 use mathlib.Core.List.{List}
 use Prim.Native.Nat.{ℕ, suc, _+_, _-_, _%_, _^_, _≤_, _<_}
 use lib.ListN.{length}
-use Rattle.model.specs.declared.Limits.{Limits}
 use Rattle.model.specs.Kleene.{Kleene, three}
 use Rattle.model.specs.Formula.{eval}
 use Rattle.model.specs.Run.{run}
 use Rattle.model.specs.Case.{caseOf, Task}
 use Rattle.model.specs.Walk.{Line, Walked, covered, failed, visits, join, walkFrom, lookOf, lookAt}
-use Rattle.model.specs.WellFormed.{Sensible}
 use Rattle.model.specs.Planes.{laneBit, Table}
 use Rattle.blocks.specs.Standing.{TaskStands}
 use Rattle.table.specs.Blocks.{blockCase}
+use Rattle.lines.specs.Lines.{widthOf}
 use Rattle.lines.specs.Putting.{Puts}
 use Rattle.execute.specs.Cases.{lookBits}
 use Rattle.blocks.specs.declared.problem.Places.{Places}
@@ -24,11 +23,11 @@ use Rattle.judge.specs.declared.walk.Ending.the-variants.{Out, Failed, C
 -- ---- how a walk ends
 
 -- the walk w under a grant: it needs more visits; it failed at s; or it closed, and its lines stand in the buffer from `to` on, if they fit
-abbrev pub Ended : Limits → ℕ → Walked → Ending → List ℕ → ℕ → List ℕ → Type 0
-Ended F g w Out before to after = g < visits w
-Ended F g w (Failed s a) before to after = (w ≡ failed s a) × (a ≤ g)
-Ended F g w (Closed n a next) before to after =
-    (ls : List Line) × (w ≡ covered ls a) × (length ls ≡ n) × (a ≤ g) × Puts F before to ls next after
+abbrev pub Ended : ℕ → ℕ → Walked → Ending → List ℕ → ℕ → List ℕ → Type 0
+Ended size g w Out before to after = g < visits w
+Ended size g w (Failed s a) before to after = (w ≡ failed s a) × (a ≤ g)
+Ended size g w (Closed n a next) before to after =
+    (ls : List Line) × (w ≡ covered ls a) × (length ls ≡ n) × (a ≤ g) × Puts size before to ls next after
 
 -- what may be added up, whatever stands in the blocks
 abbrev pub Counted : ℕ → Ending → Type 0
@@ -37,10 +36,10 @@ Counted g (Failed s a) = a ≤ g
 Counted g (Closed n a next) = (a ≤ g) × (n ≤ a)
 
 -- the walk w of every task that is given so
-pub record Walks (F : Limits) (Given : Task → Type 0) (w : Task → Walked) (g : ℕ) (r : Ending) (before : List ℕ) (to : ℕ) (after : List ℕ) : Type 0 where
+pub record Walks (size : ℕ) (Given : Task → Type 0) (w : Task → Walked) (g : ℕ) (r : Ending) (before : List ℕ) (to : ℕ) (after : List ℕ) : Type 0 where
   pub counted : Counted g r
-  pub size : length after ≡ length before
-  pub is : (T : Task) → Given T → Ended F g (w T) r before to after
+  pub same : length after ≡ length before
+  pub is : (T : Task) → Given T → Ended size g (w T) r before to after
 
 -- ---- a case and its block
 
@@ -48,15 +47,16 @@ pub record Walks (F : Limits) (Given : Task → Type 0) (w : Task → Walked) (g
 abbrev pub walkOf : Task → ℕ → ℕ → ℕ → Walked
 walkOf T d k v = walkFrom (T .width) (lookAt T) d (lookAt T k v) k v
 
--- no number of a case leaves the range of a version's
-pub record CaseFits (F : Limits) (case : Case) : Type 0 where
-  pub sensible : Sensible F
-  pub slots : case .k + case .left ≤ F .facts
-  pub numbers : case .number + 2 ^ (F .width - case .k) ≤ 2 ^ F .width
+-- no number of a case leaves its range, where a line has so many bytes
+pub record CaseFits (size : ℕ) (case : Case) : Type 0 where
+  pub least : 2 < size
+  pub most : size ≤ 10
+  pub slots : case .k + case .left ≤ widthOf size
+  pub numbers : case .number + 2 ^ (widthOf size - case .k) ≤ 2 ^ widthOf size
 
--- a case of T, whose states are as wide as the version's
-pub record CaseAt (F : Limits) (T : Task) (case : Case) : Type 0 where
-  pub width : T .width ≡ F .width
+-- a case of T, whose states fill the values of such a line
+pub record CaseAt (size : ℕ) (T : Task) (case : Case) : Type 0 where
+  pub width : T .width ≡ widthOf size
   pub left-facts : case .k + case .left ≡ T .facts
   pub begins : case .number % 2 ^ (T .width - case .k) ≡ 0
 
@@ -68,24 +68,24 @@ pub record LevelsOf (left r : ℕ) : Type 0 where
   pub inside : r ≤ left
   pub some : 0 < left → 0 < r
 
-pub record BlockFits (F : Limits) (case : Case) (levels : ℕ) : Type 0 where
-  pub fits : CaseFits F case
+pub record BlockFits (size : ℕ) (case : Case) (levels : ℕ) : Type 0 where
+  pub fits : CaseFits size case
   pub levels-of : LevelsOf (case .left) levels
 
 -- T stands in the blocks, and c is the table of the case's block
-pub record BlockAt (F : Limits) (problem steps actions : List ℕ) (at : Places) (c : List ℕ) (case : Case) (levels : ℕ) (T : Task) : Type 0 where
+pub record BlockAt (size : ℕ) (problem steps actions : List ℕ) (at : Places) (c : List ℕ) (case : Case) (levels : ℕ) (T : Task) : Type 0 where
   pub stands : TaskStands problem steps actions (at .initial) (at .goal) T
-  pub case-at : CaseAt F T case
+  pub case-at : CaseAt size T case
   pub table : Table c (λ j. blockCase (valuesOf T case) (case .k) levels j)
 
-abbrev pub WalksBlock : Limits → List ℕ → List ℕ → List ℕ → Places → List ℕ → Case → ℕ → ℕ → Ending → List ℕ → ℕ → List ℕ → Type 0
-WalksBlock F problem steps actions at c case levels g r before to after =
-    Walks F (BlockAt F problem steps actions at c case levels) (λ T. walkOf T (case .left) (case .k) (case .number)) g r before to after
+abbrev pub WalksBlock : ℕ → List ℕ → List ℕ → List ℕ → Places → List ℕ → Case → ℕ → ℕ → Ending → List ℕ → ℕ → List ℕ → Type 0
+WalksBlock size problem steps actions at c case levels g r before to after =
+    Walks size (BlockAt size problem steps actions at c case levels) (λ T. walkOf T (case .left) (case .k) (case .number)) g r before to after
 
 -- ---- a lane of a block that was looked at
 
-pub record NodeFits (F : Limits) (b : Block) (case : Case) (lane : ℕ) : Type 0 where
-  pub fits : CaseFits F case
+pub record NodeFits (size : ℕ) (b : Block) (case : Case) (lane : ℕ) : Type 0 where
+  pub fits : CaseFits size case
   pub few : b .levels ≤ 5
   pub inside : b .first + b .levels ≤ case .k + case .left
   pub below-first : b .first ≤ case .k
@@ -94,9 +94,9 @@ pub record NodeFits (F : Limits) (b : Block) (case : Case) (lane : ℕ) : Type 0
   pub lane-to : lane < 2 ^ suc (case .k - b .first)
 
 -- what the block's words say of each lane's case is what a visit finds there, and this lane's case is `case`
-pub record NodeAt (F : Limits) (problem steps actions : List ℕ) (at : Places) (c : List ℕ) (b : Block) (case : Case) (lane : ℕ) (T : Task) : Type 0 where
+pub record NodeAt (size : ℕ) (problem steps actions : List ℕ) (at : Places) (c : List ℕ) (b : Block) (case : Case) (lane : ℕ) (T : Task) : Type 0 where
   pub stands : TaskStands problem steps actions (at .initial) (at .goal) T
-  pub case-at : CaseAt F T case
+  pub case-at : CaseAt size T case
   pub root : List Kleene
   pub sized : length root ≡ T .facts
   pub table : Table c (λ j. blockCase root (b .first) (b .levels) j)
@@ -107,14 +107,14 @@ pub record NodeAt (F : Limits) (problem steps actions : List ℕ) (at : Places) 
       (run three (T .facts) (T .goal) (T .plan) 0 (blockCase root (b .first) (b .levels) j))
   pub lane-is : blockCase root (b .first) (b .levels) lane ≡ valuesOf T case
 
-abbrev pub WalksNode : Limits → List ℕ → List ℕ → List ℕ → Places → List ℕ → Block → Case → ℕ → ℕ → Ending → List ℕ → ℕ → List ℕ → Type 0
-WalksNode F problem steps actions at c b case lane g r before to after =
-    Walks F (NodeAt F problem steps actions at c b case lane) (λ T. walkOf T (case .left) (case .k) (case .number)) g r before to after
+abbrev pub WalksNode : ℕ → List ℕ → List ℕ → List ℕ → Places → List ℕ → Block → Case → ℕ → ℕ → Ending → List ℕ → ℕ → List ℕ → Type 0
+WalksNode size problem steps actions at c b case lane g r before to after =
+    Walks size (NodeAt size problem steps actions at c b case lane) (λ T. walkOf T (case .left) (case .k) (case .number)) g r before to after
 
 -- the two parts of an open case, and its own visit
-abbrev pub WalksParts : Limits → List ℕ → List ℕ → List ℕ → Places → List ℕ → Block → Case → ℕ → ℕ → Ending → List ℕ → ℕ → List ℕ → Type 0
-WalksParts F problem steps actions at c b case lane g r before to after =
-    Walks F (NodeAt F problem steps actions at c b case lane)
+abbrev pub WalksParts : ℕ → List ℕ → List ℕ → List ℕ → Places → List ℕ → Block → Case → ℕ → ℕ → Ending → List ℕ → ℕ → List ℕ → Type 0
+WalksParts size problem steps actions at c b case lane g r before to after =
+    Walks size (NodeAt size problem steps actions at c b case lane)
     (λ T.
     join (walkOf T (case .left - 1) (suc (case .k)) (case .number))
     (walkOf T (case .left - 1) (suc (case .k)) (case .number + 2 ^ (T .width - suc (case .k)))))

@@ -61,7 +61,7 @@ pub fn walk_task(
         steps,
         &actions,
         at,
-        limits,
+        limits.line,
         &c,
         first,
         levels,

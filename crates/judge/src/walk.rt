@@ -8,9 +8,7 @@ ghost use Rattle.judge.specs.Walks.{LevelsOf, BlockFits, NodeFits, Walks
 use blocks::Places;
 use execute::look_at_cases;
 use lines::add_line;
-use model::Limits;
 use numbers::span;
-use numbers::wide;
 use table::fix_levels;
 use table::fix_path;
 use table::lane_bit;
@@ -89,7 +87,7 @@ pub fn walk_block(
     steps: &[u8],
     actions: &[usize; 64],
     at: Places,
-    limits: Limits,
+    size: usize,
     c: &[u64; 256],
     case: Case,
     levels: usize,
@@ -97,8 +95,8 @@ pub fn walk_block(
     out: &mut [u8],
     to: usize,
 ) -> Ending
-    requires { ⌜ (length (now c) ≡ 256) × BlockFits limits case levels ⌝ }
-    ensures { λ r. ⌜ WalksBlock limits (now (problem .entry)) (now (steps .entry)) (now (actions .entry)) at (now (c .entry)) case levels grant r (now (out .entry)) to (now (out .exit)) ⌝ }
+    requires { ⌜ (length (now c) ≡ 256) × BlockFits size case levels ⌝ }
+    ensures { λ r. ⌜ WalksBlock size (now (problem .entry)) (now (steps .entry)) (now (actions .entry)) at (now (c .entry)) case levels grant r (now (out .entry)) to (now (out .exit)) ⌝ }
 {
     let found = look_at_cases(problem, steps, actions, at.initial, at.goal, c);
     let block = Block {
@@ -112,7 +110,7 @@ pub fn walk_block(
         steps,
         actions,
         at,
-        limits,
+        size,
         c,
         block,
         case,
@@ -129,7 +127,7 @@ fn walk_node(
     steps: &[u8],
     actions: &[usize; 64],
     at: Places,
-    limits: Limits,
+    size: usize,
     c: &[u64; 256],
     block: Block,
     case: Case,
@@ -138,14 +136,14 @@ fn walk_node(
     out: &mut [u8],
     to: usize,
 ) -> Ending
-    requires { ⌜ (length (now c) ≡ 256) × NodeFits limits block case lane ⌝ }
-    ensures { λ r. ⌜ WalksNode limits (now (problem .entry)) (now (steps .entry)) (now (actions .entry)) at (now (c .entry)) block case lane grant r (now (out .entry)) to (now (out .exit)) ⌝ }
+    requires { ⌜ (length (now c) ≡ 256) × NodeFits size block case lane ⌝ }
+    ensures { λ r. ⌜ WalksNode size (now (problem .entry)) (now (steps .entry)) (now (actions .entry)) at (now (c .entry)) block case lane grant r (now (out .entry)) to (now (out .exit)) ⌝ }
 {
     if grant == 0 {
         return Ending::Out;
     }
     if lane_bit(block.empty, lane) == 1 {
-        let next = add_line(out, to, limits, EMPTY, case.k, case.number);
+        let next = add_line(out, to, size, EMPTY, case.k, case.number);
         return Ending::Closed {
             lines: 1,
             visits: 1,
@@ -153,7 +151,7 @@ fn walk_node(
         };
     }
     if lane_bit(block.carries, lane) == 1 {
-        let next = add_line(out, to, limits, CARRIES, case.k, case.number);
+        let next = add_line(out, to, size, CARRIES, case.k, case.number);
         return Ending::Closed {
             lines: 1,
             visits: 1,
@@ -166,7 +164,7 @@ fn walk_node(
             steps,
             actions,
             at,
-            limits,
+            size,
             c,
             block,
             case,
@@ -191,7 +189,7 @@ fn walk_node(
         steps,
         actions,
         at,
-        limits,
+        size,
         &below,
         case,
         levels,
@@ -207,7 +205,7 @@ fn walk_parts(
     steps: &[u8],
     actions: &[usize; 64],
     at: Places,
-    limits: Limits,
+    size: usize,
     c: &[u64; 256],
     block: Block,
     case: Case,
@@ -216,8 +214,8 @@ fn walk_parts(
     out: &mut [u8],
     to: usize,
 ) -> Ending
-    requires { ⌜ (length (now c) ≡ 256) × NodeFits limits block case lane × (case .k < block .first + block .levels) × (grant < 18446744073709551615) ⌝ }
-    ensures { λ r. ⌜ WalksParts limits (now (problem .entry)) (now (steps .entry)) (now (actions .entry)) at (now (c .entry)) block case lane grant r (now (out .entry)) to (now (out .exit)) ⌝ }
+    requires { ⌜ (length (now c) ≡ 256) × NodeFits size block case lane × (case .k < block .first + block .levels) × (grant < 18446744073709551615) ⌝ }
+    ensures { λ r. ⌜ WalksParts size (now (problem .entry)) (now (steps .entry)) (now (actions .entry)) at (now (c .entry)) block case lane grant r (now (out .entry)) to (now (out .exit)) ⌝ }
 {
     let first = Case {
         k: case.k + 1,
@@ -229,7 +227,7 @@ fn walk_parts(
         steps,
         actions,
         at,
-        limits,
+        size,
         c,
         block,
         first,
@@ -248,7 +246,7 @@ fn walk_parts(
             visits,
             next,
         } => {
-            let half = span(wide(limits.width), case.k + 1);
+            let half = span(8 * (size - 2), case.k + 1);
             let second = Case {
                 k: case.k + 1,
                 left: case.left - 1,
@@ -259,7 +257,7 @@ fn walk_parts(
                 steps,
                 actions,
                 at,
-                limits,
+                size,
                 c,
                 block,
                 second,

@@ -1,4 +1,4 @@
--- What writing lines leaves in a buffer; F are the numbers of the version in which they are written.
+-- What writing lines leaves in a buffer; a line has `size` bytes.
 use mathlib.Core.Path.{_≡_}
 use mathlib.Core.List.{List, [], _∷_}
 use Prim.Native.Nat.{ℕ, _+_, _*_, _≤_}
@@ -11,15 +11,16 @@ use Rattle.model.specs.ListBytes.{linesBytes}
 abbrev pub lineOf : ℕ → ℕ → ℕ → Line
 lineOf kind k value = record { kind = kind; k = k; value = value }
 
--- the lines ls were put into `before` at `to`; they end at r, and the buffer is `after`
-pub record Put (F : Limits) (before : List ℕ) (to : ℕ) (ls : List Line) (r : ℕ) (after : List ℕ) : Type 0 where
-  pub end : r ≡ to + F .line * length ls
-  pub bytes : after ≡ sets before to (linesBytes F ls)
+-- the lines ls were put into `before` at `to`; they end at r, and the buffer is `after`: their bytes are those of every version whose
+-- lines have this size
+pub record Put (size : ℕ) (before : List ℕ) (to : ℕ) (ls : List Line) (r : ℕ) (after : List ℕ) : Type 0 where
+  pub end : r ≡ to + size * length ls
+  pub bytes : (F : Limits) → F .line ≡ size → after ≡ sets before to (linesBytes F ls)
 
 -- so they were if they fit
-abbrev pub Puts : Limits → List ℕ → ℕ → List Line → ℕ → List ℕ → Type 0
-Puts F before to ls r after = to + F .line * length ls ≤ length before → Put F before to ls r after
+abbrev pub Puts : ℕ → List ℕ → ℕ → List Line → ℕ → List ℕ → Type 0
+Puts size before to ls r after = to + size * length ls ≤ length before → Put size before to ls r after
 
-pub record AddsLine (F : Limits) (before : List ℕ) (to kind k value r : ℕ) (after : List ℕ) : Type 0 where
-  pub size : length after ≡ length before
-  pub is : Puts F before to (lineOf kind k value ∷ []) r after
+pub record AddsLine (size : ℕ) (before : List ℕ) (to kind k value r : ℕ) (after : List ℕ) : Type 0 where
+  pub same : length after ≡ length before
+  pub is : Puts size before to (lineOf kind k value ∷ []) r after

@@ -80,7 +80,7 @@ module _ (n : ℕ) (before after : List ℕ) (room : 65533 ≤ length before) wh
   unfolding listText
   list-is ls true e ok a lays =
       let h : 5 + 8 * length ls ≤ length before = omega (arith, leb-true (length ls) 8191 e) in
-      let z = lays h .bytes in
+      let z = lays h .bytes version1 refl in
       rw e
       (listed-is n after (length ls) 0 5 refl ∙
       ap (λ (l : List ℕ). linesText version1 n (linesFrom version1 l (length ls) 5)) z ∙

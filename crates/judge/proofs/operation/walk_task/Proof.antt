@@ -10,7 +10,7 @@ walk-block-requires c κs = (search needs, whole-fits _ _ _ (c .before .before .
 
 returns : tie.Need-returns
 returns c = let w = c .before .before .before .before .before .before .before .before .before .before .before in
-    walks-task _ _ _ (w .before .before .before .before .args .parts) _ _ _ (w .wide .ensures .0) (c .before .before .before .before .before .before .before .before .before .first-levels .ensures) _ _ (c .before .before .before .before .before .before .before .before .none-fixed .ensures) (c .before .before .before .before .before .before .fix-levels .ensures) _ _ _ _ (c .before .before .walk-block .ensures)
+    walks-task _ (w .before .before .before .before .pre .0) _ _ (w .before .before .before .before .args .parts) _ _ _ (w .wide .ensures .0) (c .before .before .before .before .before .before .before .before .before .first-levels .ensures) _ _ (c .before .before .before .before .before .before .before .before .none-fixed .ensures) (c .before .before .before .before .before .before .fix-levels .ensures) _ _ _ _ (c .before .before .walk-block .ensures)
 
 pub walk-task-spec : {M : Type 1} → statement M
 walk-task-spec =

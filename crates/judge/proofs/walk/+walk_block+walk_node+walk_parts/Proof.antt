@@ -16,7 +16,6 @@ use Rattle.judge.proofs.walk.joined.Reads as joined-reads
 use Rattle.judge.proofs.walk.levels_of.Reads as levels-of-reads
 use Rattle.lines.proofs.add_line.Reads as add-line-reads
 use Rattle.numbers.proofs.span.Reads as span-reads
-use Rattle.numbers.proofs.wide.Reads as wide-reads
 use Rattle.table.proofs.fix_levels.Reads as fix-levels-reads
 use Rattle.table.proofs.fix_path.Reads as fix-path-reads
 use Rattle.table.proofs.lane_bit.Reads as lane-bit-reads
@@ -66,7 +65,7 @@ abbrev walk-node-calls : ℕ → walk-node-lts.Claims
 walk-node-calls t = (lane-bit-reads.Asked, lane-bit-reads.Learnt, add-line-reads.Asked, add-line-reads.Learnt, walk-parts-below t, walk-parts.Post, fix-path-reads.Asked, fix-path-reads.Learnt, levels-of-reads.Asked, levels-of-reads.Learnt, fix-levels-reads.Asked, fix-levels-reads.Learnt, walk-block-below t, walk-block.Post)
 
 abbrev walk-parts-calls : ℕ → walk-parts-lts.Claims
-walk-parts-calls t = (walk-node-below t, walk-node.Post, wide-reads.Asked, wide-reads.Learnt, span-reads.Asked, span-reads.Learnt, joined-reads.Asked, joined-reads.Learnt)
+walk-parts-calls t = (walk-node-below t, walk-node.Post, span-reads.Asked, span-reads.Learnt, joined-reads.Asked, joined-reads.Learnt)
 
 walk-block-look-at-cases-requires : (t : ℕ) → walk-block-lts.Need-look-at-cases-requires (walk-block-calls t) (walk-block-at t) walk-block.Post
 walk-block-look-at-cases-requires t c κs = c .before .before .before .pre .1 .0
@@ -161,7 +160,7 @@ pub +walk-block+walk-node+walk-parts-spec : {M : Type 1} → statement M
     λ t. walk-parts-lts.spec (walk-parts-calls t)
     (walk-parts-at t)
     walk-parts.Post
-    (λ c. omega (arith, c .before .before .before .before .pre .1 .1 .fits .slots, c .before .before .before .before .pre .1 .1 .fits .sensible .facts))
+    (λ c. let f = c .before .before .before .before .pre .1 .1 .fits in omega (arith, f .slots, f .most))
     (λ c. omega (arith, c .before .before .before .before .before .pre .1 .1 .inside, c .before .before .before .before .before .pre .1 .2))
     (λ c. omega (arith, lane-small _ _ _ _ (c .before .before .before .before .before .pre .1 .1)))
     (λ c κs. let p = c .before .before .before .before .before .before .pre in (omega (arith, p .0, p .1 .1 .inside, p .1 .2), (p .1 .0, first-fits _ _ _ _ (p .1 .1) (p .1 .2))))
@@ -169,20 +168,21 @@ pub +walk-block+walk-node+walk-parts-spec : {M : Type 1} → statement M
     (λ c. search needs)
     (λ c. omega (arith, failed-count _ _ _ _ (c .before .before .before .before .before .walk-node .ensures .counted) (c .before .state .given .1), c .before .before .before .before .before .before .before .before .before .before .before .before .pre .1 .3))
     (λ c. search needs)
-    (λ c κs. search needs)
-    (λ c. let f = c .before .before .before .before .before .before .before .before .before .before .before .before .before .before .pre .1 .1 .fits in omega (arith, f .slots, f .sensible .facts))
-    (λ c κs. let p = c .before .before .before .before .before .before .before .before .before .before .before .before .before .before .pre in let f = p .1 .1 .fits in omega (arith, p .1 .1 .inside, p .1 .2, f .slots, f .sensible .width, f .sensible .word, c .before .wide .ensures .0))
-    (λ c. let f = c .before .before .before .before .before .before .before .before .before .before .before .before .before .before .before .before .pre .1 .1 .fits in omega (arith, f .slots, f .sensible .facts))
-    (λ c. let p = c .before .before .before .before .before .before .before .before .before .before .before .before .before .before .before .before .before .pre in omega (arith, p .1 .1 .inside, p .1 .2))
-    (λ c. let p = c .before .before .before .before .before .before .before .before .before .before .before .before .before .before .before .before .before .before .pre in omega (arith, half-room _ _ _ _ (p .1 .1) (p .1 .2) _ (half-is _ _ _ _ (p .1 .1) (p .1 .2) _ _ (c .before .before .before .before .before .wide .ensures .0) (c .before .before .before .span .ensures))))
-    (λ c. omega (arith, lane-small _ _ _ _ (c .before .before .before .before .before .before .before .before .before .before .before .before .before .before .before .before .before .before .pre .1 .1)))
-    (λ c. omega (arith, lane-small _ _ _ _ (c .before .before .before .before .before .before .before .before .before .before .before .before .before .before .before .before .before .before .pre .1 .1)))
-    (λ c. closed-count _ _ _ _ _ (c .before .before .before .before .before .before .before .before .before .before .before .walk-node .ensures .counted) (c .before .before .before .before .before .before .before .lines .given .1) .0)
-    (λ c κs. let p = c .before .before .before .before .before .before .before .before .before .before .before .before .before .before .before .before .before .before .before .pre in (omega (arith, p .0, p .1 .1 .inside, p .1 .2), (p .1 .0, second-fits _ _ _ _ (p .1 .1) (p .1 .2) _ (half-is _ _ _ _ (p .1 .1) (p .1 .2) _ _ (c .before .before .before .before .before .before .wide .ensures .0) (c .before .before .before .before .span .ensures)))))
-    (λ c κs. let k = closed-count _ _ _ _ _ (c .before .before .before .before .before .before .before .before .before .before .before .before .before .before .before .walk-node .ensures .counted) (c .before .before .before .before .before .before .before .before .before .before .before .lines .given .1) in addable _ _ _ (c .before .before .walk-node2 .result) (c .before .before .before .before .before .before .before .before .before .before .before .before .before .before .before .before .before .before .before .before .before .before .pre .1 .3) (k .0) (k .1) (c .before .before .walk-node2 .ensures .counted))
+    (λ c. let f = c .before .before .before .before .before .before .before .before .before .before .before .before .pre .1 .1 .fits in omega (arith, f .least))
+    (λ c. let f = c .before .before .before .before .before .before .before .before .before .before .before .before .pre .1 .1 .fits in omega (arith, f .most))
+    (λ c. let f = c .before .before .before .before .before .before .before .before .before .before .before .before .before .pre .1 .1 .fits in omega (arith, f .slots, f .most))
+    (λ c κs. let p = c .before .before .before .before .before .before .before .before .before .before .before .before .before .pre in let f = p .1 .1 .fits in omega (arith, p .1 .1 .inside, p .1 .2, f .slots, f .most))
+    (λ c. let f = c .before .before .before .before .before .before .before .before .before .before .before .before .before .before .before .pre .1 .1 .fits in omega (arith, f .slots, f .most))
+    (λ c. let p = c .before .before .before .before .before .before .before .before .before .before .before .before .before .before .before .before .pre in omega (arith, p .1 .1 .inside, p .1 .2))
+    (λ c. let p = c .before .before .before .before .before .before .before .before .before .before .before .before .before .before .before .before .before .pre in omega (arith, half-room _ _ _ _ (p .1 .1) (p .1 .2) _ (half-is _ _ _ _ (p .1 .1) (p .1 .2) _ (c .before .before .before .span .ensures))))
+    (λ c. omega (arith, lane-small _ _ _ _ (c .before .before .before .before .before .before .before .before .before .before .before .before .before .before .before .before .before .pre .1 .1)))
+    (λ c. omega (arith, lane-small _ _ _ _ (c .before .before .before .before .before .before .before .before .before .before .before .before .before .before .before .before .before .pre .1 .1)))
+    (λ c. closed-count _ _ _ _ _ (c .before .before .before .before .before .before .before .before .before .before .walk-node .ensures .counted) (c .before .before .before .before .before .before .lines .given .1) .0)
+    (λ c κs. let p = c .before .before .before .before .before .before .before .before .before .before .before .before .before .before .before .before .before .before .pre in (omega (arith, p .0, p .1 .1 .inside, p .1 .2), (p .1 .0, second-fits _ _ _ _ (p .1 .1) (p .1 .2) _ (half-is _ _ _ _ (p .1 .1) (p .1 .2) _ (c .before .before .before .before .span .ensures)))))
+    (λ c κs. let k = closed-count _ _ _ _ _ (c .before .before .before .before .before .before .before .before .before .before .before .before .before .before .walk-node .ensures .counted) (c .before .before .before .before .before .before .before .before .before .before .lines .given .1) in addable _ _ _ (c .before .before .walk-node2 .result) (c .before .before .before .before .before .before .before .before .before .before .before .before .before .before .before .before .before .before .before .before .before .pre .1 .3) (k .0) (k .1) (c .before .before .walk-node2 .ensures .counted))
     (λ c. search needs)
     (λ c. parts-out _ _ _ _ _ _ _ _ _ _ _ _ (c .before .before .before .before .before .before .before .before .before .before .before .pre .1 .1) (c .before .before .before .before .before .before .before .before .before .before .before .pre .1 .2) _ _ (c .before .before .before .before .walk-node .ensures) (c .enum-told .given .1))
     (λ c. search needs)
     (λ c. parts-failed _ _ _ _ _ _ _ _ _ _ _ _ (c .before .before .before .before .before .before .before .before .before .before .before .before .pre .1 .1) (c .before .before .before .before .before .before .before .before .before .before .before .before .pre .1 .2) _ _ (c .before .before .before .before .before .walk-node .ensures) _ _ (c .before .state .given .1))
     (λ c. search needs)
-    (λ c. let p = c .before .before .before .before .before .before .before .before .before .before .before .before .before .before .before .before .before .before .before .before .before .before .before .pre in parts-joined _ _ _ _ _ _ _ _ _ _ _ _ (p .1 .1) (p .1 .2) _ _ (c .before .before .before .before .before .before .before .before .before .before .before .before .before .before .before .before .walk-node .ensures) _ _ _ (c .before .before .before .before .before .before .before .before .before .before .before .before .lines .given .1) _ (half-is _ _ _ _ (p .1 .1) (p .1 .2) _ _ (c .before .before .before .before .before .before .before .before .before .before .wide .ensures .0) (c .before .before .before .before .before .before .before .before .span .ensures)) _ _ (c .before .before .before .walk-node2 .ensures) _ (c .joined .ensures))
+    (λ c. let p = c .before .before .before .before .before .before .before .before .before .before .before .before .before .before .before .before .before .before .before .before .before .before .pre in parts-joined _ _ _ _ _ _ _ _ _ _ _ _ (p .1 .1) (p .1 .2) _ _ (c .before .before .before .before .before .before .before .before .before .before .before .before .before .before .before .walk-node .ensures) _ _ _ (c .before .before .before .before .before .before .before .before .before .before .before .lines .given .1) _ (half-is _ _ _ _ (p .1 .1) (p .1 .2) _ (c .before .before .before .before .before .before .before .before .span .ensures)) _ _ (c .before .before .before .walk-node2 .ensures) _ (c .joined .ensures))

@@ -13,7 +13,7 @@ returns-2 : tie.Need-returns-2
 returns-2 c = no-room _ _ _ _ _ _ (omega arith)
 
 returns-3 : tie.Need-returns-3
-returns-3 c = adds-line _ _ _ _ _ _ _ _ refl (c .before .before .before .put-line .ensures)
+returns-3 c = adds-line _ _ _ _ _ _ _ _ refl (c .before .before .put-line .ensures)
 
 pub add-line-spec : {M : Type 1} → statement M
 add-line-spec =

@@ -18,7 +18,9 @@ same-length : tie.Need-same-length
 same-length c = ap length (c .before .before .put-number .ensures) ∙ simp (length-sets, length-set)
 
 returns : tie.Need-returns
-returns c = c .before .before .put-number .ensures ∙ line-stored _ _ _ _ _ _
+returns c =
+    let a = c .before .before .before .before .before .args in
+    c .before .before .put-number .ensures ∙ line-stored (a .size) (a .out .now) (a .at) (a .kind) (a .k) (a .value)
 
 pub put-line-spec : {M : Type 1} → statement M
 put-line-spec =
