@@ -16,29 +16,23 @@ use Rattle.model.specs.Run.{Stop, reached, missed, blocked, atEnd, goesOn, run}
 use Rattle.model.specs.Run as Run
 use Rattle.model.specs.Case.{Task}
 use Rattle.model.specs.Walk as Walk
-use Rattle.model.specs.FormulaBytes.{encodeFormula}
-use Rattle.model.specs.ProblemBytes.{effectsBytes, actionBytes, actionAt}
+use Rattle.model.specs.ProblemBytes.{actionAt}
 use Rattle.model.specs.Answers.{outcome}
 use Rattle.model.specs.declared.Outcome.{Outcome}
-use Rattle.model.specs.Planes.{laneBit, someBit, sureBit, Table}
-use Rattle.model.specs.Stands.{Span, ActionAt}
-use Rattle.model.proofs.Laws.Reading.{split}
+use Rattle.model.specs.Planes.{laneBit, someBit, Table}
+use Rattle.model.specs.Stands.{ActionAt}
 use Rattle.model.proofs.Laws.Tabulate.{length-tabulate}
 use Rattle.model.proofs.Laws.Planes.{ones, bit-and, bit-ones, bit-zero, bit-flip}
 use Rattle.evaluate.specs.declared.Planes.{Planes}
 use Rattle.evaluate.specs.Planes.{FormulaPlanes}
 use Rattle.blocks.specs.Standing.{TaskStands}
 use Rattle.table.specs.Tables.{Sized}
-use Rattle.execute.specs.Effects.{AppliesEffects}
+use Rattle.step.specs.Actions.{flag, ObeysAction}
+use Rattle.step.proofs.Obeying.{sure-flag}
 use Rattle.execute.specs.declared.cases.Looks.{Looks}
-use Rattle.execute.specs.Cases.{flag, reachedBit, ObeysAction, RunsCases, lookBits, LooksAtCases, RunsState}
+use Rattle.execute.specs.Cases.{reachedBit, RunsCases, lookBits, LooksAtCases, RunsState}
 
 -- ---- bits
-
-sure-flag : (t : Kleene) → sureBit t ≡ flag (isYes t)
-sure-flag No = refl
-sure-flag Unknown = refl
-sure-flag Yes = refl
 
 end-bit : (b : Bool) → reachedBit (atEnd b) ≡ flag b
 end-bit true = refl
@@ -58,43 +52,6 @@ min-assoc a b c = omega arith
 
 dead : (a x : ℕ) → a ≡ 0 → min a x ≡ 0
 dead a x e = omega arith
-
--- ---- one action
-
-module _ (problem : List ℕ) (p : ℕ) (c : List ℕ) (alive : ℕ) (r : Planes) (x : FormulaPlanes problem c p r) where
-  obeyed :
-      (facts : ℕ) (a : Action) (q : ℕ) → facts ≤ 64 → ActionAt problem facts p a q → (case : ℕ → List Kleene) → Table c case →
-      ((j : ℕ) → j < 64 → laneBit j (bitAnd alive (r .sure)) ≡ min (laneBit j alive) (flag (applicable three a (case j)))) ×
-      Span problem (length problem) (r .next) (length (a .effects) ∷ effectsBytes (a .effects)) q
-  unfolding actionBytes applicable
-  obeyed facts a q h at case t =
-      split (encodeFormula (a .precondition)) (at .bytes) λ m v w.
-      let (e, lanes) = x .is facts (a .precondition) m h (record { ok = at .precondition; bytes = v }) in (
-        (λ j l. bit-and j alive (r .sure) ∙ ap (min (laneBit j alive)) (lanes case t .lane j l .is-sure ∙ sure-flag (eval three (case j) (a .precondition)))),
-        subst (λ (y : ℕ). Span problem (length problem) y (length (a .effects) ∷ effectsBytes (a .effects)) q) (sym e) w,
-      )
-
-  -- no lane goes on
-  pub obeys-none : length c ≡ 256 → bitAnd alive (r .sure) ≡ 0 → ObeysAction problem p c alive c 0
-  obeys-none w e =
-      record {
-        size = w;
-        is =
-            λ facts a q h at case z t. (
-              (λ j l. ap (laneBit j) (sym e) ∙ obeyed facts a q h at case t .0 j l),
-              λ n. absurd (n refl),
-            );
-      }
-
-  pub obeys-some : (d : List ℕ) → AppliesEffects problem (r .next) c d → ObeysAction problem p c alive d (bitAnd alive (r .sure))
-  obeys-some d A =
-      record {
-        size = A .size;
-        is =
-            λ facts a q h at case z t.
-            let (bits, v) = obeyed facts a q h at case t in
-            (bits, λ n. A .is facts a q h (at .few) (at .effects) v case z t);
-      }
 
 -- ---- the run of a task that stands there
 

@@ -1,12 +1,9 @@
--- What an action, a run and a look answer in the 64 cases of a table.
+-- What a run and a look answer in the 64 cases of a table.
 use mathlib.Core.Path.{_≡_}
-use mathlib.Core.Bool.{Bool, true, false}
 use mathlib.Core.List.{List}
-use Prim.Native.Nat.{ℕ, zero, suc, _≤_, _<_, min}
-use lib.ListN.{length}
+use Prim.Native.Nat.{ℕ, zero, suc, _<_, min}
 use Rattle.model.specs.Kleene.{Kleene, three}
 use Rattle.model.specs.Formula.{eval}
-use Rattle.model.specs.Action.{Action, applicable, step}
 use Rattle.model.specs.Run.{reached, missed, blocked, run}
 use Rattle.model.specs.Run as Run
 use Rattle.model.specs.Case.{Task}
@@ -14,27 +11,14 @@ use Rattle.model.specs.Walk as Walk
 use Rattle.model.specs.Answers.{outcome}
 use Rattle.model.specs.declared.Outcome.{Outcome}
 use Rattle.model.specs.Planes.{laneBit, Table}
-use Rattle.model.specs.Stands.{ActionAt}
 use Rattle.blocks.specs.Standing.{TaskStands}
 use Rattle.table.specs.Tables.{Sized}
 use Rattle.execute.specs.declared.cases.Looks.{Looks}
-
-abbrev pub flag : Bool → ℕ
-flag true = 1
-flag false = 0
 
 abbrev pub reachedBit : Run.Outcome → ℕ
 reachedBit reached = 1
 reachedBit missed = 0
 reachedBit (blocked p) = 0
-
--- the lanes r of `alive` in which the action is applicable; where there are some, d is the table after it
-pub record ObeysAction (problem : List ℕ) (at : ℕ) (c : List ℕ) (alive : ℕ) (d : List ℕ) (r : ℕ) : Type 0 where
-  pub size : length d ≡ 256
-  pub is :
-      (facts : ℕ) (a : Action) (q : ℕ) → facts ≤ 64 → ActionAt problem facts at a q → (case : ℕ → List Kleene) → Sized facts case → Table c case →
-      ((j : ℕ) → j < 64 → laneBit j r ≡ min (laneBit j alive) (flag (applicable three a (case j)))) ×
-      ((r ≡ 0 → ⊥) → Table d (λ j. step three facts a (case j)))
 
 -- the lanes r of `lanes` whose run reaches the goal
 pub record RunsCases (problem steps actions : List ℕ) (goal lanes : ℕ) (c : List ℕ) (r : ℕ) : Type 0 where

@@ -1,5 +1,4 @@
 -- What the functions of this crate answer, in the words of model/specs.
 pub mod Promise
-pub mod Effects
 pub mod Cases
 pub mod Start

@@ -1,31 +1,10 @@
-// A plan's run in 64 cases at once: one action, the run to the goal, one look at a table of cases.
+// A plan's run in 64 cases at once: the run to the goal, and one look at a table of cases.
 ghost use mathlib.Core.Path.{_≡_};
 ghost use lib.ListN.{length};
-ghost use Rattle.execute.specs.Cases.{ObeysAction, RunsCases, LooksAtCases};
-use crate::effects::apply_effects;
+ghost use Rattle.execute.specs.Cases.{RunsCases, LooksAtCases};
 use evaluate::formula_planes;
+use step::obey_action;
 use table::ONES;
-
-// Obeys the action that stands at `at`, in the lanes in `alive` in which it is applicable, and answers these.
-pub fn obey_action(
-    problem: &[u8],
-    at: usize,
-    c: &mut [u64; 256],
-    found: &mut [u64; 256],
-    literals: &mut [u8; 128],
-    alive: u64,
-) -> u64
-    requires { ⌜ (length (now c) ≡ 256) × (length (now found) ≡ 256) × (length (now literals) ≡ 128) ⌝ }
-    ensures { λ r. ⌜ ObeysAction (now (problem .entry)) at (now (c .entry)) alive (now (c .exit)) r × (length (now (found .exit)) ≡ 256) × (length (now (literals .exit)) ≡ 128) ⌝ }
-{
-    let r = formula_planes(problem, at, c);
-    let going = alive & r.sure;
-    if going == 0 {
-        return 0;
-    }
-    apply_effects(problem, r.next, c, found, literals);
-    going
-}
 
 // The lanes in `lanes` whose run reaches the goal.
 fn run_cases(

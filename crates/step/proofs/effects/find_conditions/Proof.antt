@@ -1,10 +1,10 @@
 -- `find_conditions` meets its contract. Assumes nothing.
-use Rattle.execute.proofs.effects.find_conditions.Statement.{statement}
-use Rattle.execute.proofs.effects.find_conditions.Tie as tie
+use Rattle.step.proofs.effects.find_conditions.Statement.{statement}
+use Rattle.step.proofs.effects.find_conditions.Tie as tie
 use Prim.Native.Nat.{_-_}
 use borrow.Author.Needs.{needs}
 use native.Mathlib.Omega.{arith}
-use Rattle.execute.proofs.Finding.{Finding, finding-none, finding-many, finding-begins, finding-short, finding-next, finding-ends}
+use Rattle.step.proofs.Finding.{Finding, finding-none, finding-many, finding-begins, finding-short, finding-next, finding-ends}
 
 abbrev Inv-loop : tie.InvT-loop
 Inv-loop s at c found₀ literals₀ e₀ n p₀ found literals e p = Finding s at c found literals n e p

@@ -10,7 +10,7 @@ use native.Mathlib.Nat.{mod-eq-of-lt}
 use lib.ListN.{length, getD, set, drop, length-set}
 use lib.Seq.{getD-set-same, getD-set-other, drop-cons}
 use lib.Bits.{bitOr}
-use Rattle.model.specs.Limits.{maxEffects}
+use Rattle.model.specs.Limits.{maxFacts, maxEffects}
 use Rattle.model.specs.Kleene.{Kleene, No, either, denied, three}
 use Rattle.model.specs.Formula.{Literal, fact, denial, valueOf, eval}
 use Rattle.model.specs.Action.{Effect, step}
@@ -24,8 +24,8 @@ use Rattle.model.proofs.Laws.Planes.{denied-both, lane-either, literal-fact, li
 use Rattle.evaluate.specs.declared.Planes.{Planes}
 use Rattle.evaluate.specs.Planes.{FormulaPlanes}
 use Rattle.table.specs.Tables.{Sized, SetsLiteral}
-use Rattle.execute.specs.Effects.{entryAt, Entries, FindsConditions, settledBy, settled, SettlesEntry, Settles, AppliesEffects}
-use Rattle.execute.proofs.Settling.{length-settled, settled-step}
+use Rattle.step.specs.Effects.{entryAt, Entries, FindsConditions, settledBy, settled, SettlesEntry, Settles, AppliesEffects}
+use Rattle.step.proofs.Settling.{length-settled, settled-step}
 
 -- the entries from number i on
 drop-entry : (es : List Effect) (i : ℕ) → i < length es → drop i es ≡ entryAt es i ∷ drop (i + 1) es
@@ -45,7 +45,7 @@ pub record Finding (s : List ℕ) (at : ℕ) (c found literals : List ℕ) (n e 
   pub few : e ≤ n
   pub small : n ≤ 128
   pub is :
-      (facts : ℕ) (es : List Effect) (q : ℕ) → facts ≤ 64 → length es ≤ maxEffects → EffectsOk facts 0 es → Span s (length s) at (length es ∷ effectsBytes es) q →
+      (facts : ℕ) (es : List Effect) (q : ℕ) → facts ≤ maxFacts → length es ≤ maxEffects → EffectsOk facts 0 es → Span s (length s) at (length es ∷ effectsBytes es) q →
       (n ≡ length es) × Left s facts es q e p × Entries c literals found es e
 
 no-entries : (c literals found : List ℕ) (es : List Effect) → Entries c literals found es 0
@@ -130,7 +130,7 @@ module _ (s : List ℕ) (at : ℕ) (c found literals : List ℕ) (n e p : ℕ) (
     sure-word = getD-set-same found₁ (2 * e + 1) (r .sure) 0 (omega (arith, wide₁, F .small))
 
     next-entry :
-        (facts : ℕ) (es : List Effect) (q : ℕ) → facts ≤ 64 → e < length es → Left s facts es q e p → Entries c literals found es e →
+        (facts : ℕ) (es : List Effect) (q : ℕ) → facts ≤ maxFacts → e < length es → Left s facts es q e p → Entries c literals found es e →
         Left s facts es q (e + 1) (r .next) × Entries c literals′ found′ es (e + 1)
     unfolding effectsBytes
     next-entry facts es q m l left old =
@@ -184,7 +184,7 @@ pub record Settling (n : ℕ) (literals found c : List ℕ) (e : ℕ) (d : List 
   pub size : length d ≡ 256
   pub few : e ≤ n
   pub is :
-      (facts : ℕ) (es : List Effect) → facts ≤ 64 → EffectsOk facts 0 es → n ≡ length es → Entries c literals found es n →
+      (facts : ℕ) (es : List Effect) → facts ≤ maxFacts → EffectsOk facts 0 es → n ≡ length es → Entries c literals found es n →
       (case : ℕ → List Kleene) → Sized facts case → Table c case → Table d (λ j. settled (case j) (drop e es))
 
 drop-all : (es : List Effect) (n : ℕ) → length es ≤ n → drop n es ≡ []
@@ -207,12 +207,12 @@ settling-ends n literals found c e d S h =
     let z : e ≡ 0 = omega arith in
     record { size = S .size; is = λ facts es m ok i x case y t. subst (λ (k : ℕ). Table d (λ j. settled (case j) (drop k es))) z (S .is facts es m ok i x case y t) }
 
-byte-small : (facts : ℕ) (l : Literal) → facts ≤ 64 → Declared facts l → literalByte l < 128
+byte-small : (facts : ℕ) (l : Literal) → facts ≤ maxFacts → Declared facts l → literalByte l < 128
 byte-small facts (fact f) h d = omega arith
 byte-small facts (denial f) h d = omega arith
 
 -- the literal with a literal's byte
-literal-of : (facts : ℕ) (m : Literal) → facts ≤ 64 → Declared facts m → literalOf (literalByte m) ≡ m
+literal-of : (facts : ℕ) (m : Literal) → facts ≤ maxFacts → Declared facts m → literalOf (literalByte m) ≡ m
 literal-of facts (fact f) h d = literal-fact f (omega arith)
 literal-of facts (denial f) h d = literal-denial (f + 64) (omega arith) ∙ ap denial (omega arith)
 

@@ -1,10 +1,10 @@
 -- `settle_entry` meets its contract. Assumes nothing.
 use borrow.Author.Needs.{needs}
-use Rattle.execute.proofs.effects.settle_entry.Statement.{statement}
-use Rattle.execute.proofs.effects.settle_entry.Tie as tie
+use Rattle.step.proofs.effects.settle_entry.Statement.{statement}
+use Rattle.step.proofs.effects.settle_entry.Tie as tie
 use mathlib.Core.Path.{refl}
 use native.Mathlib.Omega.{arith}
-use Rattle.execute.proofs.Finding.{entry-settles}
+use Rattle.step.proofs.Finding.{entry-settles}
 
 returns : tie.Need-returns
 returns c = entry-settles _ _ _ _ _ _ _ refl refl (omega arith) (c .set-literal .ensures)

@@ -1,8 +1,8 @@
 -- `settle` meets its contract. Assumes nothing.
-use Rattle.execute.proofs.effects.settle.Statement.{statement}
-use Rattle.execute.proofs.effects.settle.Tie as tie
+use Rattle.step.proofs.effects.settle.Statement.{statement}
+use Rattle.step.proofs.effects.settle.Tie as tie
 use borrow.Author.Needs.{needs}
-use Rattle.execute.proofs.Finding.{Settling, settling-begins, settling-next, settling-ends}
+use Rattle.step.proofs.Finding.{Settling, settling-begins, settling-next, settling-ends}
 
 abbrev Inv-loop : tie.InvT-loop
 Inv-loop n literals found c₀ e₀ c e = Settling n literals found c₀ e c

@@ -4,7 +4,7 @@ ghost use mathlib.Core.Path.{_≡_};
 ghost use Prim.Native.Nat.{_≤_, _<_};
 ghost use lib.ListN.{length};
 ghost use Rattle.model.specs.Limits.{maxEffects};
-ghost use Rattle.execute.specs.Effects.{FindsConditions, SettlesEntry, Settles, AppliesEffects};
+ghost use Rattle.step.specs.Effects.{FindsConditions, SettlesEntry, Settles, AppliesEffects};
 use evaluate::formula_planes;
 use table::set_literal;
 

@@ -10,13 +10,14 @@ use lib.ListN.{length, getD, length-set, List·getD-eq-default}
 use lib.Seq.{getD-set-same, getD-set-other}
 use lib.Dec.{eqb}
 use borrow.Author.Tests.{eq-eqb, eqb-true}
+use Rattle.model.specs.Limits.{maxFacts}
 use Rattle.model.specs.Kleene.{Kleene, No, Unknown, Yes, both, either, denied, three}
 use Rattle.model.specs.Formula.{Literal, fact, denial, Formula, any, none, eval}
 use Rattle.model.specs.Action.{Effect, Action, sameLiteral, conditionIn, conditionOf, next, step}
 use Rattle.model.specs.FormulaBytes.{literalByte}
 use Rattle.model.specs.WellFormed.{Declared, EffectsOk}
 use Rattle.model.proofs.Laws.Tabulate.{getD-tabulate, getD-tabulate-past}
-use Rattle.execute.specs.Effects.{settledBy, settled}
+use Rattle.step.specs.Effects.{settledBy, settled}
 
 -- ---- literals that rise
 
@@ -32,7 +33,7 @@ same-self (fact f) = eq-eqb f f refl
 same-self (denial f) = eq-eqb f f refl
 
 -- literals of declared facts whose bytes differ
-same-other : (facts : ℕ) (l m : Literal) → facts ≤ 64 → Declared facts l → Declared facts m → (literalByte l ≡ literalByte m → ⊥) → sameLiteral l m ≡ false
+same-other : (facts : ℕ) (l m : Literal) → facts ≤ maxFacts → Declared facts l → Declared facts m → (literalByte l ≡ literalByte m → ⊥) → sameLiteral l m ≡ false
 same-other facts (fact f) (fact g) h d d′ n = eqb-other f g n
 same-other facts (fact f) (denial g) h d d′ n = refl
 same-other facts (denial f) (fact g) h d d′ n = refl
@@ -40,7 +41,7 @@ same-other facts (denial f) (denial g) h d d′ n = eqb-other f g (λ e. n (omeg
 
 -- a literal below the least has no entry
 no-entry :
-    (facts least : ℕ) (es : List Effect) (l : Literal) (φ : Formula) → facts ≤ 64 → EffectsOk facts least es → Declared facts l →
+    (facts least : ℕ) (es : List Effect) (l : Literal) (φ : Formula) → facts ≤ maxFacts → EffectsOk facts least es → Declared facts l →
     literalByte l < least → conditionIn φ l es ≡ φ
 unfolding conditionIn
 no-entry facts least [] l φ h ok d b = refl
@@ -50,19 +51,19 @@ no-entry facts least (e ∷ es) l φ h ok d b =
 
 -- the condition of the first entry's own literal, and of another
 own-condition :
-    (facts least : ℕ) (e : Effect) (es : List Effect) → facts ≤ 64 → EffectsOk facts least (e ∷ es) →
+    (facts least : ℕ) (e : Effect) (es : List Effect) → facts ≤ maxFacts → EffectsOk facts least (e ∷ es) →
     conditionOf (e .literal) (e ∷ es) ≡ e .condition
 unfolding conditionIn
 own-condition facts least e es h ok =
     rw (same-self (e .literal)) (no-entry facts (literalByte (e .literal) + 1) es (e .literal) (e .condition) h (ok .3) (ok .0) (omega arith))
 
 other-condition :
-    (facts least : ℕ) (e : Effect) (es : List Effect) (l : Literal) → facts ≤ 64 → EffectsOk facts least (e ∷ es) → Declared facts l →
+    (facts least : ℕ) (e : Effect) (es : List Effect) (l : Literal) → facts ≤ maxFacts → EffectsOk facts least (e ∷ es) → Declared facts l →
     (literalByte l ≡ literalByte (e .literal) → ⊥) → conditionOf l (e ∷ es) ≡ conditionOf l es
 unfolding conditionIn
 other-condition facts least e es l h ok d n = rw (same-other facts l (e .literal) h d (ok .0) n)
 
-no-condition : (facts least : ℕ) (es : List Effect) (l : Literal) → facts ≤ 64 → EffectsOk facts least es → Declared facts l → literalByte l < least → conditionOf l es ≡ any none
+no-condition : (facts least : ℕ) (es : List Effect) (l : Literal) → facts ≤ maxFacts → EffectsOk facts least es → Declared facts l → literalByte l < least → conditionOf l es ≡ any none
 no-condition facts least es l h ok d b = no-entry facts least es l (any none) h ok d b
 
 -- ---- equation 2
@@ -94,15 +95,15 @@ other-fact : (l : Literal) (t : Kleene) (v : List Kleene) (f : ℕ) → (f ≡ f
 other-fact (fact g) t v f h = getD-set-other v g f _ No h
 other-fact (denial g) t v f h = getD-set-other v g f _ No h
 
-fact-byte : (facts f : ℕ) (l : Literal) → facts ≤ 64 → f < facts → Declared facts l → f ≡ literalByte l → f ≡ factOf l
+fact-byte : (facts f : ℕ) (l : Literal) → facts ≤ maxFacts → f < facts → Declared facts l → f ≡ literalByte l → f ≡ factOf l
 fact-byte facts f (fact g) h b d e = e
 fact-byte facts f (denial g) h b d e = absurd (omega arith)
 
-denial-byte : (facts f : ℕ) (l : Literal) → facts ≤ 64 → f < facts → Declared facts l → f + 64 ≡ literalByte l → f ≡ factOf l
+denial-byte : (facts f : ℕ) (l : Literal) → facts ≤ maxFacts → f < facts → Declared facts l → f + 64 ≡ literalByte l → f ≡ factOf l
 denial-byte facts f (fact g) h b d e = absurd (omega arith)
 denial-byte facts f (denial g) h b d e = omega arith
 
-module _ (facts : ℕ) (h : facts ≤ 64) (v : List Kleene) (n : length v ≡ facts) (f : ℕ) (b : f < facts) where
+module _ (facts : ℕ) (h : facts ≤ maxFacts) (v : List Kleene) (n : length v ≡ facts) (f : ℕ) (b : f < facts) where
   abbrev Due : List Effect → Type 0
   Due es = getD (settled v es) f No ≡ due v es f
 
@@ -160,7 +161,7 @@ module _ (facts : ℕ) (h : facts ≤ 64) (v : List Kleene) (n : length v ≡ fa
 
 -- the values after the action
 pub settled-step :
-    (facts : ℕ) (a : Action) (v : List Kleene) → facts ≤ 64 → EffectsOk facts 0 (a .effects) → length v ≡ facts → (g : ℕ) →
+    (facts : ℕ) (a : Action) (v : List Kleene) → facts ≤ maxFacts → EffectsOk facts 0 (a .effects) → length v ≡ facts → (g : ℕ) →
     getD (step three facts a v) g No ≡ getD (settled v (a .effects)) g No
 unfolding step next
 settled-step facts a v h ok n g =

@@ -1,8 +1,8 @@
 -- `apply_effects` meets its contract. Assumes nothing.
 use borrow.Author.Needs.{needs}
-use Rattle.execute.proofs.effects.apply_effects.Statement.{statement}
-use Rattle.execute.proofs.effects.apply_effects.Tie as tie
-use Rattle.execute.proofs.Finding.{applies}
+use Rattle.step.proofs.effects.apply_effects.Statement.{statement}
+use Rattle.step.proofs.effects.apply_effects.Tie as tie
+use Rattle.step.proofs.Finding.{applies}
 
 returns : tie.Need-returns
 returns c = let f = c .before .before .before .before .find-conditions .ensures in (applies _ _ _ _ _ _ _ f (c .settle .ensures), f .wide, f .long)

@@ -1,8 +1,8 @@
 -- `obey_action` meets its contract. Assumes nothing.
 use borrow.Author.Needs.{needs}
-use Rattle.execute.proofs.cases.obey_action.Statement.{statement}
-use Rattle.execute.proofs.cases.obey_action.Tie as tie
-use Rattle.execute.proofs.Lanes.{obeys-none, obeys-some}
+use Rattle.step.proofs.action.obey_action.Statement.{statement}
+use Rattle.step.proofs.action.obey_action.Tie as tie
+use Rattle.step.proofs.Obeying.{obeys-none, obeys-some}
 
 returns : tie.Need-returns
 returns c = let s = c .before .before .before .before .before .pre in (obeys-none _ _ _ _ _ (c .before .before .formula-planes .ensures) (s .0) (c .if1 .taken), s .1, s .2)

@@ -3,7 +3,7 @@ use mathlib.Core.Path.{_≡_}
 use mathlib.Core.List.{List, [], _∷_}
 use Prim.Native.Nat.{ℕ, _+_, _*_, _≤_, _<_}
 use lib.ListN.{length, getD, set}
-use Rattle.model.specs.Limits.{maxEffects}
+use Rattle.model.specs.Limits.{maxFacts, maxEffects}
 use Rattle.model.specs.Kleene.{Kleene, No, both, either, denied, three}
 use Rattle.model.specs.Formula.{Literal, fact, denial, any, none, eval}
 use Rattle.model.specs.Action.{Effect, Action, step}
@@ -30,7 +30,7 @@ pub record FindsConditions (s : List ℕ) (p : ℕ) (c found literals : List ℕ
   pub long : length literals ≡ 128
   pub few : n ≤ maxEffects
   pub is :
-      (facts : ℕ) (es : List Effect) (q : ℕ) → facts ≤ 64 → length es ≤ maxEffects → EffectsOk facts 0 es → Span s (length s) p (length es ∷ effectsBytes es) q →
+      (facts : ℕ) (es : List Effect) (q : ℕ) → facts ≤ maxFacts → length es ≤ maxEffects → EffectsOk facts 0 es → Span s (length s) p (length es ∷ effectsBytes es) q →
       (n ≡ length es) × Entries c literals found es n
 
 -- the values v, in which an entry whose condition has the value t sets or clears its fact
@@ -47,19 +47,19 @@ settled before (e ∷ es) = settledBy (e .literal) (eval three before (e .condit
 pub record SettlesEntry (c : List ℕ) (l some sure : ℕ) (d : List ℕ) : Type 0 where
   pub size : length d ≡ 256
   pub is :
-      (facts : ℕ) (m : Literal) (case : ℕ → List Kleene) (t : ℕ → Kleene) → facts ≤ 64 → Declared facts m → l ≡ literalByte m → Sized facts case →
+      (facts : ℕ) (m : Literal) (case : ℕ → List Kleene) (t : ℕ → Kleene) → facts ≤ maxFacts → Declared facts m → l ≡ literalByte m → Sized facts case →
       Table c case → InLanes some sure t → Table d (λ j. settledBy m (t j) (case j))
 
 pub record Settles (n : ℕ) (literals found c d : List ℕ) : Type 0 where
   pub size : length d ≡ 256
   pub is :
-      (facts : ℕ) (es : List Effect) → facts ≤ 64 → EffectsOk facts 0 es → n ≡ length es → Entries c literals found es n →
+      (facts : ℕ) (es : List Effect) → facts ≤ maxFacts → EffectsOk facts 0 es → n ≡ length es → Entries c literals found es n →
       (case : ℕ → List Kleene) → Sized facts case → Table c case → Table d (λ j. settled (case j) es)
 
 -- the table after the effects whose count stands at p
 pub record AppliesEffects (s : List ℕ) (p : ℕ) (c d : List ℕ) : Type 0 where
   pub size : length d ≡ 256
   pub is :
-      (facts : ℕ) (a : Action) (q : ℕ) → facts ≤ 64 → length (a .effects) ≤ maxEffects → EffectsOk facts 0 (a .effects) →
+      (facts : ℕ) (a : Action) (q : ℕ) → facts ≤ maxFacts → length (a .effects) ≤ maxEffects → EffectsOk facts 0 (a .effects) →
       Span s (length s) p (length (a .effects) ∷ effectsBytes (a .effects)) q →
       (case : ℕ → List Kleene) → Sized facts case → Table c case → Table d (λ j. step three facts a (case j))
