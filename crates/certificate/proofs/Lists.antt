@@ -30,10 +30,9 @@ use Rattle.blocks.specs.Parts.{FindsTask}
 use Rattle.blocks.specs.Standing.{StandsFound}
 use Rattle.lines.specs.Putting.{Put, Puts}
 use Rattle.lines.proofs.Stores.{sets-append}
-use Rattle.judge.specs.declared.walk.Ending.{Ending}
-use Rattle.judge.specs.declared.walk.Ending.the-variants.{Out, Failed, Closed}
-use Rattle.judge.specs.Walks.{Ended}
-use Rattle.judge.specs.Verdicts.{WalksTask}
+use Rattle.walk.specs.declared.cases.Ending.{Ending}
+use Rattle.walk.specs.declared.cases.Ending.the-variants.{Out, Failed, Closed}
+use Rattle.walk.specs.Walks.{Ended, WalksTask}
 use Rattle.blocks.proofs.Standing.{found-in}
 use Rattle.certificate.specs.Writing.{headOf, WritesTask}
 

@@ -12,13 +12,13 @@ ghost use Rattle.model.specs.Operations.{writeList};
 ghost use Rattle.model.specs.Answers.{writeAnswer};
 ghost use Rattle.certificate.specs.Writing.{headOf, WritesTask};
 use blocks::find_task;
-use judge::Ending;
-use judge::walk_task;
 use model::Limits;
 use model::Problem;
 use model::Refusal;
 use model::WriteAnswer;
 use numbers::put_number;
+use walk::Ending;
+use walk::walk_task;
 
 // A block's version and the length of its body.
 fn put_header(out: &mut [u8], limits: Limits, body: u64)

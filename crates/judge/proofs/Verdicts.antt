@@ -1,24 +1,21 @@
--- The walk of a whole problem, and the judge's verdict. Assumes nothing.
+-- The judge's verdict, by the walk of a whole problem. Assumes nothing.
 use mathlib.Core.Path.{_≡_, refl, sym, ap, _∙_, subst}
 use mathlib.Core.Bool.{true}
 use mathlib.Core.Logic.{inl, inr}
 use mathlib.Core.List.{List}
-use Prim.Native.Nat.{ℕ, _-_, _^_, _≤_}
-use native.Mathlib.Nat.{zero-mod}
+use Prim.Native.Nat.{ℕ, _-_, _≤_}
 use native.Mathlib.Omega.{arith}
-use lib.ListN.{length, take, drop, replicate, length-replicate}
+use lib.ListN.{length, take, drop}
 use Rattle.model.specs.declared.Limits.{Limits}
 use Rattle.model.specs.Limits.{version1}
 use Rattle.model.specs.WellFormed.{Sensible}
-use Rattle.model.specs.Kleene.{Kleene, Unknown}
 use Rattle.model.specs.Answer as Answer
 use Rattle.model.specs.Answer.{answered}
 use Rattle.model.specs.Case.{Task, runOf, IsState}
-use Rattle.model.specs.Walk.{Line, covered, failed, visits, walkFrom, walk, lookAt, walked, Verdict, right, wrong, undecided, judged}
+use Rattle.model.specs.Walk.{Line, covered, failed, visits, walked, Verdict, right, wrong, undecided, judged}
 use Rattle.model.specs.Operations.{judge}
 use Rattle.model.specs.Read.{headBytes}
 use Rattle.model.specs.Answers.{refusal, runAnswer, judgeAnswer}
-use Rattle.model.specs.Planes.{Table}
 use Rattle.model.specs.declared.Problem.{Problem}
 use Rattle.model.specs.declared.Outcome.{Outcome}
 use Rattle.model.specs.declared.Refusal.{Refusal}
@@ -26,57 +23,19 @@ use Rattle.model.specs.declared.RunAnswer.{RunAnswer}
 use Rattle.model.specs.declared.RunAnswer.the-variants.{Refused, Ended}
 use Rattle.model.specs.declared.JudgeAnswer.{JudgeAnswer}
 use Rattle.model.specs.declared.JudgeAnswer.the-variants.{Right, Wrong, Undecided}
-use Rattle.model.proofs.Laws.Splitting.{case-first}
 use Rattle.model.proofs.Laws.Verdicts.{walk-fails-first}
 use Rattle.model.proofs.Laws.Judging.{judged-in, judged-out}
 use Rattle.model.proofs.Laws.Tasks.{state-tested, judge-is}
 use Rattle.blocks.specs.declared.plan.Task as blocks
 use Rattle.blocks.specs.Parts.{FindsTask}
-use Rattle.blocks.specs.Standing.{placesOf, TaskIn, StandsFound}
-use Rattle.lines.specs.Lines.{widthOf}
-use Rattle.table.specs.Tables.{NoneFixed}
-use Rattle.table.specs.Blocks.{blockCase, FixesLevels}
+use Rattle.blocks.specs.Standing.{TaskIn, StandsFound}
 use Rattle.blocks.proofs.Standing.{found-in}
 use Rattle.execute.specs.Start.{RunsTask}
-use Rattle.judge.specs.declared.walk.Case.{Case}
-use Rattle.judge.specs.declared.walk.Ending.{Ending}
-use Rattle.judge.specs.declared.walk.Ending.the-variants.{Out, Failed, Closed}
-use Rattle.judge.specs.Walks as Walks
-use Rattle.judge.specs.Walks.{LevelsOf, BlockFits, WalksBlock}
-use Rattle.judge.specs.Verdicts.{WalksTask, OutcomeOf, Judges, JudgesTask}
-
--- ---- the whole walk
-
-abbrev pub wholeCase : ℕ → Case
-wholeCase n = record { k = 0; left = n; number = 0 }
-
-pub whole-fits : (F : Limits) (n levels : ℕ) → Sensible F → n ≤ F .facts → LevelsOf n levels → BlockFits (F .line) (wholeCase n) levels
-whole-fits F n levels S h L =
-    let e : widthOf (F .line) - 0 ≡ widthOf (F .line) = omega arith in
-    record { fits = record { least = S .line; most = omega (arith, S .word, S .bits); slots = omega (arith, S .width, S .bits); numbers = omega (arith, ap (λ (x : ℕ). 2 ^ x) e) }; levels-of = L }
-
-pub walks-task :
-    (F : Limits) → Sensible F → (problem steps : List ℕ) (parts : Problem) (g n levels : ℕ) → n ≡ parts .facts → LevelsOf n levels → (c₀ c : List ℕ) → NoneFixed n c₀ → FixesLevels c₀ 0 levels c →
-    (r : Ending) (before : List ℕ) (to : ℕ) (after : List ℕ) → WalksBlock (F .line) problem steps (parts .action) (placesOf parts) c (wholeCase n) levels g r before to after →
-    WalksTask F problem steps parts g r before to after
-unfolding walked walk
-walks-task F S problem steps parts g n levels e L c₀ c N X r before to after W =
-    record {
-      counted = W .counted;
-      same = W .same;
-      is =
-          λ T p.
-          let i : n ≡ T .facts = e ∙ p .facts in
-          subst (λ (m : ℕ). Walks.Ended (F .line) g (walkFrom (T .width) (lookAt T) m (lookAt T 0 0) 0 0) r before to after) i
-          (W .is T
-          (record {
-            stands = p .stands;
-            case-at = record { width = p .width ∙ S .bits; left-facts = omega arith; begins = zero-mod (2 ^ (T .width - 0)) };
-            table =
-                subst (λ (v : List Kleene). Table c (λ j. blockCase v 0 levels j)) (ap (λ (m : ℕ). replicate m Unknown) i ∙ sym (case-first (T .width) (T .facts)))
-                (X .is (replicate n Unknown) (omega (arith, L .inside, length-replicate n Unknown)) (N .is));
-          }));
-    }
+use Rattle.walk.specs.declared.cases.Ending.{Ending}
+use Rattle.walk.specs.declared.cases.Ending.the-variants.{Out, Failed, Closed}
+use Rattle.walk.specs.Walks as Walks
+use Rattle.walk.specs.Walks.{WalksTask}
+use Rattle.judge.specs.Verdicts.{OutcomeOf, Judges, JudgesTask}
 
 -- ---- the outcome of a state
 
@@ -145,9 +104,6 @@ unfolding judge Answer._>>=_
 judge-refused s t r f h g = rw (f .refusal h)
 
 module _ (s t : List ℕ) (r : blocks.Task) (F : StandsFound version1 s t r) where
-  pub few-facts : r .problem .facts ≤ r .limits .facts
-  few-facts = omega (arith, F .facts, F .few)
-
   pub judge-found :
       (g : ℕ) (steps : List ℕ) → steps ≡ take (length t - headBytes) (drop headBytes t) →
       (a : JudgeAnswer) (before : List ℕ) (to : ℕ) (after : List ℕ) → JudgesTask (r .limits) s steps (r .problem) g a before to after →

@@ -1,4 +1,4 @@
--- What the walk of a whole problem answers, and the verdict by it.
+-- The verdict by the walk of a whole problem.
 use mathlib.Core.Path.{_≡_}
 use mathlib.Core.List.{List}
 use Prim.Native.Nat.{ℕ, _+_, _*_}
@@ -6,7 +6,7 @@ use lib.ListN.{length}
 use Rattle.model.specs.declared.Limits.{Limits}
 use Rattle.model.specs.Answer.{answered}
 use Rattle.model.specs.Case.{Task, runOf, IsState}
-use Rattle.model.specs.Walk.{Line, walked, Verdict, right, wrong, undecided, judged}
+use Rattle.model.specs.Walk.{Line, Verdict, right, wrong, undecided, judged}
 use Rattle.model.specs.Operations.{lineCount}
 use Rattle.model.specs.Answers.{outcome, judgeAnswer}
 use Rattle.model.specs.declared.Problem.{Problem}
@@ -14,11 +14,6 @@ use Rattle.model.specs.declared.Outcome.{Outcome}
 use Rattle.model.specs.declared.JudgeAnswer.{JudgeAnswer}
 use Rattle.blocks.specs.Standing.{TaskIn}
 use Rattle.lines.specs.Putting.{Puts}
-use Rattle.judge.specs.declared.walk.Ending.{Ending}
-use Rattle.judge.specs.Walks.{Walks}
-
-abbrev pub WalksTask : Limits → List ℕ → List ℕ → Problem → ℕ → Ending → List ℕ → ℕ → List ℕ → Type 0
-WalksTask F problem steps parts g r before to after = Walks (F .line) (TaskIn F problem steps parts) walked g r before to after
 
 pub record OutcomeOf (F : Limits) (problem steps : List ℕ) (parts : Problem) (x : ℕ) (r : Outcome) : Type 0 where
   pub is : (T : Task) → TaskIn F problem steps parts T → IsState T x → outcome r ≡ runOf T x

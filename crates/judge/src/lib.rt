@@ -1,10 +1,6 @@
-// The walk over cases under a grant of visits, and the judge's verdict.
+// The judge's verdict, by one walk.
 
 pub mod operation;
-pub mod walk;
 
-use numbers::wide;
 pub use operation::judge;
 pub use operation::judge_task;
-pub use operation::walk_task;
-pub use walk::Ending;

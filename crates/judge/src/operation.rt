@@ -5,13 +5,8 @@ ghost use Rattle.model.specs.Limits.{version1};
 ghost use Rattle.model.specs.WellFormed.{Sensible};
 ghost use Rattle.model.specs.Operations as operations;
 ghost use Rattle.model.specs.Answers.{judgeAnswer};
-ghost use Rattle.judge.specs.Walks.{LevelsOf};
-ghost use Rattle.judge.specs.Verdicts.{WalksTask, OutcomeOf, JudgesTask};
+ghost use Rattle.judge.specs.Verdicts.{OutcomeOf, JudgesTask};
 ghost use Rattle.judge.specs.Promise.{JudgePromised};
-use crate::walk::Case;
-use crate::walk::Ending;
-use crate::walk::walk_block;
-use blocks::Places;
 use blocks::find_task;
 use execute::run_task;
 use model::JudgeAnswer;
@@ -19,57 +14,8 @@ use model::Limits;
 use model::Outcome;
 use model::Problem;
 use model::RunAnswer;
-use table::fix_levels;
-use table::none_fixed;
-
-// The levels of the first block: the odd ones, so that all blocks below it are full.
-fn first_levels(facts: usize) -> usize
-    ensures { λ r. ⌜ LevelsOf facts r ⌝ }
-{
-    if facts == 0 { 0 } else { (facts - 1) % 5 + 1 }
-}
-
-// The walk of a whole problem, from the case that fixes no fact, with its lines from `to` on.
-pub fn walk_task(
-    problem: &[u8],
-    steps: &[u8],
-    parts: Problem,
-    limits: Limits,
-    grant: u64,
-    out: &mut [u8],
-    to: usize,
-) -> Ending
-    requires { ⌜ Sensible limits × (parts .facts ≤ limits .facts) ⌝ }
-    ensures { λ r. ⌜ WalksTask limits (now (problem .entry)) (now (steps .entry)) parts grant r (now (out .entry)) to (now (out .exit)) ⌝ }
-{
-    let facts = crate::wide(parts.facts);
-    let at = Places {
-        initial: parts.initial,
-        goal: parts.goal,
-    };
-    let first = Case {
-        k: 0,
-        left: facts,
-        number: 0,
-    };
-    let actions = parts.action;
-    let levels = first_levels(facts);
-    let mut c = none_fixed(facts);
-    fix_levels(&mut c, 0, levels);
-    walk_block(
-        problem,
-        steps,
-        &actions,
-        at,
-        limits.line,
-        &c,
-        first,
-        levels,
-        grant,
-        out,
-        to,
-    )
-}
+use walk::Ending;
+use walk::walk_task;
 
 // How the run of the state numbered `state` ends. (A number that is no state misses; the walk names none.)
 fn outcome_of(problem: &[u8], steps: &[u8], parts: Problem, limits: Limits, state: u64) -> Outcome

@@ -2,7 +2,7 @@
 use mathlib.Core.Path.{refl}
 use native.Mathlib.Omega.{arith}
 use borrow.Author.Needs.{needs}
-use Rattle.judge.proofs.Verdicts.{few-facts}
+use Rattle.execute.proofs.Starting.{few-facts}
 use Rattle.certificate.proofs.Lists.{left-as, body-small, list-refused, list-undecided, list-wrong, list-over, list-short, list-written}
 use Rattle.certificate.proofs.write.write_list.Statement.{statement}
 use Rattle.certificate.proofs.write.write_list.Tie as tie

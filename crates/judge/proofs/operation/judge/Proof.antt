@@ -2,7 +2,8 @@
 use mathlib.Core.Path.{refl}
 use native.Mathlib.Omega.{arith}
 use borrow.Author.Needs.{needs}
-use Rattle.judge.proofs.Verdicts.{few-facts, judge-refused, judge-found}
+use Rattle.judge.proofs.Verdicts.{judge-refused, judge-found}
+use Rattle.execute.proofs.Starting.{few-facts}
 use Rattle.judge.proofs.Promise.{judge-promised}
 use Rattle.judge.proofs.operation.judge.Statement.{statement}
 use Rattle.judge.proofs.operation.judge.Tie as tie

@@ -2,7 +2,7 @@
 use mathlib.Core.Path.{refl}
 use native.Mathlib.Omega.{arith}
 use borrow.Author.Needs.{needs}
-use Rattle.judge.proofs.Verdicts.{few-facts}
+use Rattle.execute.proofs.Starting.{few-facts}
 use Rattle.report.proofs.Pages.{page-refused, page-found}
 use Rattle.report.proofs.page.page_of.Statement.{statement}
 use Rattle.report.proofs.page.page_of.Tie as tie

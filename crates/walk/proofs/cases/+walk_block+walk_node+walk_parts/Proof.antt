@@ -2,29 +2,29 @@
 use Prim.Native.Nat.{ℕ, _+_, _*_, _-_, _<_}
 use borrow.Fn.Kinds.{In}
 use borrow.Fn.PlainCycle.{Measures, is, falls, and}
-use Rattle.judge.proofs.walk.walk_block.Reads as walk-block
-use Rattle.judge.proofs.walk.walk_block.Kinds as walk-block-kinds
-use Rattle.judge.proofs.walk.+walk_block+walk_node+walk_parts.Lts-walk_block as walk-block-lts
-use Rattle.judge.proofs.walk.walk_node.Reads as walk-node
-use Rattle.judge.proofs.walk.walk_node.Kinds as walk-node-kinds
-use Rattle.judge.proofs.walk.+walk_block+walk_node+walk_parts.Lts-walk_node as walk-node-lts
-use Rattle.judge.proofs.walk.walk_parts.Reads as walk-parts
-use Rattle.judge.proofs.walk.walk_parts.Kinds as walk-parts-kinds
-use Rattle.judge.proofs.walk.+walk_block+walk_node+walk_parts.Lts-walk_parts as walk-parts-lts
+use Rattle.walk.proofs.cases.walk_block.Reads as walk-block
+use Rattle.walk.proofs.cases.walk_block.Kinds as walk-block-kinds
+use Rattle.walk.proofs.cases.+walk_block+walk_node+walk_parts.Lts-walk_block as walk-block-lts
+use Rattle.walk.proofs.cases.walk_node.Reads as walk-node
+use Rattle.walk.proofs.cases.walk_node.Kinds as walk-node-kinds
+use Rattle.walk.proofs.cases.+walk_block+walk_node+walk_parts.Lts-walk_node as walk-node-lts
+use Rattle.walk.proofs.cases.walk_parts.Reads as walk-parts
+use Rattle.walk.proofs.cases.walk_parts.Kinds as walk-parts-kinds
+use Rattle.walk.proofs.cases.+walk_block+walk_node+walk_parts.Lts-walk_parts as walk-parts-lts
 use Rattle.execute.proofs.look_at_cases.Reads as look-at-cases-reads
-use Rattle.judge.proofs.walk.joined.Reads as joined-reads
-use Rattle.judge.proofs.walk.levels_of.Reads as levels-of-reads
+use Rattle.walk.proofs.cases.joined.Reads as joined-reads
+use Rattle.walk.proofs.cases.levels_of.Reads as levels-of-reads
 use Rattle.lines.proofs.add_line.Reads as add-line-reads
 use Rattle.numbers.proofs.span.Reads as span-reads
 use Rattle.table.proofs.fix_levels.Reads as fix-levels-reads
 use Rattle.table.proofs.fix_path.Reads as fix-path-reads
 use Rattle.table.proofs.lane_bit.Reads as lane-bit-reads
-use Rattle.judge.proofs.walk.+walk_block+walk_node+walk_parts.{statement}
-use Rattle.judge.proofs.walk.+walk_block+walk_node+walk_parts.Tie.{close}
+use Rattle.walk.proofs.cases.+walk_block+walk_node+walk_parts.{statement}
+use Rattle.walk.proofs.cases.+walk_block+walk_node+walk_parts.Tie.{close}
 use mathlib.Core.Path.{sym, _∙_}
 use native.Mathlib.Omega.{arith}
 use borrow.Author.Needs.{needs}
-use Rattle.judge.proofs.Walking.{node-out, node-empty, node-carries, node-fails, node-splits, lane-small, first-fits, second-fits, addable, half-is, half-room, failed-count, closed-count, parts-out, parts-failed, parts-joined, block-fits, block-walks, node-edge, edge-fits}
+use Rattle.walk.proofs.Walking.{node-out, node-empty, node-carries, node-fails, node-splits, lane-small, first-fits, second-fits, addable, half-is, half-room, failed-count, closed-count, parts-out, parts-failed, parts-joined, block-fits, block-walks, node-edge, edge-fits}
 
 abbrev μ-walk-block : Measures 5 walk-block-kinds.ps ℕ
 μ-walk-block κs a = 4 * a .1 .1 .1 .1 .1 .1 .0 .left + 2 + 2 * (1 - a .1 .1 .1 .1 .1 .1 .1 .0)

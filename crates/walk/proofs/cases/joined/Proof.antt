@@ -1,11 +1,11 @@
 -- `joined` meets its contract. Assumes nothing.
 use borrow.Author.Needs.{needs}
-use Rattle.judge.proofs.walk.joined.Statement.{statement}
-use Rattle.judge.proofs.walk.joined.Tie as tie
+use Rattle.walk.proofs.cases.joined.Statement.{statement}
+use Rattle.walk.proofs.cases.joined.Tie as tie
 use mathlib.Core.Path.{sym, ap}
 use native.Mathlib.Omega.{arith}
-use Rattle.judge.specs.Walks.{joins}
-use Rattle.judge.proofs.Walking.{failed-adds, closed-adds}
+use Rattle.walk.specs.Walks.{joins}
+use Rattle.walk.proofs.Walking.{failed-adds, closed-adds}
 
 add-t10 : tie.Need-add-t10
 add-t10 c = omega (arith, failed-adds _ _ _ _ _ (c .before .before .before .pre) (c .before .second .given .1))

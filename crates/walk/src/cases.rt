@@ -4,7 +4,7 @@
 ghost use mathlib.Core.Path.{_≡_};
 ghost use Prim.Native.Nat.{_+_, _<_};
 ghost use lib.ListN.{length};
-ghost use Rattle.judge.specs.Walks.{LevelsOf, BlockFits, NodeFits, WalksBlock, WalksNode, WalksParts, Addable, Joins};
+ghost use Rattle.walk.specs.Walks.{LevelsOf, BlockFits, NodeFits, WalksBlock, WalksNode, WalksParts, Addable, Joins};
 use blocks::Places;
 use execute::look_at_cases;
 use lines::add_line;

@@ -3,22 +3,24 @@ use mathlib.Core.Path.{_≡_}
 use mathlib.Core.List.{List}
 use Prim.Native.Nat.{ℕ, suc, _+_, _-_, _%_, _^_, _≤_, _<_}
 use lib.ListN.{length}
+use Rattle.model.specs.declared.Limits.{Limits}
+use Rattle.model.specs.declared.Problem.{Problem}
 use Rattle.model.specs.Kleene.{Kleene, three}
 use Rattle.model.specs.Formula.{eval}
 use Rattle.model.specs.Run.{run}
 use Rattle.model.specs.Case.{caseOf, Task}
-use Rattle.model.specs.Walk.{Line, Walked, covered, failed, visits, join, walkFrom, lookOf, lookAt}
+use Rattle.model.specs.Walk.{Line, Walked, covered, failed, visits, join, walkFrom, walked, lookOf, lookAt}
 use Rattle.model.specs.Planes.{laneBit, Table}
-use Rattle.blocks.specs.Standing.{TaskStands}
+use Rattle.blocks.specs.Standing.{TaskStands, TaskIn}
 use Rattle.table.specs.Blocks.{blockCase}
 use Rattle.lines.specs.Lines.{widthOf}
 use Rattle.lines.specs.Putting.{Puts}
 use Rattle.execute.specs.Cases.{lookBits}
 use Rattle.blocks.specs.declared.problem.Places.{Places}
-use Rattle.judge.specs.declared.walk.Case.{Case}
-use Rattle.judge.specs.declared.walk.Block.{Block}
-use Rattle.judge.specs.declared.walk.Ending.{Ending}
-use Rattle.judge.specs.declared.walk.Ending.the-variants.{Out, Failed, Closed}
+use Rattle.walk.specs.declared.cases.Case.{Case}
+use Rattle.walk.specs.declared.cases.Block.{Block}
+use Rattle.walk.specs.declared.cases.Ending.{Ending}
+use Rattle.walk.specs.declared.cases.Ending.the-variants.{Out, Failed, Closed}
 
 -- ---- how a walk ends
 
@@ -134,3 +136,8 @@ joins lines visits (Closed n a next) = Closed (lines + n) (visits + a + 1) next
 
 abbrev pub Joins : ℕ → ℕ → Ending → Ending → Type 0
 Joins lines visits second r = r ≡ joins lines visits second
+
+-- ---- the walk of a whole problem
+
+abbrev pub WalksTask : Limits → List ℕ → List ℕ → Problem → ℕ → Ending → List ℕ → ℕ → List ℕ → Type 0
+WalksTask F problem steps parts g r before to after = Walks (F .line) (TaskIn F problem steps parts) walked g r before to after

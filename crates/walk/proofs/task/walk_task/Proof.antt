@@ -1,9 +1,9 @@
 -- `walk_task` meets its contract. Assumes nothing.
 use borrow.Author.Needs.{needs}
 use native.Mathlib.Omega.{arith}
-use Rattle.judge.proofs.Verdicts.{whole-fits, walks-task}
-use Rattle.judge.proofs.operation.walk_task.Statement.{statement}
-use Rattle.judge.proofs.operation.walk_task.Tie as tie
+use Rattle.walk.proofs.Whole.{whole-fits, walks-task}
+use Rattle.walk.proofs.task.walk_task.Statement.{statement}
+use Rattle.walk.proofs.task.walk_task.Tie as tie
 
 walk-block-requires : tie.Need-walk-block-requires
 walk-block-requires c κs = (search needs, whole-fits _ _ _ (c .before .before .before .before .before .before .before .before .before .before .before .before .pre .0) (omega (arith, c .before .before .before .before .before .before .before .before .wide .ensures .0, c .before .before .before .before .before .before .before .before .before .before .before .before .pre .1)) (c .before .before .before .before .before .before .first-levels .ensures))

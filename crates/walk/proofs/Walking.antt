@@ -27,11 +27,11 @@ use Rattle.lines.proofs.Stores.{puts-append}
 use Rattle.execute.specs.Cases.{lookBits, LooksAtCases}
 use Rattle.execute.specs.declared.cases.Looks.{Looks}
 use Rattle.blocks.specs.declared.problem.Places.{Places}
-use Rattle.judge.specs.declared.walk.Case.{Case}
-use Rattle.judge.specs.declared.walk.Block as walk
-use Rattle.judge.specs.declared.walk.Ending.{Ending}
-use Rattle.judge.specs.declared.walk.Ending.the-variants.{Out, Failed, Closed}
-use Rattle.judge.specs.Walks.{Ended, Counted, walkOf, CaseAt, valuesOf, LevelsOf, BlockFits, WalksBlock, NodeFits, NodeAt, WalksNode, WalksParts, Addable, joins}
+use Rattle.walk.specs.declared.cases.Case.{Case}
+use Rattle.walk.specs.declared.cases.Block as walk
+use Rattle.walk.specs.declared.cases.Ending.{Ending}
+use Rattle.walk.specs.declared.cases.Ending.the-variants.{Out, Failed, Closed}
+use Rattle.walk.specs.Walks.{Ended, Counted, walkOf, CaseAt, valuesOf, LevelsOf, BlockFits, WalksBlock, NodeFits, NodeAt, WalksNode, WalksParts, Addable, joins}
 
 -- ---- a walk after a walk
 
