@@ -4,9 +4,6 @@ use borrow.Author.Needs.{needs}
 use Rattle.follow.proofs.check_claim.Statement.{statement}
 use Rattle.follow.proofs.check_claim.Tie as tie
 
-returns : tie.Need-returns
-returns c = claim-empty _ _ _ _ _ _ _ (c .before .before .look-at-cases .ensures) _ (c .before .lane-bit .ensures) (c .if1 .taken)
-
 returns-2 : tie.Need-returns-2
 returns-2 c =
     let k = c .before .before in
@@ -23,7 +20,7 @@ check-claim-spec =
     (tie.spec
     (λ c κs. search needs)
     (λ c κs. search needs)
-    returns
+    (λ c. claim-empty _ _ _ _ _ _ _ (c .before .before .look-at-cases .ensures) _ (c .before .lane-bit .ensures) (c .if1 .taken))
     (λ c κs. search needs)
     returns-2
     returns-3)

@@ -12,9 +12,6 @@ Inv-loop problem steps actions facts at limits list lines c₀ before₀ i₀ c 
 abbrev μ-loop : tie.MeasureT-loop
 μ-loop problem steps actions facts at limits list lines c₀ before₀ i₀ c before i = lines - i
 
-loop-holds : tie.Need-loop-holds Inv-loop μ-loop
-loop-holds c = none-followed _ _ _ _ _ _ _ _ _ (c .before .wide .ensures .0) _ (c .none-fixed .ensures)
-
 follow-line-requires : tie.Need-follow-line-requires Inv-loop μ-loop
 follow-line-requires c κs =
     let o = c .before .before .loop .inv in
@@ -49,7 +46,7 @@ follow-lines-spec =
     μ-loop
     (λ c κs. search needs)
     (λ c κs. search needs)
-    loop-holds
+    (λ c. none-followed _ _ _ _ _ _ _ _ _ (c .before .wide .ensures .0) _ (c .none-fixed .ensures))
     follow-line-requires
     (λ c. search needs)
     returns

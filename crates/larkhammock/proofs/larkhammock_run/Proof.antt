@@ -8,18 +8,6 @@ use borrow.Author.Needs.{needs}
 use Rattle.larkhammock.proofs.larkhammock_run.Statement.{statement}
 use Rattle.larkhammock.proofs.larkhammock_run.Tie as tie
 
-returns : tie.Need-returns
-returns c = laid-out runAnswer runWords _ _ _ _ (c .refused .ensures) (c .before .before .r .given .1) (c .before .before .before .before .run .ensures .0)
-
-returns-2 : tie.Need-returns-2
-returns-2 c = laid-out runAnswer runWords _ _ _ _ (c .row .ensures) (c .before .before .before .before .outcome .given .1 ∙ ap Ended (c .before .enum-told .given .1)) (c .before .before .before .before .before .before .run .ensures .0)
-
-returns-3 : tie.Need-returns-3
-returns-3 c = laid-out runAnswer runWords _ _ _ _ (c .row2 .ensures) (c .before .before .before .before .outcome .given .1 ∙ ap Ended (c .before .enum-told2 .given .1)) (c .before .before .before .before .before .before .run .ensures .0)
-
-returns-4 : tie.Need-returns-4
-returns-4 c = laid-out runAnswer runWords _ _ _ _ (c .row3 .ensures) (c .before .before .before .before .before .outcome .given .1 ∙ ap Ended (c .before .before .outcome2 .given .1)) (c .before .before .before .before .before .before .before .run .ensures .0)
-
 pub larkhammock-run-spec : {M : Type 1} → statement M
 larkhammock-run-spec =
     tie.close
@@ -34,7 +22,7 @@ larkhammock-run-spec =
     (λ c κs. search needs)
     (λ c. search needs)
     (λ c κs. search needs)
-    returns
-    returns-2
-    returns-3
-    returns-4)
+    (λ c. laid-out runAnswer runWords _ _ _ _ (c .refused .ensures) (c .before .before .r .given .1) (c .before .before .before .before .run .ensures .0))
+    (λ c. laid-out runAnswer runWords _ _ _ _ (c .row .ensures) (c .before .before .before .before .outcome .given .1 ∙ ap Ended (c .before .enum-told .given .1)) (c .before .before .before .before .before .before .run .ensures .0))
+    (λ c. laid-out runAnswer runWords _ _ _ _ (c .row2 .ensures) (c .before .before .before .before .outcome .given .1 ∙ ap Ended (c .before .enum-told2 .given .1)) (c .before .before .before .before .before .before .run .ensures .0))
+    (λ c. laid-out runAnswer runWords _ _ _ _ (c .row3 .ensures) (c .before .before .before .before .before .outcome .given .1 ∙ ap Ended (c .before .before .outcome2 .given .1)) (c .before .before .before .before .before .before .before .run .ensures .0)))

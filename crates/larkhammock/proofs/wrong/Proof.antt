@@ -7,15 +7,6 @@ use borrow.Author.Needs.{needs}
 use Rattle.larkhammock.proofs.wrong.Statement.{statement}
 use Rattle.larkhammock.proofs.wrong.Tie as tie
 
-returns : tie.Need-returns
-returns c = c .row .ensures ∙ ap (λ (o : Outcome). wrongWords (c .before .before .before .args .visits) (c .before .before .before .args .state) (outcome o)) (sym (c .before .enum-told .given .1))
-
-returns-2 : tie.Need-returns-2
-returns-2 c = c .row2 .ensures ∙ ap (λ (o : Outcome). wrongWords (c .before .before .before .args .visits) (c .before .before .before .args .state) (outcome o)) (sym (c .before .enum-told2 .given .1))
-
-returns-3 : tie.Need-returns-3
-returns-3 c = c .row3 .ensures ∙ ap (λ (o : Outcome). wrongWords (c .before .before .before .before .args .visits) (c .before .before .before .before .args .state) (outcome o)) (sym (c .before .before .outcome .given .1))
-
 pub wrong-spec : {M : Type 1} → statement M
 wrong-spec =
     tie.close
@@ -26,6 +17,6 @@ wrong-spec =
     (λ c κs. search needs)
     (λ c. search needs)
     (λ c κs. search needs)
-    returns
-    returns-2
-    returns-3)
+    (λ c. c .row .ensures ∙ ap (λ (o : Outcome). wrongWords (c .before .before .before .args .visits) (c .before .before .before .args .state) (outcome o)) (sym (c .before .enum-told .given .1)))
+    (λ c. c .row2 .ensures ∙ ap (λ (o : Outcome). wrongWords (c .before .before .before .args .visits) (c .before .before .before .args .state) (outcome o)) (sym (c .before .enum-told2 .given .1)))
+    (λ c. c .row3 .ensures ∙ ap (λ (o : Outcome). wrongWords (c .before .before .before .before .args .visits) (c .before .before .before .before .args .state) (outcome o)) (sym (c .before .before .outcome .given .1))))

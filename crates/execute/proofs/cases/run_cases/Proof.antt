@@ -16,12 +16,6 @@ abbrev μ-loop : tie.MeasureT-loop
 μ-loop problem steps actions goal lanes c current₀ found₀ literals₀ alive₀ i₀ current found literals alive i =
     length steps - i
 
-returns : tie.Need-returns Inv-loop μ-loop
-returns c = running-ends _ _ _ _ _ _ _ _ _ (running-begins _ _ _ _ _ _ (c .before .before .before .before .before .pre)) (omega arith) _ (c .before .formula-planes .ensures)
-
-loop-holds : tie.Need-loop-holds Inv-loop μ-loop
-loop-holds c = (running-begins _ _ _ _ _ _ (c .before .before .before .before .pre), refl, refl)
-
 obey-action-requires : tie.Need-obey-action-requires Inv-loop μ-loop
 obey-action-requires c κs = let i = c .before .before .before .before .before .before .before .loop .inv in
     (i .0 .size, i .1, i .2)
@@ -35,9 +29,6 @@ loop-again c = let w = c .before .before .before .before .before .before in
     let o = c .before .obey-action .ensures in
     (running-next _ _ _ _ _ _ _ _ _ (w .before .before .before .loop .inv .0) (omega arith) _ (w .wide .ensures .0) _ _ (o .0) (c .if2 .left), o .1, o .2)
 
-returns-3 : tie.Need-returns-3 Inv-loop μ-loop
-returns-3 c = running-ends _ _ _ _ _ _ _ _ _ (c .before .before .before .before .loop .inv .0) (omega arith) _ (c .before .formula-planes2 .ensures)
-
 pub run-cases-spec : {M : Type 1} → statement M
 run-cases-spec =
     tie.close
@@ -45,8 +36,8 @@ run-cases-spec =
     Inv-loop
     μ-loop
     (λ c κs. search needs)
-    returns
-    loop-holds
+    (λ c. running-ends _ _ _ _ _ _ _ _ _ (running-begins _ _ _ _ _ _ (c .before .before .before .before .before .pre)) (omega arith) _ (c .before .formula-planes .ensures))
+    (λ c. (running-begins _ _ _ _ _ _ (c .before .before .before .before .pre), refl, refl))
     (λ c. search needs)
     (λ c κs. search needs)
     (λ c. search needs)
@@ -57,4 +48,4 @@ run-cases-spec =
     (λ c. search needs)
     loop-again
     (λ c κs. search needs)
-    returns-3)
+    (λ c. running-ends _ _ _ _ _ _ _ _ _ (c .before .before .before .before .loop .inv .0) (omega arith) _ (c .before .formula-planes2 .ensures)))

@@ -7,9 +7,6 @@ use Rattle.execute.proofs.Promise.{run-promised}
 use Rattle.execute.proofs.operation.run.Statement.{statement}
 use Rattle.execute.proofs.operation.run.Tie as tie
 
-returns : tie.Need-returns
-returns c = let e = run-refused _ _ _ (c .before .before .find-task .ensures) (c .before .if1 .taken) _ in (e, run-promised _ _ _ _ e)
-
 sub-run-task : tie.Need-sub-run-task
 sub-run-task c = let k = c .before .before in omega (arith, k .before .find-task .ensures .stands (k .if1 .left) .fits)
 
@@ -30,7 +27,7 @@ run-spec =
     tie.close
     (tie.spec
     (λ c κs. search needs)
-    returns
+    (λ c. let e = run-refused _ _ _ (c .before .before .find-task .ensures) (c .before .if1 .taken) _ in (e, run-promised _ _ _ _ e))
     sub-run-task
     (λ c. sub-run-task c)
     (λ c. search needs)

@@ -14,9 +14,6 @@ Inv-loop problem steps actions goal current₀ found₀ literals₀ i₀ current
 abbrev μ-loop : tie.MeasureT-loop
 μ-loop problem steps actions goal current₀ found₀ literals₀ i₀ current found literals i = length steps - i
 
-loop-holds : tie.Need-loop-holds Inv-loop μ-loop
-loop-holds c = (stating-begins _ _ _ _ _ (search needs), refl, refl)
-
 obey-action-requires : tie.Need-obey-action-requires Inv-loop μ-loop
 obey-action-requires c κs = let i = c .before .before .before .before .before .before .before .loop .inv in
     (i .0 .size, i .1, i .2)
@@ -30,19 +27,13 @@ loop-again c = let w = c .before .before .before .before .before .before in
     let o = c .before .obey-action .ensures in
     (stating-next _ _ _ _ _ _ _ (w .before .before .before .loop .inv .0) (omega arith) _ (w .wide .ensures .0) _ _ (o .0) (c .if1 .left), o .1, o .2)
 
-returns-2 : tie.Need-returns-2 Inv-loop μ-loop
-returns-2 c = stating-ends _ _ _ _ _ _ _ (c .before .before .before .before .before .loop .inv .0) (omega arith) _ (c .before .before .formula-planes .ensures) _ (tells-missed _ (c .if2 .taken))
-
-returns-3 : tie.Need-returns-3 Inv-loop μ-loop
-returns-3 c = stating-ends _ _ _ _ _ _ _ (c .before .before .before .before .before .loop .inv .0) (omega arith) _ (c .before .before .formula-planes .ensures) _ (tells-reached _ (c .if2 .left))
-
 pub run-state-spec : {M : Type 1} → statement M
 run-state-spec =
     tie.close
     (tie.spec
     Inv-loop
     μ-loop
-    loop-holds
+    (λ c. (stating-begins _ _ _ _ _ (search needs), refl, refl))
     (λ c. search needs)
     (λ c κs. search needs)
     (λ c. search needs)
@@ -53,5 +44,5 @@ run-state-spec =
     (λ c. search needs)
     loop-again
     (λ c κs. search needs)
-    returns-2
-    returns-3)
+    (λ c. stating-ends _ _ _ _ _ _ _ (c .before .before .before .before .before .loop .inv .0) (omega arith) _ (c .before .before .formula-planes .ensures) _ (tells-missed _ (c .if2 .taken)))
+    (λ c. stating-ends _ _ _ _ _ _ _ (c .before .before .before .before .before .loop .inv .0) (omega arith) _ (c .before .before .formula-planes .ensures) _ (tells-reached _ (c .if2 .left))))

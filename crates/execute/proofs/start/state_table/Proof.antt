@@ -5,9 +5,6 @@ use Rattle.execute.proofs.Starting.{state-large, state-small, state-fix
 use Rattle.execute.proofs.start.state_table.Statement.{statement}
 use Rattle.execute.proofs.start.state_table.Tie as tie
 
-returns : tie.Need-returns
-returns c = state-large _ (c .before .before .before .before .pre .0) _ _ _ _ (c .before .before .wide .ensures .0) (c .before .low-bits .ensures) _ (c .if1 .taken)
-
 word-of-requires : tie.Need-word-of-requires
 word-of-requires c κs =
     let S = c .before .before .before .before .before .pre .0 in
@@ -27,7 +24,7 @@ state-table-spec =
     (λ c κs. omega arith)
     (λ c κs. search needs)
     (λ c κs. omega arith)
-    returns
+    (λ c. state-large _ (c .before .before .before .before .pre .0) _ _ _ _ (c .before .before .wide .ensures .0) (c .before .low-bits .ensures) _ (c .if1 .taken))
     word-of-requires
     (λ c κs. omega arith)
     (λ c. omega arith)

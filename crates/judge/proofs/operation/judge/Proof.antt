@@ -8,9 +8,6 @@ use Rattle.judge.proofs.Promise.{judge-promised}
 use Rattle.judge.proofs.operation.judge.Statement.{statement}
 use Rattle.judge.proofs.operation.judge.Tie as tie
 
-returns : tie.Need-returns
-returns c = let e = judge-refused _ _ _ (c .before .before .find-task .ensures) (c .before .if1 .taken) _ in (e, judge-promised _ _ _ _ e)
-
 sub-judge-task : tie.Need-sub-judge-task
 sub-judge-task c = let k = c .before .before in omega (arith, k .before .find-task .ensures .stands (k .if1 .left) .fits)
 
@@ -31,7 +28,7 @@ judge-spec =
     tie.close
     (tie.spec
     (λ c κs. search needs)
-    returns
+    (λ c. let e = judge-refused _ _ _ (c .before .before .find-task .ensures) (c .before .if1 .taken) _ in (e, judge-promised _ _ _ _ e))
     sub-judge-task
     (λ c. sub-judge-task c)
     (λ c. search needs)

@@ -4,15 +4,6 @@ use Rattle.judge.proofs.Verdicts.{judges-undecided, judges-wrong, judge
 use Rattle.judge.proofs.operation.judge_task.Statement.{statement}
 use Rattle.judge.proofs.operation.judge_task.Tie as tie
 
-returns : tie.Need-returns
-returns c = judges-undecided _ (c .before .before .before .before .before .before .before .before .before .pre .0) _ _ _ _ _ _ _ _ (c .before .before .before .before .walk-task .ensures) (c .enum-told .given .1)
-
-returns-2 : tie.Need-returns-2
-returns-2 c = judges-wrong _ (c .before .before .before .before .before .before .before .before .before .before .before .pre .0) _ _ _ _ _ _ _ _ (c .before .before .before .before .before .before .walk-task .ensures) _ _ (c .before .before .state .given .1) _ (c .outcome-of .ensures)
-
-returns-3 : tie.Need-returns-3
-returns-3 c = judges-right _ (c .before .before .before .before .before .before .before .before .before .before .pre .0) _ _ _ _ _ _ _ _ (c .before .before .before .before .before .walk-task .ensures) _ _ _ (c .before .lines .given .1)
-
 pub judge-task-spec : {M : Type 1} → statement M
 judge-task-spec =
     tie.close
@@ -23,8 +14,8 @@ judge-task-spec =
     (λ c κs. search needs)
     (λ c. search needs)
     (λ c. search needs)
-    returns
+    (λ c. judges-undecided _ (c .before .before .before .before .before .before .before .before .before .pre .0) _ _ _ _ _ _ _ _ (c .before .before .before .before .walk-task .ensures) (c .enum-told .given .1))
     (λ c. search needs)
-    returns-2
+    (λ c. judges-wrong _ (c .before .before .before .before .before .before .before .before .before .before .before .pre .0) _ _ _ _ _ _ _ _ (c .before .before .before .before .before .before .walk-task .ensures) _ _ (c .before .before .state .given .1) _ (c .outcome-of .ensures))
     (λ c. search needs)
-    returns-3)
+    (λ c. judges-right _ (c .before .before .before .before .before .before .before .before .before .before .pre .0) _ _ _ _ _ _ _ _ (c .before .before .before .before .before .walk-task .ensures) _ _ _ (c .before .lines .given .1)))

@@ -4,11 +4,5 @@ use Rattle.judge.proofs.Verdicts.{outcome-none, outcome-ended}
 use Rattle.judge.proofs.operation.outcome_of.Statement.{statement}
 use Rattle.judge.proofs.operation.outcome_of.Tie as tie
 
-returns : tie.Need-returns
-returns c = outcome-none _ _ _ _ _ _ (c .before .before .run-task .ensures) _ _ (c .enum-told .given .1)
-
-returns-2 : tie.Need-returns-2
-returns-2 c = outcome-ended _ _ _ _ _ _ (c .before .before .before .run-task .ensures) _ (c .before .outcome .given .1)
-
 pub outcome-of-spec : {M : Type 1} → statement M
-outcome-of-spec = tie.close (tie.spec (λ c κs. search needs) (λ c. search needs) (λ c. search needs) returns returns-2)
+outcome-of-spec = tie.close (tie.spec (λ c κs. search needs) (λ c. search needs) (λ c. search needs) (λ c. outcome-none _ _ _ _ _ _ (c .before .before .run-task .ensures) _ _ (c .enum-told .given .1)) (λ c. outcome-ended _ _ _ _ _ _ (c .before .before .before .run-task .ensures) _ (c .before .outcome .given .1)))

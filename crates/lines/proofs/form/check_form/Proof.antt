@@ -11,12 +11,6 @@ use Rattle.lines.proofs.Forms.{line-kind, line-facts, line-bit, line-so
 abbrev past : ℕ → ℕ → ℕ → ℕ
 past size v k = v % 2 ^ (8 * (size - 2) - k)
 
-returns : tie.Need-returns
-returns c = line-kind _ _ _ _ _ (c .before .before .read-line .ensures) (omega arith)
-
-returns-2 : tie.Need-returns-2
-returns-2 c = line-facts _ _ _ _ _ (c .before .before .before .before .read-line .ensures) (omega arith) (omega arith)
-
 returns-3 : tie.Need-returns-3
 returns-3 c = let b = c .before in
     let d = b .before .before .before .before .before .before in
@@ -32,8 +26,8 @@ check-form-spec =
     tie.close
     (tie.spec
     (λ c κs. search needs)
-    returns
-    returns-2
+    (λ c. line-kind _ _ _ _ _ (c .before .before .read-line .ensures) (omega arith))
+    (λ c. line-facts _ _ _ _ _ (c .before .before .before .before .read-line .ensures) (omega arith) (omega arith))
     (λ c. search needs)
     (λ c. search needs)
     (λ c κs. search needs)

@@ -4,9 +4,6 @@ use Rattle.lines.proofs.form.read_line.Statement.{statement}
 use Rattle.lines.proofs.form.read_line.Tie as tie
 use Rattle.lines.proofs.Forms.{line-read}
 
-returns : tie.Need-returns
-returns c = line-read _ _ _ _ (c .read-number .ensures .0) (c .read-number .ensures .1)
-
 pub read-line-spec : {M : Type 1} → statement M
 read-line-spec =
     tie.close
@@ -19,4 +16,4 @@ read-line-spec =
     (λ c. search needs)
     (λ c. search needs)
     (λ c κs. search needs)
-    returns)
+    (λ c. line-read _ _ _ _ (c .read-number .ensures .0) (c .read-number .ensures .1)))

@@ -8,15 +8,6 @@ use native.Mathlib.Omega.{arith}
 use Rattle.lines.proofs.Stores.{line-stored}
 use mathlib.Core.Path.{ap, _∙_}
 
-slice-write-out-2 : tie.Need-slice-write-out-2
-slice-write-out-2 c = simp length-set (omega arith)
-
-put-number-requires : tie.Need-put-number-requires
-put-number-requires c κs = (omega arith, simp length-set (omega arith))
-
-same-length : tie.Need-same-length
-same-length c = ap length (c .before .before .put-number .ensures) ∙ simp (length-sets, length-set)
-
 returns : tie.Need-returns
 returns c =
     let a = c .before .before .before .before .before .args in
@@ -28,9 +19,9 @@ put-line-spec =
     (tie.spec
     (λ c. search needs)
     (λ c. search needs)
-    slice-write-out-2
+    (λ c. simp length-set (omega arith))
     (λ c. search needs)
     (λ c. search needs)
-    put-number-requires
-    same-length
+    (λ c κs. (omega arith, simp length-set (omega arith)))
+    (λ c. ap length (c .before .before .put-number .ensures) ∙ simp (length-sets, length-set))
     returns)

@@ -12,9 +12,6 @@ Inv-loop s at c found₀ literals₀ e₀ n p₀ found literals e p = Finding s 
 abbrev μ-loop : tie.MeasureT-loop
 μ-loop s at c found₀ literals₀ e₀ n p₀ found literals e p = n - e
 
-returns : tie.Need-returns Inv-loop μ-loop
-returns c = finding-none _ _ _ _ _ (c .before .before .pre .0) (c .before .before .pre .1) (c .if1 .taken)
-
 returns-2 : tie.Need-returns-2 Inv-loop μ-loop
 returns-2 c = let w = c .before in
     finding-many _ _ _ _ _ _ (w .before .before .before .before .pre .0) (w .before .before .before .before .pre .1) (c .if2 .taken) (w .wide .ensures .0)
@@ -23,28 +20,19 @@ loop-holds : tie.Need-loop-holds Inv-loop μ-loop
 loop-holds c = let w = c .before in
     finding-begins _ _ _ _ _ _ (w .before .before .before .before .pre .0) (w .before .before .before .before .pre .1) (omega arith) (w .wide .ensures .0)
 
-returns-3 : tie.Need-returns-3 Inv-loop μ-loop
-returns-3 c = finding-short _ _ _ _ _ _ _ _ (c .before .before .loop .inv) (c .before .loop-test .taken) (c .if3 .taken)
-
-loop-again : tie.Need-loop-again Inv-loop μ-loop
-loop-again c = finding-next _ _ _ _ _ _ _ _ (c .before .before .before .before .loop .inv) (c .before .before .before .loop-test .taken) _ (c .before .formula-planes .ensures)
-
-returns-4 : tie.Need-returns-4 Inv-loop μ-loop
-returns-4 c = finding-ends _ _ _ _ _ _ _ _ (c .before .loop .inv) (c .loop-test .left)
-
 pub find-conditions-spec : {M : Type 1} → statement M
 find-conditions-spec =
     tie.close
     (tie.spec
     Inv-loop
     μ-loop
-    returns
+    (λ c. finding-none _ _ _ _ _ (c .before .before .pre .0) (c .before .before .pre .1) (c .if1 .taken))
     (λ c. search needs)
     (λ c κs. search needs)
     returns-2
     (λ c. search needs)
     loop-holds
-    returns-3
+    (λ c. finding-short _ _ _ _ _ _ _ _ (c .before .before .loop .inv) (c .before .loop-test .taken) (c .if3 .taken))
     (λ c. search needs)
     (λ c κs. search needs)
     (λ c. search needs)
@@ -58,5 +46,5 @@ find-conditions-spec =
     (λ c. search needs)
     (λ c. search needs)
     (λ c. search needs)
-    loop-again
-    returns-4)
+    (λ c. finding-next _ _ _ _ _ _ _ _ (c .before .before .before .before .loop .inv) (c .before .before .before .loop-test .taken) _ (c .before .formula-planes .ensures))
+    (λ c. finding-ends _ _ _ _ _ _ _ _ (c .before .loop .inv) (c .loop-test .left)))

@@ -10,22 +10,13 @@ Inv-loop n literals found c₀ e₀ c e = Settling n literals found c₀ e c
 abbrev μ-loop : tie.MeasureT-loop
 μ-loop n literals found c₀ e₀ c e = e
 
-loop-holds : tie.Need-loop-holds Inv-loop μ-loop
-loop-holds c = settling-begins _ _ _ _ (c .pre .3)
-
-loop-again : tie.Need-loop-again Inv-loop μ-loop
-loop-again c = settling-next _ _ _ _ _ _ _ (c .before .before .before .before .before .before .before .loop .inv) (c .before .before .before .before .before .before .loop-test .taken) _ (c .before .before .before .before .wide .ensures .0) (c .settle-entry .ensures)
-
-returns : tie.Need-returns Inv-loop μ-loop
-returns c = settling-ends _ _ _ _ _ _ (c .before .loop .inv) (c .loop-test .left)
-
 pub settle-spec : {M : Type 1} → statement M
 settle-spec =
     tie.close
     (tie.spec
     Inv-loop
     μ-loop
-    loop-holds
+    (λ c. settling-begins _ _ _ _ (c .pre .3))
     (λ c. search needs)
     (λ c. search needs)
     (λ c κs. search needs)
@@ -38,5 +29,5 @@ settle-spec =
     (λ c. search needs)
     (λ c κs. search needs)
     (λ c. search needs)
-    loop-again
-    returns)
+    (λ c. settling-next _ _ _ _ _ _ _ (c .before .before .before .before .before .before .before .loop .inv) (c .before .before .before .before .before .before .loop-test .taken) _ (c .before .before .before .before .wide .ensures .0) (c .settle-entry .ensures))
+    (λ c. settling-ends _ _ _ _ _ _ (c .before .loop .inv) (c .loop-test .left)))

@@ -6,9 +6,6 @@ use mathlib.Core.Path.{refl}
 use native.Mathlib.Omega.{arith}
 use Rattle.step.proofs.Finding.{entry-settles}
 
-returns : tie.Need-returns
-returns c = entry-settles _ _ _ _ _ _ _ refl refl (omega arith) (c .set-literal .ensures)
-
 pub settle-entry-spec : {M : Type 1} → statement M
 settle-entry-spec =
     tie.close
@@ -21,4 +18,4 @@ settle-entry-spec =
     (λ c. search needs)
     (λ c. search needs)
     (λ c κs. search needs)
-    returns)
+    (λ c. entry-settles _ _ _ _ _ _ _ refl refl (omega arith) (c .set-literal .ensures)))

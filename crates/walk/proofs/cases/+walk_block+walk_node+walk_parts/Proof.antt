@@ -67,96 +67,39 @@ walk-node-calls t = (lane-bit-reads.Asked, lane-bit-reads.Learnt, add-line-reads
 abbrev walk-parts-calls : ℕ → walk-parts-lts.Claims
 walk-parts-calls t = (walk-node-below t, walk-node.Post, span-reads.Asked, span-reads.Learnt, joined-reads.Asked, joined-reads.Learnt)
 
-walk-block-look-at-cases-requires : (t : ℕ) → walk-block-lts.Need-look-at-cases-requires (walk-block-calls t) (walk-block-at t) walk-block.Post
-walk-block-look-at-cases-requires t c κs = c .before .before .before .pre .1 .0
-
-walk-block-walk-node-requires : (t : ℕ) → walk-block-lts.Need-walk-node-requires (walk-block-calls t) (walk-block-at t) walk-block.Post
-walk-block-walk-node-requires t c κs = (omega (arith, c .before .before .before .before .before .pre .0), (c .before .before .before .before .before .pre .1 .0, block-fits _ _ _ _ _ (c .before .before .before .before .before .pre .1 .1)))
-
-walk-block-returns : (t : ℕ) → walk-block-lts.Need-returns (walk-block-calls t) (walk-block-at t) walk-block.Post
-walk-block-returns t c = block-walks _ _ _ _ _ _ _ _ _ _ _ (c .before .before .before .before .before .before .before .before .pre .1 .1) _ (c .before .before .before .before .look-at-cases .ensures) _ _ (c .before .before .walk-node .ensures)
-
-walk-node-returns : (t : ℕ) → walk-node-lts.Need-returns (walk-node-calls t) (walk-node-at t) walk-node.Post
-walk-node-returns t c = node-out _ _ _ _ _ _ _ _ _ _ _ _ (c .if1 .taken)
-
-walk-node-lane-bit-requires : (t : ℕ) → walk-node-lts.Need-lane-bit-requires (walk-node-calls t) (walk-node-at t) walk-node.Post
-walk-node-lane-bit-requires t c κs = lane-small _ _ _ _ (c .before .before .before .before .pre .1 .1)
-
-walk-node-add-line-requires : (t : ℕ) → walk-node-lts.Need-add-line-requires (walk-node-calls t) (walk-node-at t) walk-node.Post
-walk-node-add-line-requires t c κs = omega (arith, c .before .before .before .before .before .before .before .pre .1 .1 .fits .slots)
-
-walk-node-returns-2 : (t : ℕ) → walk-node-lts.Need-returns-2 (walk-node-calls t) (walk-node-at t) walk-node.Post
-walk-node-returns-2 t c = node-empty _ _ _ _ _ _ _ _ _ _ _ _ (lane-small _ _ _ _ (c .before .before .before .before .before .before .before .before .before .before .pre .1 .1)) (omega (arith, c .before .before .before .before .before .before .if1 .left)) (sym (c .before .before .before .before .before .lane-bit .ensures) ∙ c .before .before .before .before .if2 .taken) _ _ (c .before .before .add-line .ensures)
-
-walk-node-lane-bit-requires-2 : (t : ℕ) → walk-node-lts.Need-lane-bit-requires-2 (walk-node-calls t) (walk-node-at t) walk-node.Post
-walk-node-lane-bit-requires-2 t c κs = lane-small _ _ _ _ (c .before .before .before .before .before .before .pre .1 .1)
-
-walk-node-add-line-requires-2 : (t : ℕ) → walk-node-lts.Need-add-line-requires-2 (walk-node-calls t) (walk-node-at t) walk-node.Post
-walk-node-add-line-requires-2 t c κs = omega (arith, c .before .before .before .before .before .before .before .before .before .pre .1 .1 .fits .slots)
-
-walk-node-returns-3 : (t : ℕ) → walk-node-lts.Need-returns-3 (walk-node-calls t) (walk-node-at t) walk-node.Post
-walk-node-returns-3 t c = node-carries _ _ _ _ _ _ _ _ _ _ _ _ (lane-small _ _ _ _ (c .before .before .before .before .before .before .before .before .before .before .before .before .pre .1 .1)) (omega (arith, c .before .before .before .before .before .before .before .before .if1 .left)) (λ e. c .before .before .before .before .before .before .if2 .left (c .before .before .before .before .before .before .before .lane-bit .ensures ∙ e)) (sym (c .before .before .before .before .before .lane-bit2 .ensures) ∙ c .before .before .before .before .if3 .taken) _ _ (c .before .before .add-line2 .ensures)
-
-walk-node-add-if4 : (t : ℕ) → walk-node-lts.Need-add-if4 (walk-node-calls t) (walk-node-at t) walk-node.Post
-walk-node-add-if4 t c = omega (arith, c .before .before .before .before .before .before .before .before .before .pre .1 .1 .inside, c .before .before .before .before .before .before .before .before .before .pre .1 .1 .fits .slots)
-
-walk-node-sub-walk-parts : (t : ℕ) → walk-node-lts.Need-sub-walk-parts (walk-node-calls t) (walk-node-at t) walk-node.Post
-walk-node-sub-walk-parts t c = omega (arith, c .before .before .before .before .before .before .before .if1 .left)
-
-walk-node-walk-parts-requires : (t : ℕ) → walk-node-lts.Need-walk-parts-requires (walk-node-calls t) (walk-node-at t) walk-node.Post
-walk-node-walk-parts-requires t c κs = (omega (arith, c .before .before .before .before .before .before .before .before .before .before .before .before .pre .0), (c .before .before .before .before .before .before .before .before .before .before .before .before .pre .1 .0, c .before .before .before .before .before .before .before .before .before .before .before .before .pre .1 .1, c .before .if4 .taken, omega (arith, c .before .before .before .before .before .before .before .before .if1 .left)))
-
-walk-node-returns-4 : (t : ℕ) → walk-node-lts.Need-returns-4 (walk-node-calls t) (walk-node-at t) walk-node.Post
-walk-node-returns-4 t c = node-splits _ _ _ _ _ _ _ _ _ _ _ _ (lane-small _ _ _ _ (c .before .before .before .before .before .before .before .before .before .before .before .before .before .before .before .pre .1 .1)) (omega (arith, c .before .before .before .before .before .before .before .before .before .before .before .if1 .left)) (λ e. c .before .before .before .before .before .before .before .before .before .if2 .left (c .before .before .before .before .before .before .before .before .before .before .lane-bit .ensures ∙ e)) (λ e. c .before .before .before .before .before .before .before .if3 .left (c .before .before .before .before .before .before .before .before .lane-bit2 .ensures ∙ e)) (omega (arith, c .before .before .before .before .if4 .taken, c .before .before .before .before .before .before .before .before .before .before .before .before .before .before .before .pre .1 .1 .inside)) _ _ (c .before .before .walk-parts .ensures)
-
-walk-node-returns-5 : (t : ℕ) → walk-node-lts.Need-returns-5 (walk-node-calls t) (walk-node-at t) walk-node.Post
-walk-node-returns-5 t c = node-fails _ _ _ _ _ _ _ _ _ _ _ _ (lane-small _ _ _ _ (c .before .before .before .before .before .before .before .before .before .before .before .before .before .pre .1 .1)) (omega (arith, c .before .before .before .before .before .before .before .before .before .if1 .left)) (λ e. c .before .before .before .before .before .before .before .if2 .left (c .before .before .before .before .before .before .before .before .lane-bit .ensures ∙ e)) (λ e. c .before .before .before .before .before .if3 .left (c .before .before .before .before .before .before .lane-bit2 .ensures ∙ e)) (c .if5 .taken)
-
-walk-node-fix-path-requires : (t : ℕ) → walk-node-lts.Need-fix-path-requires (walk-node-calls t) (walk-node-at t) walk-node.Post
-walk-node-fix-path-requires t c κs = (c .before .before .before .before .before .before .before .before .before .before .before .before .before .before .before .pre .1 .0, lane-small _ _ _ _ (c .before .before .before .before .before .before .before .before .before .before .before .before .before .before .before .pre .1 .1), omega (arith, c .before .before .before .before .before .before .before .before .before .before .before .before .before .before .before .pre .1 .1 .inside, c .before .before .before .before .before .before .before .before .before .before .before .before .before .before .before .pre .1 .1 .fits .slots))
-
-walk-node-fix-levels-requires : (t : ℕ) → walk-node-lts.Need-fix-levels-requires (walk-node-calls t) (walk-node-at t) walk-node.Post
-walk-node-fix-levels-requires t c κs = (c .before .before .fix-path .ensures .size, c .before .levels-of .ensures .few, omega (arith, c .before .levels-of .ensures .inside, c .before .before .before .before .before .before .before .before .before .before .before .before .before .before .before .before .before .before .pre .1 .1 .fits .slots))
-
-walk-node-walk-block-requires : (t : ℕ) → walk-node-lts.Need-walk-block-requires (walk-node-calls t) (walk-node-at t) walk-node.Post
-walk-node-walk-block-requires t c κs = (omega (arith, c .before .before .before .before .before .before .before .before .before .before .before .before .before .before .before .before .before .before .before .before .before .pre .0, c .before .before .before .before .levels-of .ensures .some (omega (arith, c .before .before .before .before .before .before .before .before .if5 .left)), c .before .before .before .before .before .before .before .before .before .before .if4 .left, c .before .before .before .before .before .before .before .before .before .before .before .before .before .before .before .before .before .before .before .before .before .pre .1 .1 .within), (c .before .before .fix-levels .ensures .size, edge-fits _ _ _ _ _ (c .before .before .before .before .before .before .before .before .before .before .before .before .before .before .before .before .before .before .before .before .before .pre .1 .1) (c .before .before .before .before .levels-of .ensures)))
-
-walk-node-returns-6 : (t : ℕ) → walk-node-lts.Need-returns-6 (walk-node-calls t) (walk-node-at t) walk-node.Post
-walk-node-returns-6 t c = node-edge _ _ _ _ _ _ _ _ _ _ _ _ (c .before .before .before .before .before .before .before .before .before .before .before .before .before .before .before .before .before .before .before .before .before .before .before .before .pre .1 .1) _ _ _ (c .before .before .before .before .before .before .before .before .fix-path .ensures) (c .before .before .before .before .before .fix-levels .ensures) (c .before .before .before .before .before .before .before .levels-of .ensures) _ _ (c .before .before .walk-block .ensures)
-
 pub +walk-block+walk-node+walk-parts-spec : {M : Type 1} → statement M
 +walk-block+walk-node+walk-parts-spec =
     close μ-walk-block μ-walk-node μ-walk-parts (λ t. walk-block-lts.spec (walk-block-calls t)
     (walk-block-at t)
     walk-block.Post
-    (walk-block-look-at-cases-requires t)
-    (walk-block-walk-node-requires t)
+    (λ c κs. c .before .before .before .pre .1 .0)
+    (λ c κs. (omega (arith, c .before .before .before .before .before .pre .0), (c .before .before .before .before .before .pre .1 .0, block-fits _ _ _ _ _ (c .before .before .before .before .before .pre .1 .1))))
     (λ c. search needs)
-    (walk-block-returns t))
+    (λ c. block-walks _ _ _ _ _ _ _ _ _ _ _ (c .before .before .before .before .before .before .before .before .pre .1 .1) _ (c .before .before .before .before .look-at-cases .ensures) _ _ (c .before .before .walk-node .ensures)))
     (λ t. walk-node-lts.spec (walk-node-calls t)
     (walk-node-at t)
     walk-node.Post
-    (walk-node-returns t)
-    (walk-node-lane-bit-requires t)
-    (walk-node-add-line-requires t)
+    (λ c. node-out _ _ _ _ _ _ _ _ _ _ _ _ (c .if1 .taken))
+    (λ c κs. lane-small _ _ _ _ (c .before .before .before .before .pre .1 .1))
+    (λ c κs. omega (arith, c .before .before .before .before .before .before .before .pre .1 .1 .fits .slots))
     (λ c. search needs)
-    (walk-node-returns-2 t)
-    (walk-node-lane-bit-requires-2 t)
-    (walk-node-add-line-requires-2 t)
+    (λ c. node-empty _ _ _ _ _ _ _ _ _ _ _ _ (lane-small _ _ _ _ (c .before .before .before .before .before .before .before .before .before .before .pre .1 .1)) (omega (arith, c .before .before .before .before .before .before .if1 .left)) (sym (c .before .before .before .before .before .lane-bit .ensures) ∙ c .before .before .before .before .if2 .taken) _ _ (c .before .before .add-line .ensures))
+    (λ c κs. lane-small _ _ _ _ (c .before .before .before .before .before .before .pre .1 .1))
+    (λ c κs. omega (arith, c .before .before .before .before .before .before .before .before .before .pre .1 .1 .fits .slots))
     (λ c. search needs)
-    (walk-node-returns-3 t)
-    (walk-node-add-if4 t)
-    (walk-node-sub-walk-parts t)
-    (walk-node-walk-parts-requires t)
+    (λ c. node-carries _ _ _ _ _ _ _ _ _ _ _ _ (lane-small _ _ _ _ (c .before .before .before .before .before .before .before .before .before .before .before .before .pre .1 .1)) (omega (arith, c .before .before .before .before .before .before .before .before .if1 .left)) (λ e. c .before .before .before .before .before .before .if2 .left (c .before .before .before .before .before .before .before .lane-bit .ensures ∙ e)) (sym (c .before .before .before .before .before .lane-bit2 .ensures) ∙ c .before .before .before .before .if3 .taken) _ _ (c .before .before .add-line2 .ensures))
+    (λ c. omega (arith, c .before .before .before .before .before .before .before .before .before .pre .1 .1 .inside, c .before .before .before .before .before .before .before .before .before .pre .1 .1 .fits .slots))
+    (λ c. omega (arith, c .before .before .before .before .before .before .before .if1 .left))
+    (λ c κs. (omega (arith, c .before .before .before .before .before .before .before .before .before .before .before .before .pre .0), (c .before .before .before .before .before .before .before .before .before .before .before .before .pre .1 .0, c .before .before .before .before .before .before .before .before .before .before .before .before .pre .1 .1, c .before .if4 .taken, omega (arith, c .before .before .before .before .before .before .before .before .if1 .left))))
     (λ c. search needs)
-    (walk-node-returns-4 t)
-    (walk-node-returns-5 t)
-    (walk-node-fix-path-requires t)
+    (λ c. node-splits _ _ _ _ _ _ _ _ _ _ _ _ (lane-small _ _ _ _ (c .before .before .before .before .before .before .before .before .before .before .before .before .before .before .before .pre .1 .1)) (omega (arith, c .before .before .before .before .before .before .before .before .before .before .before .if1 .left)) (λ e. c .before .before .before .before .before .before .before .before .before .if2 .left (c .before .before .before .before .before .before .before .before .before .before .lane-bit .ensures ∙ e)) (λ e. c .before .before .before .before .before .before .before .if3 .left (c .before .before .before .before .before .before .before .before .lane-bit2 .ensures ∙ e)) (omega (arith, c .before .before .before .before .if4 .taken, c .before .before .before .before .before .before .before .before .before .before .before .before .before .before .before .pre .1 .1 .inside)) _ _ (c .before .before .walk-parts .ensures))
+    (λ c. node-fails _ _ _ _ _ _ _ _ _ _ _ _ (lane-small _ _ _ _ (c .before .before .before .before .before .before .before .before .before .before .before .before .before .pre .1 .1)) (omega (arith, c .before .before .before .before .before .before .before .before .before .if1 .left)) (λ e. c .before .before .before .before .before .before .before .if2 .left (c .before .before .before .before .before .before .before .before .lane-bit .ensures ∙ e)) (λ e. c .before .before .before .before .before .if3 .left (c .before .before .before .before .before .before .lane-bit2 .ensures ∙ e)) (c .if5 .taken))
+    (λ c κs. (c .before .before .before .before .before .before .before .before .before .before .before .before .before .before .before .pre .1 .0, lane-small _ _ _ _ (c .before .before .before .before .before .before .before .before .before .before .before .before .before .before .before .pre .1 .1), omega (arith, c .before .before .before .before .before .before .before .before .before .before .before .before .before .before .before .pre .1 .1 .inside, c .before .before .before .before .before .before .before .before .before .before .before .before .before .before .before .pre .1 .1 .fits .slots)))
     (λ c κs. search needs)
-    (walk-node-fix-levels-requires t)
-    (walk-node-walk-block-requires t)
+    (λ c κs. (c .before .before .fix-path .ensures .size, c .before .levels-of .ensures .few, omega (arith, c .before .levels-of .ensures .inside, c .before .before .before .before .before .before .before .before .before .before .before .before .before .before .before .before .before .before .pre .1 .1 .fits .slots)))
+    (λ c κs. (omega (arith, c .before .before .before .before .before .before .before .before .before .before .before .before .before .before .before .before .before .before .before .before .before .pre .0, c .before .before .before .before .levels-of .ensures .some (omega (arith, c .before .before .before .before .before .before .before .before .if5 .left)), c .before .before .before .before .before .before .before .before .before .before .if4 .left, c .before .before .before .before .before .before .before .before .before .before .before .before .before .before .before .before .before .before .before .before .before .pre .1 .1 .within), (c .before .before .fix-levels .ensures .size, edge-fits _ _ _ _ _ (c .before .before .before .before .before .before .before .before .before .before .before .before .before .before .before .before .before .before .before .before .before .pre .1 .1) (c .before .before .before .before .levels-of .ensures))))
     (λ c. search needs)
-    (walk-node-returns-6 t))
+    (λ c. node-edge _ _ _ _ _ _ _ _ _ _ _ _ (c .before .before .before .before .before .before .before .before .before .before .before .before .before .before .before .before .before .before .before .before .before .before .before .before .pre .1 .1) _ _ _ (c .before .before .before .before .before .before .before .before .fix-path .ensures) (c .before .before .before .before .before .fix-levels .ensures) (c .before .before .before .before .before .before .before .levels-of .ensures) _ _ (c .before .before .walk-block .ensures)))
     λ t. walk-parts-lts.spec (walk-parts-calls t)
     (walk-parts-at t)
     walk-parts.Post

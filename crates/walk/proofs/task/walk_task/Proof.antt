@@ -5,9 +5,6 @@ use Rattle.walk.proofs.Whole.{whole-fits, walks-task}
 use Rattle.walk.proofs.task.walk_task.Statement.{statement}
 use Rattle.walk.proofs.task.walk_task.Tie as tie
 
-walk-block-requires : tie.Need-walk-block-requires
-walk-block-requires c κs = (search needs, whole-fits _ _ _ (c .before .before .before .before .before .before .before .before .before .before .before .before .pre .0) (omega (arith, c .before .before .before .before .before .before .before .before .wide .ensures .0, c .before .before .before .before .before .before .before .before .before .before .before .before .pre .1)) (c .before .before .before .before .before .before .first-levels .ensures))
-
 returns : tie.Need-returns
 returns c = let w = c .before .before .before .before .before .before .before .before .before .before .before in
     walks-task _ (w .before .before .before .before .pre .0) _ _ (w .before .before .before .before .args .parts) _ _ _ (w .wide .ensures .0) (c .before .before .before .before .before .before .before .before .before .first-levels .ensures) _ _ (c .before .before .before .before .before .before .before .before .none-fixed .ensures) (c .before .before .before .before .before .before .fix-levels .ensures) _ _ _ _ (c .before .before .walk-block .ensures)
@@ -20,6 +17,6 @@ walk-task-spec =
     (λ c κs. search needs)
     (λ c κs. search needs)
     (λ c κs. search needs)
-    walk-block-requires
+    (λ c κs. (search needs, whole-fits _ _ _ (c .before .before .before .before .before .before .before .before .before .before .before .before .pre .0) (omega (arith, c .before .before .before .before .before .before .before .before .wide .ensures .0, c .before .before .before .before .before .before .before .before .before .before .before .before .pre .1)) (c .before .before .before .before .before .before .first-levels .ensures)))
     (λ c. search needs)
     returns)
