@@ -47,13 +47,63 @@ goes-bit false reached s = refl
 goes-bit false missed s = refl
 goes-bit false (blocked p) s = refl
 
-min-assoc : (a b c : ℕ) → min a (min b c) ≡ min (min a b) c
-min-assoc a b c = omega arith
-
-dead : (a x : ℕ) → a ≡ 0 → min a x ≡ 0
-dead a x e = omega arith
+-- a step in a lane
+turn-bit :
+    (a a′ : ℕ) (b : Bool) (o o′ : Run.Outcome) (s : Stop) → o ≡ goesOn b o′ s → a′ ≡ min a (flag b) → min a (reachedBit o) ≡ min a′ (reachedBit o′)
+turn-bit a a′ b o o′ s e f = rw (e, goes-bit b o′ s, f) (omega arith)
 
 -- ---- the run of a task that stands there
+
+-- what is left of a run, from step i on
+abbrev runFrom : Task → ℕ → List Kleene → Run.Outcome
+runFrom T i v = run three (T .facts) (T .goal) (drop i (T .plan)) i v
+
+abbrev after : Task → ℕ → List Kleene → List Kleene
+after T i v = step three (T .facts) (actionAt (T .plan) i) v
+
+drop-action : (plan : List Action) (i : ℕ) → i < length plan → drop i plan ≡ actionAt plan i ∷ drop (suc i) plan
+unfolding actionAt
+drop-action plan i h = drop-cons plan i _ h
+
+sized-after : (T : Task) (i : ℕ) (case : ℕ → List Kleene) → Sized (T .facts) (λ j. after T i (case j))
+unfolding step
+sized-after T i case j l = length-tabulate (T .facts) _
+
+-- the goal decides what is left of a run whose steps were all obeyed
+run-end : (T : Task) (i : ℕ) (v : List Kleene) → length (T .plan) ≤ i → runFrom T i v ≡ atEnd (isYes (eval three v (T .goal)))
+unfolding run
+run-end T i v h = ap (λ (w : List Action). run three (T .facts) (T .goal) w i v) (all (T .plan) i h)
+  where
+    all : (plan : List Action) (n : ℕ) → length plan ≤ n → drop n plan ≡ []
+    all [] zero h = refl
+    all [] (suc n) h = refl
+    all (a ∷ plan) zero h = absurd (omega arith)
+    all (a ∷ plan) (suc n) h = all plan n (omega arith)
+
+module _ (problem steps actions : List ℕ) (goal i : ℕ) where
+  -- step i, whose slot the plan names: the lanes in which it is applicable, the table after it, and what it leaves of a run
+  turned :
+      i < length steps → (slot : ℕ) → slot ≡ getD steps i 0 % 64 → (alive alive′ : ℕ) (d d′ : List ℕ) → ObeysAction problem (getD actions slot 0) d alive d′ alive′ →
+      (initial : ℕ) (T : Task) → TaskStands problem steps actions initial goal T → (now′ : ℕ → List Kleene) → Sized (T .facts) now′ → Table d now′ →
+      ((j : ℕ) → j < 64 → laneBit j alive′ ≡ min (laneBit j alive) (flag (applicable three (actionAt (T .plan) i) (now′ j)))) ×
+      ((alive′ ≡ 0 → ⊥) → Table d′ (λ j. after T i (now′ j))) ×
+      ((v : List Kleene) → runFrom T i v ≡ goesOn (applicable three (actionAt (T .plan) i) v) (runFrom T (suc i) (after T i v)) (record { step = i }))
+  unfolding run
+  turned more slot named alive alive′ d d′ O initial T S now′ y u =
+      let (q, a) = S .acting i more in
+      let at = subst (λ (x : ℕ). ActionAt problem (T .facts) (getD actions x 0) (actionAt (T .plan) i) q) (sym (named ∙ mod-eq-of-lt (S .named i more))) a in
+      let (bits, later) = O .is (T .facts) (actionAt (T .plan) i) q (omega (arith, S .most)) at now′ y u in
+      (bits, later, λ v. ap (λ (w : List Action). run three (T .facts) (T .goal) w i v) (drop-action (T .plan) i (omega (arith, S .counted))))
+
+  -- every step was obeyed: the goal decides
+  ended :
+      length steps ≤ i → (d : List ℕ) (r : Planes) → FormulaPlanes problem d goal r → (initial : ℕ) (T : Task) → TaskStands problem steps actions initial goal T →
+      (now′ : ℕ → List Kleene) → Table d now′ → (j : ℕ) → j < 64 →
+      (b : Bool) × (laneBit j (r .sure) ≡ flag b) × (runFrom T i (now′ j) ≡ atEnd b)
+  ended h d r x initial T S now′ u j l =
+      let (q, g) = S .reaching in
+      let (_, lanes) = x .is (T .facts) (T .goal) q (omega (arith, S .most)) g in
+      (isYes (eval three (now′ j) (T .goal)), lanes now′ u .lane j l .is-sure ∙ sure-flag (eval three (now′ j) (T .goal)), run-end T i (now′ j) (omega (arith, S .counted)))
 
 -- after i steps: the lanes that go on, and the table of their values
 pub record Running (problem steps actions : List ℕ) (goal lanes : ℕ) (c : List ℕ) (i alive : ℕ) (d : List ℕ) : Type 0 where
@@ -62,54 +112,23 @@ pub record Running (problem steps actions : List ℕ) (goal lanes : ℕ) (c : Li
   pub is :
       (initial : ℕ) (T : Task) → TaskStands problem steps actions initial goal T → (case : ℕ → List Kleene) → Sized (T .facts) case → Table c case →
       (now′ : ℕ → List Kleene) × Sized (T .facts) now′ × Table d now′ ×
-      ((j : ℕ) → j < 64 →
-      min (laneBit j lanes) (reachedBit (run three (T .facts) (T .goal) (T .plan) 0 (case j))) ≡
-      min (laneBit j alive) (reachedBit (run three (T .facts) (T .goal) (drop i (T .plan)) i (now′ j))))
+      ((j : ℕ) → j < 64 → min (laneBit j lanes) (reachedBit (runFrom T 0 (case j))) ≡ min (laneBit j alive) (reachedBit (runFrom T i (now′ j))))
 
 pub running-begins : (problem steps actions : List ℕ) (goal lanes : ℕ) (c : List ℕ) → length c ≡ 256 → Running problem steps actions goal lanes c 0 lanes c
 running-begins problem steps actions goal lanes c w =
     record { size = w; few = omega arith; is = λ initial T S case z t. (case, z, t, λ j l. refl) }
 
-drop-action : (plan : List Action) (i : ℕ) → i < length plan → drop i plan ≡ actionAt plan i ∷ drop (suc i) plan
-unfolding actionAt
-drop-action plan i h = drop-cons plan i _ h
-
-sized-step : (facts : ℕ) (a : Action) (case : ℕ → List Kleene) → Sized facts (λ j. step three facts a (case j))
-unfolding step
-sized-step facts a case j l = length-tabulate facts _
-
--- the action of step i, by the slot that the step names
-acting :
-    (problem steps actions : List ℕ) (goal i : ℕ) → i < length steps → (slot : ℕ) → slot ≡ getD steps i 0 % 64 → (initial : ℕ) (T : Task) →
-    TaskStands problem steps actions initial goal T → (q : ℕ) × ActionAt problem (T .facts) (getD actions slot 0) (actionAt (T .plan) i) q
-acting problem steps actions goal i more slot named initial T S =
-    let (q, a) = S .acting i more in
-    (q, subst (λ (x : ℕ). ActionAt problem (T .facts) (getD actions x 0) (actionAt (T .plan) i) q) (sym (named ∙ mod-eq-of-lt (S .named i more))) a)
-
-module _ (problem steps actions : List ℕ) (goal lanes : ℕ) (c : List ℕ) (i alive : ℕ) (d : List ℕ) (R : Running problem steps actions goal lanes c i alive d) (more : i < length steps)
-    (slot : ℕ) (named : slot ≡ getD steps i 0 % 64) where
-  module _ (alive′ : ℕ) (d′ : List ℕ) (O : ObeysAction problem (getD actions slot 0) d alive d′ alive′) where
-    turn :
+module _ (problem steps actions : List ℕ) (goal lanes : ℕ) (c : List ℕ) (i alive : ℕ) (d : List ℕ) (R : Running problem steps actions goal lanes c i alive d) where
+  module _ (more : i < length steps) (slot : ℕ) (named : slot ≡ getD steps i 0 % 64)
+      (alive′ : ℕ) (d′ : List ℕ) (O : ObeysAction problem (getD actions slot 0) d alive d′ alive′) where
+    obeyed :
         (initial : ℕ) (T : Task) → TaskStands problem steps actions initial goal T → (case : ℕ → List Kleene) → Sized (T .facts) case → Table c case →
-        (now′ : ℕ → List Kleene) × ((alive′ ≡ 0 → ⊥) → Table d′ (λ j. step three (T .facts) (actionAt (T .plan) i) (now′ j))) ×
-        ((j : ℕ) → j < 64 →
-        min (laneBit j lanes) (reachedBit (run three (T .facts) (T .goal) (T .plan) 0 (case j))) ≡
-        min (laneBit j alive′) (reachedBit (run three (T .facts) (T .goal) (drop (suc i) (T .plan)) (suc i) (step three (T .facts) (actionAt (T .plan) i) (now′ j)))))
-    unfolding run
-    turn initial T S case z t =
+        (now′ : ℕ → List Kleene) × ((alive′ ≡ 0 → ⊥) → Table d′ (λ j. after T i (now′ j))) ×
+        ((j : ℕ) → j < 64 → min (laneBit j lanes) (reachedBit (runFrom T 0 (case j))) ≡ min (laneBit j alive′) (reachedBit (runFrom T (suc i) (after T i (now′ j)))))
+    obeyed initial T S case z t =
         let (now′, y, u, e) = R .is initial T S case z t in
-        let (q, a) = acting problem steps actions goal i more slot named initial T S in
-        let (bits, after) = O .is (T .facts) (actionAt (T .plan) i) q (omega (arith, S .most)) a now′ y u in
-        let p = drop-action (T .plan) i (omega (arith, S .counted)) in (
-          now′,
-          after,
-          λ j l.
-              e j l ∙
-              ap (λ (w : List Action). min (laneBit j alive) (reachedBit (run three (T .facts) (T .goal) w i (now′ j)))) p ∙
-              ap (min (laneBit j alive)) (goes-bit (applicable three (actionAt (T .plan) i) (now′ j)) _ _) ∙
-              min-assoc (laneBit j alive) (flag (applicable three (actionAt (T .plan) i) (now′ j))) _ ∙
-              ap (λ (w : ℕ). min w (reachedBit (run three (T .facts) (T .goal) (drop (suc i) (T .plan)) (suc i) (step three (T .facts) (actionAt (T .plan) i) (now′ j))))) (sym (bits j l)),
-        )
+        let (bits, later, turn) = turned problem steps actions goal i more slot named alive alive′ d d′ O initial T S now′ y u in
+        (now′, later, λ j l. e j l ∙ turn-bit (laneBit j alive) (laneBit j alive′) _ _ _ _ (turn (now′ j)) (bits j l))
 
     -- no lane goes on
     pub running-stops : alive′ ≡ 0 → RunsCases problem steps actions goal lanes c 0
@@ -117,8 +136,9 @@ module _ (problem steps actions : List ℕ) (goal lanes : ℕ) (c : List ℕ) (i
         record {
           is =
               λ initial T S case z t j l.
-              let (now′, after, eq) = turn initial T S case z t in
-              bit-zero j ∙ sym (eq j l ∙ dead (laneBit j alive′) _ (ap (laneBit j) e ∙ bit-zero j));
+              let (now′, later, eq) = obeyed initial T S case z t in
+              let k : laneBit j alive′ ≡ 0 = ap (laneBit j) e ∙ bit-zero j in
+              bit-zero j ∙ sym (eq j l ∙ rw k (omega arith));
         }
 
     pub running-next : (alive′ ≡ 0 → ⊥) → Running problem steps actions goal lanes c (i + 1) alive′ d′
@@ -128,37 +148,19 @@ module _ (problem steps actions : List ℕ) (goal lanes : ℕ) (c : List ℕ) (i
           few = omega arith;
           is =
               λ initial T S case z t.
-              let (now′, after, eq) = turn initial T S case z t in (
-                (λ j. step three (T .facts) (actionAt (T .plan) i) (now′ j)),
-                sized-step (T .facts) (actionAt (T .plan) i) now′,
-                after n,
-                rw (add-one i) eq,
-              );
+              let (now′, later, eq) = obeyed initial T S case z t in
+              ((λ j. after T i (now′ j)), sized-after T i now′, later n, rw (add-one i) eq);
         }
 
-drop-all : (plan : List Action) (n : ℕ) → length plan ≤ n → drop n plan ≡ []
-drop-all [] zero h = refl
-drop-all [] (suc n) h = refl
-drop-all (a ∷ plan) zero h = absurd (omega arith)
-drop-all (a ∷ plan) (suc n) h = drop-all plan n (omega arith)
-
--- every step was obeyed: the goal decides
-pub running-ends :
-    (problem steps actions : List ℕ) (goal lanes : ℕ) (c : List ℕ) (i alive : ℕ) (d : List ℕ) → Running problem steps actions goal lanes c i alive d →
-    length steps ≤ i → (r : Planes) → FormulaPlanes problem d goal r → RunsCases problem steps actions goal lanes c (bitAnd alive (r .sure))
-unfolding run
-running-ends problem steps actions goal lanes c i alive d R h r x =
-    record {
-      is =
-          λ initial T S case z t j l.
-          let (now′, y, u, e) = R .is initial T S case z t in
-          let (q, g) = S .reaching in
-          let (_, lanes′) = x .is (T .facts) (T .goal) q (omega (arith, S .most)) g in
-          let p = drop-all (T .plan) i (omega (arith, S .counted)) in
-          bit-and j alive (r .sure) ∙
-          ap (min (laneBit j alive)) (lanes′ now′ u .lane j l .is-sure ∙ sure-flag (eval three (now′ j) (T .goal)) ∙ sym (end-bit (isYes (eval three (now′ j) (T .goal))))) ∙
-          sym (e j l ∙ ap (λ (w : List Action). min (laneBit j alive) (reachedBit (run three (T .facts) (T .goal) w i (now′ j)))) p);
-    }
+  pub running-ends : length steps ≤ i → (r : Planes) → FormulaPlanes problem d goal r → RunsCases problem steps actions goal lanes c (bitAnd alive (r .sure))
+  running-ends h r x =
+      record {
+        is =
+            λ initial T S case z t j l.
+            let (now′, y, u, e) = R .is initial T S case z t in
+            let (b, s, o) = ended problem steps actions goal i h d r x initial T S now′ u j l in
+            bit-and j alive (r .sure) ∙ sym (e j l ∙ rw (o, s) (ap (min (laneBit j alive)) (end-bit b)));
+      }
 
 -- ---- a look
 
@@ -193,8 +195,7 @@ pub record Stating (problem steps actions : List ℕ) (goal : ℕ) (c : List ℕ
   pub few : i ≤ length steps
   pub is :
       (initial : ℕ) (T : Task) → TaskStands problem steps actions initial goal T → (case : ℕ → List Kleene) → Sized (T .facts) case → Table c case →
-      (now′ : ℕ → List Kleene) × Sized (T .facts) now′ × Table d now′ ×
-      (run three (T .facts) (T .goal) (T .plan) 0 (case 0) ≡ run three (T .facts) (T .goal) (drop i (T .plan)) i (now′ 0))
+      (now′ : ℕ → List Kleene) × Sized (T .facts) now′ × Table d now′ × (runFrom T 0 (case 0) ≡ runFrom T i (now′ 0))
 
 pub stating-begins : (problem steps actions : List ℕ) (goal : ℕ) (c : List ℕ) → length c ≡ 256 → Stating problem steps actions goal c 0 c
 stating-begins problem steps actions goal c w = record { size = w; few = omega arith; is = λ initial T S case z t. (case, z, t, refl) }
@@ -203,35 +204,31 @@ low-bit : (x : ℕ) → laneBit 0 x ≡ x % 2
 unfolding laneBit
 low-bit x = ap (λ (y : ℕ). y % 2) (omega arith)
 
-flag-false : (b : Bool) (x : ℕ) → x ≡ min 1 (flag b) → x ≡ 0 → b ≡ false
-flag-false true x e h = absurd (omega arith)
-flag-false false x e h = refl
+flag-false : (b : Bool) → flag b ≡ 0 → b ≡ false
+flag-false true e = absurd (omega arith)
+flag-false false e = refl
 
-flag-true : (b : Bool) (x : ℕ) → x ≡ min 1 (flag b) → (x ≡ 0 → ⊥) → b ≡ true
-flag-true true x e h = refl
-flag-true false x e h = absurd (h (omega arith))
+flag-true : (b : Bool) → (flag b ≡ 0 → ⊥) → b ≡ true
+flag-true true h = refl
+flag-true false h = absurd (h refl)
 
-module _ (problem steps actions : List ℕ) (goal : ℕ) (c : List ℕ) (i : ℕ) (d : List ℕ) (R : Stating problem steps actions goal c i d) (more : i < length steps)
-    (slot : ℕ) (named : slot ≡ getD steps i 0 % 64) where
-  module _ (alive : ℕ) (d′ : List ℕ) (O : ObeysAction problem (getD actions slot 0) d ones d′ alive) where
-    -- the values before the step, whether it is applicable in them, and the table after it
+module _ (problem steps actions : List ℕ) (goal : ℕ) (c : List ℕ) (i : ℕ) (d : List ℕ) (R : Stating problem steps actions goal c i d) where
+  module _ (more : i < length steps) (slot : ℕ) (named : slot ≡ getD steps i 0 % 64)
+      (alive : ℕ) (d′ : List ℕ) (O : ObeysAction problem (getD actions slot 0) d ones d′ alive) where
+    -- the values before the step, whether it is applicable in them, the table after it, and what it leaves of the run
     stated :
         (initial : ℕ) (T : Task) → TaskStands problem steps actions initial goal T → (case : ℕ → List Kleene) → Sized (T .facts) case → Table c case →
-        (now′ : ℕ → List Kleene) × (alive % 2 ≡ min 1 (flag (applicable three (actionAt (T .plan) i) (now′ 0)))) ×
-        ((alive ≡ 0 → ⊥) → Table d′ (λ j. step three (T .facts) (actionAt (T .plan) i) (now′ j))) ×
-        (run three (T .facts) (T .goal) (T .plan) 0 (case 0) ≡
-        goesOn (applicable three (actionAt (T .plan) i) (now′ 0))
-        (run three (T .facts) (T .goal) (drop (suc i) (T .plan)) (suc i) (step three (T .facts) (actionAt (T .plan) i) (now′ 0))) (record { step = i }))
-    unfolding run
+        (now′ : ℕ → List Kleene) × (b : Bool) × (alive % 2 ≡ flag b) × ((alive ≡ 0 → ⊥) → Table d′ (λ j. after T i (now′ j))) ×
+        (runFrom T 0 (case 0) ≡ goesOn b (runFrom T (suc i) (after T i (now′ 0))) (record { step = i }))
     stated initial T S case z t =
         let (now′, y, u, e) = R .is initial T S case z t in
-        let (q, a) = acting problem steps actions goal i more slot named initial T S in
-        let (bits, after) = O .is (T .facts) (actionAt (T .plan) i) q (omega (arith, S .most)) a now′ y u in (
-          now′,
-          sym (low-bit alive) ∙ bits 0 (omega arith) ∙ ap (λ (x : ℕ). min x (flag (applicable three (actionAt (T .plan) i) (now′ 0)))) (bit-ones 0 (omega arith)),
-          after,
-          e ∙ ap (λ (w : List Action). run three (T .facts) (T .goal) w i (now′ 0)) (drop-action (T .plan) i (omega (arith, S .counted))),
-        )
+        let (bits, later, turn) = turned problem steps actions goal i more slot named ones alive d d′ O initial T S now′ y u in
+        let b = applicable three (actionAt (T .plan) i) (now′ 0) in
+        (now′, b, sym (low-bit alive) ∙ bits 0 (omega arith) ∙ rw (bit-ones 0 (omega arith)) (at-most b), later, e ∙ turn (now′ 0))
+      where
+        at-most : (b : Bool) → min 1 (flag b) ≡ flag b
+        at-most true = refl
+        at-most false = refl
 
     pub stating-blocked : alive % 2 ≡ 0 → (r : Outcome) → outcome r ≡ blocked (record { step = i }) → RunsState problem steps actions goal c r
     unfolding goesOn
@@ -239,8 +236,8 @@ module _ (problem steps actions : List ℕ) (goal : ℕ) (c : List ℕ) (i : ℕ
         record {
           is =
               λ initial T S case z t.
-              let (now′, b, after, e) = stated initial T S case z t in
-              o ∙ sym (e ∙ rw (flag-false (applicable three (actionAt (T .plan) i) (now′ 0)) (alive % 2) b h));
+              let (now′, b, f, later, e) = stated initial T S case z t in
+              o ∙ sym (e ∙ rw (flag-false b (sym f ∙ h)));
         }
 
     pub stating-next : (alive % 2 ≡ 0 → ⊥) → Stating problem steps actions goal c (i + 1) d′
@@ -251,35 +248,24 @@ module _ (problem steps actions : List ℕ) (goal : ℕ) (c : List ℕ) (i : ℕ
           few = omega arith;
           is =
               λ initial T S case z t.
-              let (now′, b, after, e) = stated initial T S case z t in (
-                (λ j. step three (T .facts) (actionAt (T .plan) i) (now′ j)),
-                sized-step (T .facts) (actionAt (T .plan) i) now′,
-                after (λ w. n (ap (λ (x : ℕ). x % 2) w)),
-                rw (add-one i) (e ∙ rw (flag-true (applicable three (actionAt (T .plan) i) (now′ 0)) (alive % 2) b n)),
-              );
+              let (now′, b, f, later, e) = stated initial T S case z t in
+              ((λ j. after T i (now′ j)), sized-after T i now′, later (λ w. n (ap (λ (x : ℕ). x % 2) w)), rw (add-one i) (e ∙ rw (flag-true b (λ w. n (f ∙ w)))));
         }
 
--- the goal decides
-pub stating-ends :
-    (problem steps actions : List ℕ) (goal : ℕ) (c : List ℕ) (i : ℕ) (d : List ℕ) → Stating problem steps actions goal c i d → length steps ≤ i →
-    (r : Planes) → FormulaPlanes problem d goal r → (o : Outcome) → ((b : Bool) → r .sure % 2 ≡ flag b → outcome o ≡ atEnd b) → RunsState problem steps actions goal c o
-unfolding run
-stating-ends problem steps actions goal c i d R h r x o tells =
-    record {
-      is =
-          λ initial T S case z t.
-          let (now′, y, u, e) = R .is initial T S case z t in
-          let (q, g) = S .reaching in
-          let (_, lanes) = x .is (T .facts) (T .goal) q (omega (arith, S .most)) g in
-          let p = drop-all (T .plan) i (omega (arith, S .counted)) in
-          tells (isYes (eval three (now′ 0) (T .goal))) (sym (low-bit (r .sure)) ∙ lanes now′ u .lane 0 (omega arith) .is-sure ∙ sure-flag (eval three (now′ 0) (T .goal))) ∙
-          sym (e ∙ ap (λ (w : List Action). run three (T .facts) (T .goal) w i (now′ 0)) p);
-    }
+  -- the goal decides
+  module _ (h : length steps ≤ i) (r : Planes) (x : FormulaPlanes problem d goal r) (o : Outcome) where
+    decides : ((b : Bool) → r .sure % 2 ≡ flag b → outcome o ≡ atEnd b) → RunsState problem steps actions goal c o
+    decides tells =
+        record {
+          is =
+              λ initial T S case z t.
+              let (now′, y, u, e) = R .is initial T S case z t in
+              let (b, f, k) = ended problem steps actions goal i h d r x initial T S now′ u 0 (omega arith) in
+              tells b (sym (low-bit (r .sure)) ∙ f) ∙ sym (e ∙ k);
+        }
 
-pub tells-missed : (x : ℕ) → x ≡ 0 → (b : Bool) → x ≡ flag b → missed ≡ atEnd b
-tells-missed x h true e = absurd (omega arith)
-tells-missed x h false e = refl
+    pub stating-missed : r .sure % 2 ≡ 0 → outcome o ≡ missed → RunsState problem steps actions goal c o
+    stating-missed z e = decides (λ b f. e ∙ rw (flag-false b (sym f ∙ z)))
 
-pub tells-reached : (x : ℕ) → (x ≡ 0 → ⊥) → (b : Bool) → x ≡ flag b → reached ≡ atEnd b
-tells-reached x h true e = refl
-tells-reached x h false e = absurd (h e)
+    pub stating-reached : (r .sure % 2 ≡ 0 → ⊥) → outcome o ≡ reached → RunsState problem steps actions goal c o
+    stating-reached n e = decides (λ b f. e ∙ rw (flag-true b (λ w. n (f ∙ w))))

@@ -6,7 +6,7 @@ use native.Mathlib.Omega.{arith}
 use borrow.Author.Needs.{needs}
 use mathlib.Core.Path.{_≡_, refl}
 use lib.ListN.{length}
-use Rattle.execute.proofs.Lanes.{Stating, stating-begins, stating-blocked, stating-next, stating-ends, tells-missed, tells-reached}
+use Rattle.execute.proofs.Lanes.{Stating, stating-begins, stating-blocked, stating-next, stating-missed, stating-reached}
 
 abbrev Inv-loop : tie.InvT-loop
 Inv-loop problem steps actions goal current₀ found₀ literals₀ i₀ current found literals i = Stating problem steps actions goal current₀ i current × (length found ≡ 256) × (length literals ≡ 128)
@@ -44,5 +44,5 @@ run-state-spec =
     (λ c. search needs)
     loop-again
     (λ c κs. search needs)
-    (λ c. stating-ends _ _ _ _ _ _ _ (c .before .before .before .before .before .loop .inv .0) (omega arith) _ (c .before .before .formula-planes .ensures) _ (tells-missed _ (c .if2 .taken)))
-    (λ c. stating-ends _ _ _ _ _ _ _ (c .before .before .before .before .before .loop .inv .0) (omega arith) _ (c .before .before .formula-planes .ensures) _ (tells-reached _ (c .if2 .left))))
+    (λ c. stating-missed _ _ _ _ _ _ _ (c .before .before .before .before .before .loop .inv .0) (omega arith) _ (c .before .before .formula-planes .ensures) _ (c .if2 .taken) refl)
+    (λ c. stating-reached _ _ _ _ _ _ _ (c .before .before .before .before .before .loop .inv .0) (omega arith) _ (c .before .before .formula-planes .ensures) _ (c .if2 .left) refl))
