@@ -1,4 +1,4 @@
--- What a formula begins with: the cases of `head` under the tests that lead to them, and back. Assumes nothing.
+-- What a formula begins with: the cases of `head` under the tests that lead to them. Assumes nothing.
 use mathlib.Core.Path.{_≡_, refl, sym, ap, _∙_}
 use mathlib.Core.Logic.{_⊎_, inl, inr}
 use mathlib.Core.Bool.{Bool, true, false, cond, _&&_, _||_, not}
@@ -119,50 +119,3 @@ module _ (s : List ℕ) (end facts left parent p : ℕ) where
             0 < left → p + 1 < end → (getD s p 0 ≡ 0x80 → ⊥) →
             got (group disjunction (getD s (p + 1) 0)) (p + 2) ≡ head s end facts left parent p
         head-any d e b = rw (ne-eqb (getD s p 0) 0x80 b) at (head-opens d e)
-
--- back: what is known where a head was read
-module _ (s : List ℕ) (end facts left parent p : ℕ) where
-  pub record Leaf (h : Head) (q : ℕ) : Type 0 where
-    pub inside : p < end
-    pub is : h ≡ leaf (literalOf (getD s p 0))
-    pub next : q ≡ p + 1
-
-  pub record Opens (h : Head) (q : ℕ) : Type 0 where
-    pub kind : Group
-    pub inside : p + 1 < end
-    pub nests : 0 < left
-    pub is : h ≡ group kind (getD s (p + 1) 0)
-    pub next : q ≡ p + 2
-
-  group-got : (h : Head) (q : ℕ) → groupHead s end facts left parent p (getD s p 0) (p + 1) ≡ got h q → Opens h q
-  unfolding groupHead _>>_ _>>=_ done
-  group-got h q e =
-      let a = then-got (require (marks (getD s p 0) parent) 18 p (p + 1)) _ h q e in
-      let a′ = require-got _ _ _ _ _ _ (a .first) in
-      let b = then-got (require (ltb 0 left) 19 p (a .at)) _ h q (a .rest) in
-      let b′ = require-got _ _ _ _ _ _ (b .first) in
-      let c = then-got (byte s end 20 (b .at)) _ h q (b .rest) in
-      let c′ = byte-got _ _ _ _ _ _ (c .first) in
-      let at : b .at ≡ p + 1 = omega arith in
-      let m : c .value ≡ getD s (p + 1) 0 = c′ .1 ∙ ap (λ (x : ℕ). getD s x 0) at in
-      let z : c .at ≡ q = cc in
-      record {
-        kind = cond (eqb (getD s p 0) 0x80) conjunction disjunction;
-        inside = omega arith;
-        nests = ltb-true 0 left (b′ .0);
-        is = cc;
-        next = omega (arith, c′);
-      }
-
-  pub head-got : (h : Head) (q : ℕ) → head s end facts left parent p ≡ got h q → Leaf h q ⊎ Opens h q
-  unfolding head _>>=_ andThen position
-  head-got h q e =
-      let a = then-got (byte s end 20 p) _ h q e in
-      let a′ = byte-got _ _ _ _ _ _ (a .first) in
-      go (isLiteral facts (getD s p 0)) refl (a′ .0)
-    where
-      go : (t : Bool) → isLiteral facts (getD s p 0) ≡ t → p < end → Leaf h q ⊎ Opens h q
-      go true l i =
-          let d = head-literal s end facts left parent p i l in
-          inl (record { inside = i; is = cc; next = cc })
-      go false l i = inr (group-got h q (sym (head-group s end facts left parent p i l) ∙ e))
