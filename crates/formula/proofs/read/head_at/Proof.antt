@@ -3,7 +3,8 @@ use borrow.Author.Needs.{needs}
 use Rattle.formula.proofs.read.head_at.Statement.{statement}
 use Rattle.formula.proofs.read.head_at.Tie as tie
 use native.Mathlib.Omega.{arith}
-use Rattle.formula.proofs.Heads.{head-refuses, head-end, head-literal, head-repeated, head-low, head-high, head-deep, head-cut, head-all, head-any}
+use Rattle.model.specs.FormulaBytes.{conjunction, disjunction}
+use Rattle.formula.proofs.Heads.{head-refuses, head-end, head-literal, head-repeated, head-unmarked, head-deep, head-cut, head-opens}
 
 returns : tie.Need-returns
 returns c = head-refuses _ _ _ _ _ _ (c .before .refusal .ensures) (head-end _ _ _ _ _ _ (omega arith))
@@ -15,27 +16,29 @@ returns-3 : tie.Need-returns-3
 returns-3 c = head-refuses _ _ _ _ _ _ (c .refusal2 .ensures) (head-repeated _ _ _ _ _ _ (omega arith) (cc) (omega arith))
 
 returns-4 : tie.Need-returns-4
-returns-4 c = head-refuses _ _ _ _ _ _ (c .refusal3 .ensures) (head-low _ _ _ _ _ _ (omega arith) (cc) (omega arith))
+returns-4 c = head-refuses _ _ _ _ _ _ (c .refusal3 .ensures) (head-unmarked _ _ _ _ _ _ (omega arith) (cc) (omega arith) (omega arith))
 
 returns-5 : tie.Need-returns-5
-returns-5 c = head-refuses _ _ _ _ _ _ (c .refusal4 .ensures) (head-high _ _ _ _ _ _ (omega arith) (cc) (omega arith))
+returns-5 c = head-refuses _ _ _ _ _ _ (c .refusal4 .ensures) (head-unmarked _ _ _ _ _ _ (omega arith) (cc) (omega arith) (omega arith))
 
 returns-6 : tie.Need-returns-6
-returns-6 c = head-refuses _ _ _ _ _ _ (c .refusal5 .ensures) (head-deep _ _ _ _ _ _ (omega arith) (cc) (λ q. omega arith) (omega arith) (omega arith) (omega arith))
+returns-6 c = head-refuses _ _ _ _ _ _ (c .refusal5 .ensures) (head-deep _ _ _ _ _ _ (omega arith) (cc) (omega arith) (omega arith) (omega arith) (omega arith))
 
 returns-7 : tie.Need-returns-7
-returns-7 c = head-refuses _ _ _ _ _ _ (c .before .before .before .before .before .before .before .before .before .refusal .ensures) (head-cut _ _ _ _ _ _ (omega arith) (cc) (λ q. omega arith) (omega arith) (omega arith) (omega arith) (omega arith))
+returns-7 c =
+    head-refuses _ _ _ _ _ _ (c .before .before .before .before .before .before .before .before .before .refusal .ensures)
+    (head-cut _ _ _ _ _ _ (omega arith) (cc) (omega arith) (omega arith) (omega arith) (omega arith) (omega arith))
 
 returns-8 : tie.Need-returns-8
 returns-8 c = record {
-  is = head-all _ _ _ _ _ _ (omega arith) (cc) (λ q. omega arith) (omega arith) (omega arith) (omega arith) (omega arith) (omega arith);
-  placed = (omega arith, omega arith, λ q. omega arith);
+  is = head-opens _ _ _ _ _ _ (omega arith) (cc) (omega arith) (omega arith) (omega arith) (omega arith) (omega arith) conjunction (omega arith);
+  placed = omega arith;
 }
 
 returns-9 : tie.Need-returns-9
 returns-9 c = record {
-  is = head-any _ _ _ _ _ _ (omega arith) (cc) (λ q. omega arith) (omega arith) (omega arith) (omega arith) (omega arith) (λ q. omega arith);
-  placed = (omega arith, omega arith, λ q. omega arith);
+  is = head-opens _ _ _ _ _ _ (omega arith) (cc) (omega arith) (omega arith) (omega arith) (omega arith) (omega arith) disjunction (omega arith);
+  placed = omega arith;
 }
 
 pub head-at-spec : {M : Type 1} → statement M
