@@ -13,7 +13,7 @@ use Rattle.model.specs.declared.Refusal.{Refusal}
 use Rattle.model.proofs.Laws.FormulaCodec.{mark-ok}
 use Rattle.formula.specs.Readings.{refusalAt}
 use Rattle.formula.specs.Heads.{Headed}
-use Rattle.formula.specs.declared.read.Head.the-variants.{Refused}
+use Rattle.formula.specs.declared.read.Head.the-variants.{Refused, Literal}
 
 -- bytes that are literals
 module _ (facts b : ℕ) where
@@ -45,42 +45,46 @@ mark-new b parent h k n = go (eqb b 0x80) refl
     go false e = let d = eqb-false b 0x80 e in simp (e, eq-eqb b 0x81 (omega arith), ne-eqb b parent)
 
 module _ (s : List ℕ) (end facts left parent p : ℕ) where
-  pub head-refuses : {n q : ℕ} {r : Refusal} → r ≡ refusalAt n q → reject n q ≡ head s end facts left parent p → Headed s end facts left parent p (Refused r)
-  head-refuses e h = record { is = rw e h; placed = tt }
+  refuses : {n q : ℕ} {r : Refusal} → r ≡ refusalAt n q → reject n q ≡ head s end facts left parent p → Headed s end facts left parent p (Refused r)
+  refuses e h = record { is = rw e h; placed = tt }
 
-  pub head-end : end ≤ p → reject 20 end ≡ head s end facts left parent p
+  pub head-end : {r : Refusal} → r ≡ refusalAt 20 end → end ≤ p → Headed s end facts left parent p (Refused r)
   unfolding head _>>=_ andThen position byte
-  head-end h = simp le-ltb
+  head-end e h = refuses e (simp le-ltb)
 
-  module _ (h : p < end) where
-    pub head-literal : isLiteral facts (getD s p 0) ≡ true → got (leaf (literalOf (getD s p 0))) (p + 1) ≡ head s end facts left parent p
+  module _ (h : p < end) {t : Bool} (is : t ≡ isLiteral facts (getD s p 0)) where
+    pub head-literal : t ≡ true → Headed s end facts left parent p (Literal (getD s p 0))
     unfolding head _>>=_ andThen position byte headFrom done
-    head-literal l = simp (lt-ltb, l)
+    head-literal l = record { is = simp (lt-ltb, ← is, l); placed = h }
 
-    module _ (l : isLiteral facts (getD s p 0) ≡ false) where
+    module _ (l : t ≡ false) where
       head-group : head s end facts left parent p ≡ groupHead s end facts left parent p (getD s p 0) (p + 1)
       unfolding head _>>=_ andThen position byte headFrom
-      head-group = simp (lt-ltb, l)
+      head-group = simp (lt-ltb, ← is, l)
 
-      pub head-repeated : getD s p 0 ≡ parent → reject 18 p ≡ head s end facts left parent p
-      unfolding groupHead _>>_ andThen require
-      head-repeated b = rw head-group (simp (eq-eqb (getD s p 0) parent, and-false))
+      module _ {r : Refusal} (e : r ≡ refusalAt 18 p) where
+        pub head-repeated : getD s p 0 ≡ parent → Headed s end facts left parent p (Refused r)
+        unfolding groupHead _>>_ andThen require
+        head-repeated b = refuses e (rw head-group (simp (eq-eqb (getD s p 0) parent, and-false)))
 
-      pub head-unmarked : (getD s p 0 ≡ 0x80 → ⊥) → (getD s p 0 ≡ 0x81 → ⊥) → reject 18 p ≡ head s end facts left parent p
-      unfolding groupHead _>>_ andThen require
-      head-unmarked h k = rw head-group (simp ne-eqb)
+        pub head-unmarked : (0x80 ≤ getD s p 0 → getD s p 0 ≤ 0x81 → ⊥) → Headed s end facts left parent p (Refused r)
+        unfolding groupHead _>>_ andThen require
+        head-unmarked out =
+            let m = ne-eqb (getD s p 0) 0x80 (λ i. out (omega arith) (omega arith)) in
+            let n = ne-eqb (getD s p 0) 0x81 (λ i. out (omega arith) (omega arith)) in
+            refuses e (rw (head-group, m, n))
 
       module _ (low : 0x80 ≤ getD s p 0) (high : getD s p 0 ≤ 0x81) (new : getD s p 0 ≡ parent → ⊥) where
         m : marks (getD s p 0) parent ≡ true
         m = mark-new (getD s p 0) parent low high new
 
-        pub head-deep : left ≡ 0 → reject 19 p ≡ head s end facts left parent p
+        pub head-deep : {r : Refusal} → r ≡ refusalAt 19 p → left ≡ 0 → Headed s end facts left parent p (Refused r)
         unfolding groupHead _>>_ andThen require
-        head-deep d = rw (head-group, m, d)
+        head-deep e d = refuses e (rw (head-group, m, d))
 
-        pub head-cut : 0 < left → end ≤ p + 1 → reject 20 end ≡ head s end facts left parent p
+        pub head-cut : {r : Refusal} → r ≡ refusalAt 20 end → 0 < left → end ≤ p + 1 → Headed s end facts left parent p (Refused r)
         unfolding groupHead _>>_ _>>=_ andThen require byte
-        head-cut d e = rw (head-group, m) (simp (lt-ltb, le-ltb))
+        head-cut e d k = refuses e (rw (head-group, m) (simp (lt-ltb, le-ltb)))
 
         pub head-opens :
             0 < left → p + 1 < end → (g : Group) → getD s p 0 ≡ mark g →
