@@ -1,5 +1,5 @@
 -- What a formula begins with: the cases of `head` under the tests that lead to them. Assumes nothing.
-use mathlib.Core.Path.{_≡_, refl}
+use mathlib.Core.Path.{_≡_, refl, sym, _∙_}
 use mathlib.Core.Bool.{Bool, true, false, _&&_, _||_, not, and-false}
 use mathlib.Core.List.{List}
 use Prim.Native.Nat.{ℕ, _+_, _-_, _<_, _≤_}
@@ -7,13 +7,12 @@ use native.Mathlib.Omega.{arith}
 use lib.ListN.{getD}
 use lib.Dec.{eqb, ltb}
 use borrow.Author.Tests.{lt-ltb, le-ltb, le-leb, lt-leb, eq-eqb, ne-eqb, ltb-true, ltb-false, eqb-false}
-use Rattle.model.specs.Read.{reject, got, andThen, done, position, require, byte, _>>=_, _>>_}
-use Rattle.model.specs.FormulaBytes.{isLiteral, literalOf, Group, mark, leaf, group, groupHead, headFrom, head}
+use Rattle.model.specs.Read.{reject, andThen, done, position, require, byte, _>>=_, _>>_}
+use Rattle.model.specs.FormulaBytes.{isLiteral, groupHead, headFrom, head}
 use Rattle.model.specs.declared.Refusal.{Refusal}
-use Rattle.model.proofs.Laws.FormulaCodec.{mark-ok}
 use Rattle.formula.specs.Readings.{refusalAt}
 use Rattle.formula.specs.Heads.{Headed}
-use Rattle.formula.specs.declared.read.Head.the-variants.{Refused, Literal}
+use Rattle.formula.specs.declared.read.Head.the-variants.{Refused, Literal, All, Any}
 
 -- bytes that are literals
 module _ (facts b : ℕ) where
@@ -86,10 +85,14 @@ module _ (s : List ℕ) (end facts left parent p : ℕ) where
         unfolding groupHead _>>_ _>>=_ andThen require byte
         head-cut e d k = refuses e (rw (head-group, m) (simp (lt-ltb, le-ltb)))
 
-        pub head-opens :
-            0 < left → p + 1 < end → (g : Group) → getD s p 0 ≡ mark g →
-            got (group g (getD s (p + 1) 0)) (p + 2) ≡ head s end facts left parent p
+        pub head-all : 0 < left → p + 1 < end → getD s p 0 ≡ 0x80 → Headed s end facts left parent p (All (getD s (p + 1) 0))
         unfolding groupHead _>>_ _>>=_ andThen require byte done
-        head-opens d e g b =
+        head-all d e b =
             let t : p + 2 ≡ p + 1 + 1 = omega arith in
-            rw (head-group, t, m, b, mark-ok g .1) (simp lt-ltb)
+            record { is = rw (head-group, t, m, b) (simp lt-ltb); placed = (e, d, λ i. new (b ∙ sym i)) }
+
+        pub head-any : 0 < left → p + 1 < end → getD s p 0 ≡ 0x81 → Headed s end facts left parent p (Any (getD s (p + 1) 0))
+        unfolding groupHead _>>_ _>>=_ andThen require byte done
+        head-any d e b =
+            let t : p + 2 ≡ p + 1 + 1 = omega arith in
+            record { is = rw (head-group, t, m, b) (simp lt-ltb); placed = (e, d, λ i. new (b ∙ sym i)) }

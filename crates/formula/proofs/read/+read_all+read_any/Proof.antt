@@ -10,42 +10,33 @@ use borrow.Fn.PlainCycle.{Measures}
 use Rattle.formula.proofs.read.head_at.Reads as head-at
 use Rattle.formula.proofs.read.refusal.Reads as refusal
 use Rattle.formula.proofs.read.read_all.Reads as read-all
-use Rattle.formula.proofs.read.read_any.Reads as read-any
-use Rattle.formula.proofs.read.read_all.Kinds as read-all-kinds
+use Rattle.formula.proofs.read.read_all.Kinds as kinds
 use Rattle.formula.proofs.read.+read_all+read_any.Lts-read_all as read-all-lts
-use Rattle.formula.proofs.read.read_any.Kinds as read-any-kinds
+use Rattle.formula.proofs.read.read_any.Reads as read-any
 use Rattle.formula.proofs.read.+read_all+read_any.Lts-read_any as read-any-lts
 use Rattle.formula.proofs.read.+read_all+read_any.{statement}
 use Rattle.formula.proofs.read.+read_all+read_any.Tie.{close}
 
-abbrev μ-read-all : Measures 1 read-all-kinds.ps ℕ
-μ-read-all κs a = a .1 .1 .1 .0
+-- the same for both, but for the mark of the group whose members are read
+abbrev μ : Measures 1 kinds.ps ℕ
+μ κs a = a .1 .1 .1 .0
 
-abbrev μ-read-any : Measures 1 read-any-kinds.ps ℕ
-μ-read-any κs a = a .1 .1 .1 .0
+abbrev Inv-loop : ℕ → read-all-lts.InvT-loop
+Inv-loop mark s at end left n facts p₀ k₀ p k = row s end facts left mark k p ≡ row s end facts left mark n at
 
-abbrev read-all-Inv-loop : read-all-lts.InvT-loop
-read-all-Inv-loop s at end left n facts p₀ k₀ p k = row s end facts left 0x80 k p ≡ row s end facts left 0x80 n at
-
-abbrev read-all-μ-loop : read-all-lts.MeasureT-loop
-read-all-μ-loop s at end left n facts p₀ k₀ p k = k
-
-abbrev read-any-Inv-loop : read-any-lts.InvT-loop
-read-any-Inv-loop s at end left n facts p₀ k₀ p k = row s end facts left 0x81 k p ≡ row s end facts left 0x81 n at
-
-abbrev read-any-μ-loop : read-any-lts.MeasureT-loop
-read-any-μ-loop s at end left n facts p₀ k₀ p k = k
+abbrev μ-loop : read-all-lts.MeasureT-loop
+μ-loop s at end left n facts p₀ k₀ p k = k
 
 pub +read-all+read-any-spec : {M : Type 1} → statement M
 +read-all+read-any-spec =
-    close μ-read-all μ-read-any
-    (λ t. read-all-lts.spec (_, head-at.Learnt, _, refusal.Learnt, _, read-any.Post) _ read-all.Post
-    read-all-Inv-loop
-    read-all-μ-loop
+    close μ μ
+    (λ t. read-all-lts.spec (_, head-at.Learnt, _, refusal.Learnt, _, read-any.Post) _ read-all.Post (Inv-loop 0x80) μ-loop
     (λ c. refl)
     (λ c κs. search needs)
     (λ c. search needs)
-    (λ c. rw (c .before .r .given .1) at (row-turn _ _ _ _ _ _ _ (omega arith) _ (c .before .before .before .head-at .ensures) ∙ c .before .before .before .before .before .loop .inv))
+    -- the first member's head is refused
+    (λ c. let d = c .before .before .before in
+    rw (c .before .r .given .1) at (row-turn _ _ _ _ _ _ _ (omega arith) _ (d .head-at .ensures) ∙ d .before .before .loop .inv))
     (λ c. search needs)
     (λ c. let h = rw (c .enum-told .given .1) at (c .before .before .head-at .ensures .placed) in omega arith)
     (λ c. search needs)
@@ -56,22 +47,27 @@ pub +read-all+read-any-spec : {M : Type 1} → statement M
     (λ c. let h = rw (c .before .m .given .1) at (c .before .before .before .head-at .ensures .placed) in omega arith)
     (λ c κs. let h = rw (c .before .m .given .1) at (c .before .before .before .head-at .ensures .placed) in (omega arith, omega arith))
     (λ c. search needs)
+    -- the first member is a group, which is refused
     (λ c. let d = c .before .before .before in
+    let e = d .before .before .before .before in
     rw (d .before .before .m .given .1, ← d .read-any .ensures, c .before .r2 .given .1)
-    at (row-turn _ _ _ _ _ _ _ (omega arith) _ (d .before .before .before .before .head-at .ensures) ∙ d .before .before .before .before .before .before .loop .inv))
+    at (row-turn _ _ _ _ _ _ _ (omega arith) _ (e .head-at .ensures) ∙ e .before .before .loop .inv))
     (λ c. search needs)
     (λ c. search needs)
     (λ c. search needs)
+    -- it was read: a literal, or a group
     (λ c. let turn = row-turn _ _ _ _ _ _ _ (omega arith) _ (c .before .head-at .ensures) ∙ c .before .before .before .loop .inv in
-    ⊎-elim (λ w. rw (w .2) (rw (w .1 .given .1) at turn)) (λ w. rw (w .7) (rw (w .1 .given .1, ← w .3 .ensures, w .5 .given .1) at turn)) (c .match .came))
+    ⊎-elim (λ w. rw (w .2) (rw (w .1 .given .1) at turn))
+    (λ w. rw (w .7) (rw (w .1 .given .1, ← w .3 .ensures, w .5 .given .1) at turn))
+    (c .match .came))
     (λ c. row-ends _ _ _ _ _ _ _ (omega arith) ∙ c .before .loop .inv))
-    λ t. read-any-lts.spec (_, head-at.Learnt, _, refusal.Learnt, _, read-all.Post) _ read-any.Post
-    read-any-Inv-loop
-    read-any-μ-loop
+    λ t. read-any-lts.spec (_, head-at.Learnt, _, refusal.Learnt, _, read-all.Post) _ read-any.Post (Inv-loop 0x81) μ-loop
     (λ c. refl)
     (λ c κs. search needs)
     (λ c. search needs)
-    (λ c. rw (c .before .r .given .1) at (row-turn _ _ _ _ _ _ _ (omega arith) _ (c .before .before .before .head-at .ensures) ∙ c .before .before .before .before .before .loop .inv))
+    -- the first member's head is refused
+    (λ c. let d = c .before .before .before in
+    rw (c .before .r .given .1) at (row-turn _ _ _ _ _ _ _ (omega arith) _ (d .head-at .ensures) ∙ d .before .before .loop .inv))
     (λ c. search needs)
     (λ c. let h = rw (c .enum-told .given .1) at (c .before .before .head-at .ensures .placed) in omega arith)
     (λ c. search needs)
@@ -82,12 +78,17 @@ pub +read-all+read-any-spec : {M : Type 1} → statement M
     (λ c. let h = rw (c .before .m .given .1) at (c .before .before .before .head-at .ensures .placed) in omega arith)
     (λ c κs. let h = rw (c .before .m .given .1) at (c .before .before .before .head-at .ensures .placed) in (omega arith, omega arith))
     (λ c. search needs)
+    -- the first member is a group, which is refused
     (λ c. let d = c .before .before .before in
+    let e = d .before .before .before .before in
     rw (d .before .before .m .given .1, ← d .read-all .ensures, c .before .r2 .given .1)
-    at (row-turn _ _ _ _ _ _ _ (omega arith) _ (d .before .before .before .before .head-at .ensures) ∙ d .before .before .before .before .before .before .loop .inv))
+    at (row-turn _ _ _ _ _ _ _ (omega arith) _ (e .head-at .ensures) ∙ e .before .before .loop .inv))
     (λ c. search needs)
     (λ c. search needs)
     (λ c. search needs)
+    -- it was read: a literal, or a group
     (λ c. let turn = row-turn _ _ _ _ _ _ _ (omega arith) _ (c .before .head-at .ensures) ∙ c .before .before .before .loop .inv in
-    ⊎-elim (λ w. rw (w .2) (rw (w .1 .given .1) at turn)) (λ w. rw (w .7) (rw (w .1 .given .1, ← w .3 .ensures, w .5 .given .1) at turn)) (c .match .came))
+    ⊎-elim (λ w. rw (w .2) (rw (w .1 .given .1) at turn))
+    (λ w. rw (w .7) (rw (w .1 .given .1, ← w .3 .ensures, w .5 .given .1) at turn))
+    (c .match .came))
     (λ c. row-ends _ _ _ _ _ _ _ (omega arith) ∙ c .before .loop .inv)

@@ -3,8 +3,7 @@ use borrow.Author.Needs.{needs}
 use Rattle.formula.proofs.read.head_at.Statement.{statement}
 use Rattle.formula.proofs.read.head_at.Tie as tie
 use native.Mathlib.Omega.{arith}
-use Rattle.model.specs.FormulaBytes.{conjunction, disjunction}
-use Rattle.formula.proofs.Heads.{head-end, head-literal, head-repeated, head-unmarked, head-deep, head-cut, head-opens}
+use Rattle.formula.proofs.Heads.{head-end, head-literal, head-repeated, head-unmarked, head-deep, head-cut, head-all, head-any}
 
 returns : tie.Need-returns
 returns c = head-end _ _ _ _ _ _ (c .before .refusal .ensures) (c .if1 .taken)
@@ -42,22 +41,14 @@ returns-7 c =
 returns-8 : tie.Need-returns-8
 returns-8 c =
     let d = c .before .before .before .before .before .before .before in
-    record {
-      is =
-          head-opens _ _ _ _ _ _ (omega arith) (d .before .is-literal .ensures) (d .if2 .left) (omega arith) (omega arith) (omega arith)
-          (omega arith) (omega arith) conjunction (omega arith);
-      placed = omega arith;
-    }
+    head-all _ _ _ _ _ _ (omega arith) (d .before .is-literal .ensures) (d .if2 .left) (omega arith) (omega arith) (omega arith)
+    (omega arith) (omega arith) (omega arith)
 
 returns-9 : tie.Need-returns-9
 returns-9 c =
     let d = c .before .before .before .before .before .before .before in
-    record {
-      is =
-          head-opens _ _ _ _ _ _ (omega arith) (d .before .is-literal .ensures) (d .if2 .left) (omega arith) (omega arith) (omega arith)
-          (omega arith) (omega arith) disjunction (omega arith);
-      placed = omega arith;
-    }
+    head-any _ _ _ _ _ _ (omega arith) (d .before .is-literal .ensures) (d .if2 .left) (omega arith) (omega arith) (omega arith)
+    (omega arith) (omega arith) (omega arith)
 
 pub head-at-spec : {M : Type 1} → statement M
 head-at-spec =
