@@ -170,109 +170,86 @@ module _ (s c : List ℕ) (g : Group) (p : ℕ) (whole : Bool) where
 -- ---- a loop over members
 
 -- what is left of the loop answers r: the values of k members from p on are joined to the two words
-abbrev Answers : List ℕ → List ℕ → Group → Bool → ℕ → ℕ → ℕ → ℕ → Planes → Type 0
-Answers s c g whole some sure k p r =
+abbrev pub Left : List ℕ → List ℕ → Group → Bool → ℕ → ℕ → ℕ → ℕ → Planes → Type 0
+Left s c g whole some sure k p r =
     (facts : ℕ) (ms : Formulas) (q : ℕ) → facts ≤ 64 → Members facts g ms → memberCount ms ≡ k → Span s (length s) p (memberBytes ms) q →
     (whole ≡ true → r .next ≡ q) ×
     ((case : ℕ → List Kleene) → Table c case → (j : ℕ) → j < 64 → (x : Kleene) → InLane j some sure x →
     InLane j (r .some) (r .sure) (joinValues g x (evalGroup g (case j) ms)))
 
-pub record Left (s c : List ℕ) (g : Group) (whole : Bool) (some sure k p : ℕ) (r : Planes) : Type 0 where
-  pub onward : p ≤ r .next
-  pub is : Answers s c g whole some sure k p r
-
 -- so does the whole loop, over n members from `at` on
 pub record Held (s c : List ℕ) (g : Group) (whole : Bool) (n at some sure k p : ℕ) : Type 0 where
   pub onward : at ≤ p
-  pub goes : (r : Planes) → Left s c g whole some sure k p r → GroupPlanes s c g n at whole r
+  pub goes : (r : Planes) → p ≤ r .next → Left s c g whole some sure k p r → GroupPlanes s c g n at whole r
 
 pub held-begins : (s c : List ℕ) (g : Group) (whole : Bool) (n at : ℕ) → Held s c g whole n at (unitWord g) (unitWord g) n at
 held-begins s c g whole n at =
     record {
       onward = omega arith;
       goes =
-          λ r h.
+          λ r o h.
           record {
-            onward = h .onward;
+            onward = o;
             is =
                 λ facts ms q f m e v.
-                let y = h .is facts ms q f m e v in
-                (y .0, λ case t. record { lane = λ j l. rw unit-join at (y .1 case t j l (unitValue g) (lane-unit g l)) });
+                let (i, y) = h facts ms q f m e v in
+                (i, λ case t. record { lane = λ j l. rw unit-join at (y case t j l (unitValue g) (lane-unit g l)) });
           };
     }
+
+-- the words decide a group of this kind
+abbrev pub Decided : Group → ℕ → ℕ → Type 0
+Decided conjunction some sure = some ≡ 0
+Decided disjunction some sure = sure ≡ ones
+
+decides : (g : Group) (some sure : ℕ) → Decided g some sure → (j : ℕ) → j < 64 → (x : Kleene) → InLane j some sure x → (y : Kleene) → joinValues g x y ≡ x
+decides conjunction some sure e j l No h y = refl
+decides conjunction some sure e j l Unknown h y = absurd (omega (arith, h .is-some, ap (laneBit j) e, bit-zero j))
+decides conjunction some sure e j l Yes h y = absurd (omega (arith, h .is-some, ap (laneBit j) e, bit-zero j))
+decides disjunction some sure e j l Yes h y = refl
+decides disjunction some sure e j l Unknown h y = absurd (omega (arith, h .is-sure, ap (laneBit j) e, bit-ones j l))
+decides disjunction some sure e j l No h y = absurd (omega (arith, h .is-sure, ap (laneBit j) e, bit-ones j l))
 
 module _ (s c : List ℕ) (g : Group) (whole : Bool) (some sure k p : ℕ) where
   -- a group that could not be met in full promises nothing of what does not stand there
   pub left-nothing :
-      0 < k → ((facts : ℕ) (m : Formula) (q : ℕ) → facts ≤ 64 → Item s facts g p m q → ⊥) → (r : Planes) → p ≤ r .next →
-      Left s c g whole some sure k p r
+      0 < k → ((facts : ℕ) (m : Formula) (q : ℕ) → facts ≤ 64 → Item s facts g p m q → ⊥) → (r : Planes) → Left s c g whole some sure k p r
   unfolding Members memberBytes
-  left-nothing l nowhere r o = record { onward = o; is = go }
-    where
-      go : Answers s c g whole some sure k p r
-      go facts none q f m e v = absurd (omega arith)
-      go facts (more a ms) q f m e v = split (formulaBytes a) v λ n x y. absurd (nowhere facts a n f (item g a (m .0) x))
-
-  -- a member is joined
-  left-more :
-      0 < k → (some′ sure′ o : ℕ) → p ≤ o → Met s c g p true some′ sure′ o → (r : Planes) →
-      Left s c g whole (joinWords g some some′) (joinWords g sure sure′) (k - 1) o r → Left s c g whole some sure k p r
-  unfolding Members memberBytes
-  left-more l some′ sure′ o i met r h = record { onward = omega (arith, h .onward); is = go }
-    where
-      go : Answers s c g whole some sure k p r
-      go facts none q f m e v = absurd (omega arith)
-      go facts (more a ms) q f m e v =
-          split (formulaBytes a) v λ n x y.
-          let (w, z) = met facts a n f (item g a (m .0) x) in
-          let b : Span s (length s) o (memberBytes ms) q = rw (w refl) y in
-          let (u, t) = h .is facts ms q f (m .1) (omega arith) b in (
-            u,
-            λ case d j k x lane.
-                rw (group-more (case j) g a ms, ← join-assoc g x (eval three (case j) a) (evalGroup g (case j) ms))
-                (t case d j k _ (lane-join g j lane (z case d j k))),
-          )
+  left-nothing l nowhere r facts none q f m e v = absurd (omega arith)
+  left-nothing l nowhere r facts (more a ms) q f m e v = split (formulaBytes a) v λ n x y. absurd (nowhere facts a n f (item g a (m .0) x))
 
   -- none is left
   pub left-none : k ≡ 0 → Left s c g whole some sure k p (record { some = some; next = p; sure = sure })
   unfolding memberBytes
-  left-none l = record { onward = omega arith; is = go }
-    where
-      go : Answers s c g whole some sure k p (record { some = some; next = p; sure = sure })
-      go facts none q f m e v = ((λ w. empty v), λ case d j k x lane. rw (group-none (case j) g, join-unit g x) lane)
-      go facts (more a ms) q f m e v = absurd (omega arith)
+  left-none l facts none q f m e v = ((λ w. empty v), λ case d j k x lane. rw (group-none (case j) g, join-unit g x) lane)
+  left-none l facts (more a ms) q f m e v = absurd (omega arith)
 
   -- the words decide it, and the position is not asked for
-  left-decided :
-      whole ≡ false → ((j : ℕ) → j < 64 → (x : Kleene) → InLane j some sure x → (y : Kleene) → joinValues g x y ≡ x) →
-      Left s c g whole some sure k p (record { some = some; next = p; sure = sure })
-  left-decided w decides =
-      record {
-        onward = omega arith;
-        is = λ facts ms q f m e v. ((λ i. absurd (false≢true (sym w ∙ i))), λ case d j k x lane. rw (decides j k x lane (evalGroup g (case j) ms)) lane);
-      }
+  pub left-decided : whole ≡ false → Decided g some sure → Left s c g whole some sure k p (record { some = some; next = p; sure = sure })
+  left-decided w h facts ms q f m e v = (
+    (λ i. absurd (false≢true (sym w ∙ i))),
+    λ case d j k x lane. rw (decides g some sure h j k x lane (evalGroup g (case j) ms)) lane,
+  )
 
-  pub held-more :
-      (n at : ℕ) → Held s c g whole n at some sure k p → 0 < k → (some′ sure′ o : ℕ) → p ≤ o → Met s c g p true some′ sure′ o →
-      Held s c g whole n at (joinWords g some some′) (joinWords g sure sure′) (k - 1) o
-  held-more n at h l some′ sure′ o i met =
-      record { onward = omega (arith, h .onward); goes = λ r t. h .goes r (left-more l some′ sure′ o i met r t) }
+  -- a member is joined
+  module _ (l : 0 < k) (some′ sure′ o : ℕ) (i : p ≤ o) (met : Met s c g p true some′ sure′ o) where
+    left-more : (r : Planes) → Left s c g whole (joinWords g some some′) (joinWords g sure sure′) (k - 1) o r → Left s c g whole some sure k p r
+    unfolding Members memberBytes
+    left-more r h facts none q f m e v = absurd (omega arith)
+    left-more r h facts (more a ms) q f m e v =
+        split (formulaBytes a) v λ n x y.
+        let (w, z) = met facts a n f (item g a (m .0) x) in
+        let b : Span s (length s) o (memberBytes ms) q = rw (w refl) y in
+        let (u, t) = h facts ms q f (m .1) (omega arith) b in (
+          u,
+          λ case d j k x lane.
+              rw (group-more (case j) g a ms, ← join-assoc g x (eval three (case j) a) (evalGroup g (case j) ms))
+              (t case d j k _ (lane-join g j lane (z case d j k))),
+        )
 
-pub left-no : (s c : List ℕ) (whole : Bool) (some sure k p : ℕ) → whole ≡ false → some ≡ 0 → Left s c conjunction whole some sure k p (record { some = some; next = p; sure = sure })
-left-no s c whole some sure k p w e = left-decided s c conjunction whole some sure k p w go
-  where
-    go : (j : ℕ) → j < 64 → (x : Kleene) → InLane j some sure x → (y : Kleene) → both x y ≡ x
-    go j l No h y = refl
-    go j l Unknown h y = absurd (omega (arith, h .is-some, ap (laneBit j) e, bit-zero j))
-    go j l Yes h y = absurd (omega (arith, h .is-some, ap (laneBit j) e, bit-zero j))
-
-pub left-yes : (s c : List ℕ) (whole : Bool) (some sure k p : ℕ) → whole ≡ false → sure ≡ ones → Left s c disjunction whole some sure k p (record { some = some; next = p; sure = sure })
-left-yes s c whole some sure k p w e = left-decided s c disjunction whole some sure k p w go
-  where
-    go : (j : ℕ) → j < 64 → (x : Kleene) → InLane j some sure x → (y : Kleene) → either x y ≡ x
-    go j l Yes h y = refl
-    go j l Unknown h y = absurd (omega (arith, h .is-sure, ap (laneBit j) e, bit-ones j l))
-    go j l No h y = absurd (omega (arith, h .is-sure, ap (laneBit j) e, bit-ones j l))
+    pub held-more :
+        (n at : ℕ) → Held s c g whole n at some sure k p → Held s c g whole n at (joinWords g some some′) (joinWords g sure sure′) (k - 1) o
+    held-more n at h = record { onward = omega (arith, h .onward); goes = λ r b t. h .goes r (omega arith) (left-more r t) }
 
 -- ---- a sound formula alternates
 
