@@ -98,6 +98,27 @@ module _ (c : List Kleene) where
   group-value conjunction ms = refl
   group-value disjunction ms = refl
 
+-- the kind of a group by its mark, as the code tests it
+pub tells-all : {b : ℕ} → b ≡ 0x80 → (g : Group) → b ≡ mark g → g ≡ conjunction
+tells-all e conjunction i = refl
+tells-all e disjunction i = absurd (omega arith)
+
+pub tells-any : {b : ℕ} → (b ≡ 0x80 → ⊥) → (g : Group) → b ≡ mark g → g ≡ disjunction
+tells-any e conjunction i = absurd (e i)
+tells-any e disjunction i = refl
+
+-- ---- empty groups
+
+pub empty-all : (b next : ℕ) (r : Planes) → b ≡ 0x80 → r .some ≡ ones → r .sure ≡ ones → r .next ≡ next → EmptyPlanes b next r
+empty-all b next r e s u n = record { after = n; all-true = λ h. rw (s, u) (record { lane = λ j l. all-yes l }); any-false = λ h. absurd (h e) }
+
+pub empty-any : (b next : ℕ) (r : Planes) → (b ≡ 0x80 → ⊥) → r .some ≡ 0 → r .sure ≡ 0 → r .next ≡ next → EmptyPlanes b next r
+empty-any b next r e s u n = record { after = n; all-true = λ h. absurd (e h); any-false = λ h. rw (s, u) (record { lane = λ j l. all-no }) }
+
+empty-lane : (g : Group) {b next : ℕ} {r : Planes} → EmptyPlanes b next r → b ≡ mark g → (j : ℕ) → j < 64 → InLane j (r .some) (r .sure) (unitValue g)
+empty-lane conjunction x e j l = x .all-true e .lane j l
+empty-lane disjunction x e j l = x .any-false (λ i. omega arith) .lane j l
+
 -- ---- what stands from p up to q: a literal, or a group of the other kind than g
 
 pub data Item (s : List ℕ) (facts : ℕ) (g : Group) (p : ℕ) : Formula → ℕ → Type 0 where
@@ -147,25 +168,35 @@ Met s c g p whole some sure o =
     (facts : ℕ) (m : Formula) (q : ℕ) → facts ≤ 64 → Item s facts g p m q →
     (whole ≡ true → o ≡ q) × ((case : ℕ → List Kleene) → Table c case → (j : ℕ) → j < 64 → InLane j some sure (eval three (case j) m))
 
-module _ (s c : List ℕ) (g : Group) (p : ℕ) (whole : Bool) where
-  pub literal-met : getD s p 0 < 128 → (r : declared.Literal) → LiteralPlanes c (getD s p 0) r → Met s c g p whole (r .some) (r .sure) (p + 1)
+module _ (s c : List ℕ) (g : Group) (p : ℕ) where
+  pub literal-met : (whole : Bool) → getD s p 0 < 128 → (r : declared.Literal) → LiteralPlanes c (getD s p 0) r → Met s c g p whole (r .some) (r .sure) (p + 1)
   unfolding eval
-  literal-met small r x facts m q h (leaf {l} d i e n) = (
+  literal-met whole small r x facts m q h (leaf {l} d i e n) = (
     (λ w. n),
     λ case t j k.
         let o : literalOf (getD s p 0) ≡ l = rw e (literal-ok facts h l d .1) in
         rw (x .is-some, x .is-sure) (rw o at (t .literal (getD s p 0) small .lane j k)),
   )
-  literal-met small r x facts m q h (nest ms d i e n v) = absurd (omega (arith, mark-high (other g)))
+  literal-met whole small r x facts m q h (nest ms d i e n v) = absurd (omega (arith, mark-high (other g)))
 
   -- the kind of the group is known by its mark
   pub group-met :
-      (h : Group) → (getD s p 0 ≡ mark (other g) → other g ≡ h) → 128 ≤ getD s p 0 →
+      (whole : Bool) (h : Group) → (getD s p 0 ≡ mark (other g) → other g ≡ h) → 128 ≤ getD s p 0 →
       (r : Planes) → GroupPlanes s c h (getD s (p + 1) 0) (p + 2) whole r → Met s c g p whole (r .some) (r .sure) (r .next)
-  group-met h tells big r x facts m q f (leaf {l} d i e n) = absurd (omega (arith, literal-small facts l f d))
-  group-met h tells big r x facts m q f (nest ms d i e n v) =
+  group-met whole h tells big r x facts m q f (leaf {l} d i e n) = absurd (omega (arith, literal-small facts l f d))
+  group-met whole h tells big r x facts m q f (nest ms d i e n v) =
       let y = x .is facts ms q f (rw (tells e) at d) (sym n) v in
       (y .0, λ case t j k. rw (group-value (case j) (other g) ms, tells e) (y .1 case t .lane j k))
+
+  -- an empty one is known by what its first two bytes are
+  pub empty-met :
+      (next o : ℕ) (r : Planes) → 128 ≤ getD s p 0 → getD s (p + 1) 0 ≡ 0 → EmptyPlanes (getD s p 0) next r → Met s c g p false (r .some) (r .sure) o
+  empty-met next o r big z x facts m q f (leaf {l} d i e n) = absurd (omega (arith, literal-small facts l f d))
+  empty-met next o r big z x facts m q f (nest none d i e n v) = (
+    (λ w. absurd (false≢true w)),
+    λ case t j k. rw (group-value (case j) (other g) none, group-none (case j) (other g)) (empty-lane (other g) x e j k),
+  )
+  empty-met next o r big z x facts m q f (nest (more a ms) d i e n v) = absurd (omega arith)
 
 -- ---- a loop over members
 
@@ -292,48 +323,18 @@ stated s facts p f q at =
     let (g, o) = outer s facts (p + 2) f q (at .ok .formed) v in
     (g, rw (a, b, k) (span-length v), o)
 
-module _ (s c : List ℕ) (p : ℕ) (r : Planes) where
-  pub formula-nothing : ((facts : ℕ) (g : Group) (m : Formula) (q : ℕ) → facts ≤ 64 → Item s facts g (p + 2) m q → ⊥) → FormulaPlanes s c p r
-  formula-nothing nowhere = record { is = λ facts f q l at. let (g, e, i) = stated s facts p f q at in absurd (nowhere facts g f q l i) }
+module _ (s c : List ℕ) (p : ℕ) where
+  pub formula-nothing :
+      (r : Planes) → ((facts : ℕ) (g : Group) (m : Formula) (q : ℕ) → facts ≤ 64 → Item s facts g (p + 2) m q → ⊥) → FormulaPlanes s c p r
+  formula-nothing r nowhere = record { is = λ facts f q l at. let (g, e, i) = stated s facts p f q at in absurd (nowhere facts g f q l i) }
 
   pub formula-met :
-      (some sure o : ℕ) → ((g : Group) → Met s c g (p + 2) false some sure o) → r .some ≡ some → r .sure ≡ sure →
-      r .next ≡ p + 2 + (getD s p 0 * 256 + getD s (p + 1) 0) → FormulaPlanes s c p r
-  formula-met some sure o met es eu en =
+      (some sure o next : ℕ) → ((g : Group) → Met s c g (p + 2) false some sure o) →
+      next ≡ p + 2 + (getD s p 0 * 256 + getD s (p + 1) 0) → FormulaPlanes s c p (record { some = some; next = next; sure = sure })
+  formula-met some sure o next met en =
       record {
         is =
             λ facts f q l at.
             let (g, e, i) = stated s facts p f q at in
-            (en ∙ sym e, λ case t. record { lane = λ j k. rw (es, eu) (met g facts f q l i .1 case t j k) });
+            (en ∙ sym e, λ case t. record { lane = met g facts f q l i .1 case t });
       }
-
--- ---- the kind of an outermost group
-
-pub tells-all : {b : ℕ} → b ≡ 0x80 → (g : Group) → b ≡ mark g → g ≡ conjunction
-tells-all e conjunction i = refl
-tells-all e disjunction i = absurd (omega arith)
-
-pub tells-any : {b : ℕ} → (b ≡ 0x80 → ⊥) → (g : Group) → b ≡ mark g → g ≡ disjunction
-tells-any e conjunction i = absurd (e i)
-tells-any e disjunction i = refl
-
--- ---- empty groups
-
-pub empty-all : (b next : ℕ) (r : Planes) → b ≡ 0x80 → r .some ≡ ones → r .sure ≡ ones → r .next ≡ next → EmptyPlanes b next r
-empty-all b next r e s u n = record { after = n; all-true = λ h. rw (s, u) (record { lane = λ j l. all-yes l }); any-false = λ h. absurd (h e) }
-
-pub empty-any : (b next : ℕ) (r : Planes) → (b ≡ 0x80 → ⊥) → r .some ≡ 0 → r .sure ≡ 0 → r .next ≡ next → EmptyPlanes b next r
-empty-any b next r e s u n = record { after = n; all-true = λ h. absurd (e h); any-false = λ h. rw (s, u) (record { lane = λ j l. all-no }) }
-
-pub empty-met :
-    (s c : List ℕ) (p next o : ℕ) (r : Planes) → 128 ≤ getD s p 0 → getD s (p + 1) 0 ≡ 0 → EmptyPlanes (getD s p 0) next r →
-    (g : Group) → Met s c g p false (r .some) (r .sure) o
-unfolding eval
-empty-met s c p next o r big z x g facts m q f (leaf {l} d i e n) = absurd (omega (arith, literal-small facts l f d))
-empty-met s c p next o r big z x g facts m q f (nest ms d i e n v) = ((λ w. absurd (false≢true w)), λ case t j k. go g ms e (omega arith) (case j) j k)
-  where
-    go : (g : Group) (ms : Formulas) → getD s p 0 ≡ mark (other g) → memberCount ms ≡ 0 → (c : List Kleene) (j : ℕ) → j < 64 →
-        InLane j (r .some) (r .sure) (eval three c (grouped (other g) ms))
-    go disjunction none k h c j l = x .all-true k .lane j l
-    go conjunction none k h c j l = x .any-false (λ i. omega arith) .lane j l
-    go g (more m ms) k h c j l = absurd (omega arith)

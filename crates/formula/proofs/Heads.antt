@@ -2,35 +2,17 @@
 use mathlib.Core.Path.{_≡_, refl, sym, _∙_}
 use mathlib.Core.Bool.{Bool, true, false, _&&_, _||_, not, and-false}
 use mathlib.Core.List.{List}
-use Prim.Native.Nat.{ℕ, _+_, _-_, _<_, _≤_}
+use Prim.Native.Nat.{ℕ, _+_, _<_, _≤_}
 use native.Mathlib.Omega.{arith}
 use lib.ListN.{getD}
-use lib.Dec.{eqb, ltb}
-use borrow.Author.Tests.{lt-ltb, le-ltb, le-leb, lt-leb, eq-eqb, ne-eqb, ltb-true, ltb-false, eqb-false}
+use lib.Dec.{eqb}
+use borrow.Author.Tests.{lt-ltb, le-ltb, eq-eqb, ne-eqb, eqb-false}
 use Rattle.model.specs.Read.{reject, andThen, done, position, require, byte, _>>=_, _>>_}
 use Rattle.model.specs.FormulaBytes.{isLiteral, groupHead, headFrom, head}
 use Rattle.model.specs.declared.Refusal.{Refusal}
 use Rattle.formula.specs.Readings.{refusalAt}
 use Rattle.formula.specs.Heads.{Headed}
 use Rattle.formula.specs.declared.read.Head.the-variants.{Refused, Literal, All, Any}
-
--- bytes that are literals
-module _ (facts b : ℕ) where
-  pub literal-fact : b < facts → true ≡ isLiteral facts b
-  unfolding isLiteral
-  literal-fact h = simp lt-ltb
-
-  pub literal-low : facts ≤ b → b < 64 → false ≡ isLiteral facts b
-  unfolding isLiteral
-  literal-low h k = simp (le-ltb, lt-leb)
-
-  pub literal-denial : facts ≤ b → 64 ≤ b → ltb (b - 64) facts ≡ isLiteral facts b
-  unfolding isLiteral
-  literal-denial h k = go (ltb (b - 64) facts) refl
-    where
-      go : (t : Bool) → ltb (b - 64) facts ≡ t → t ≡ isLiteral facts b
-      go true e = simp (le-ltb b facts, le-leb, lt-ltb b (64 + facts) (omega (arith, ltb-true (b - 64) facts e)))
-      go false e = simp (le-ltb b facts, le-leb, le-ltb b (64 + facts) (omega (arith, ltb-false (b - 64) facts e)))
 
 -- the test of a mark
 abbrev marks : ℕ → ℕ → Bool

@@ -2,7 +2,6 @@
 use borrow.Author.Needs.{needs}
 use Rattle.evaluate.proofs.formula_planes.Statement.{statement}
 use Rattle.evaluate.proofs.formula_planes.Tie as tie
-use mathlib.Core.Path.{refl}
 use native.Mathlib.Omega.{arith}
 use Rattle.model.specs.FormulaBytes.{conjunction, disjunction}
 use Rattle.evaluate.proofs.Evaluating.{other, item-here, item-counted, literal-met, group-met, empty-met, formula-nothing, formula-met, tells-all, tells-any}
@@ -16,7 +15,7 @@ returns-2 c = formula-nothing _ _ _ _ (λ facts g m q h i. omega (arith, item-he
 returns-3 : tie.Need-returns-3
 returns-3 c =
     let w = c .before .before .before in
-    formula-met _ _ _ _ _ _ _ (λ g. literal-met _ _ g _ _ (c .before .if3 .taken) _ (c .literal-planes .ensures)) refl refl
+    formula-met _ _ _ _ _ _ _ (λ g. literal-met _ _ g _ _ (c .before .if3 .taken) _ (c .literal-planes .ensures))
     (rw (w .before .before .wide .ensures .0, w .wide2 .ensures .0))
 
 returns-4 : tie.Need-returns-4
@@ -26,7 +25,7 @@ returns-5 : tie.Need-returns-5
 returns-5 c =
     let d = c .before .before .before .before in
     let w = d .before .before in
-    formula-met _ _ _ _ _ _ 0 (empty-met _ _ _ _ _ _ (d .if3 .left) (c .before .if5 .taken) (c .empty-planes .ensures)) refl refl
+    formula-met _ _ _ _ _ 0 _ (λ g. empty-met _ _ g _ _ _ _ (d .if3 .left) (c .before .if5 .taken) (c .empty-planes .ensures))
     (rw (c .empty-planes .ensures .after, w .before .before .wide .ensures .0, w .wide2 .ensures .0))
 
 returns-6 : tie.Need-returns-6
@@ -34,7 +33,7 @@ returns-6 c =
     let d = c .before .before .before .before .before in
     let w = d .before .before in
     formula-met _ _ _ _ _ _ _
-    (λ g. group-met _ _ g _ _ conjunction (tells-all (c .before .if6 .taken) (other g)) (d .if3 .left) _ (c .all-planes .ensures)) refl refl
+    (λ g. group-met _ _ g _ _ conjunction (tells-all (c .before .if6 .taken) (other g)) (d .if3 .left) _ (c .all-planes .ensures))
     (rw (w .before .before .wide .ensures .0, w .wide2 .ensures .0))
 
 returns-7 : tie.Need-returns-7
@@ -42,7 +41,7 @@ returns-7 c =
     let d = c .before .before .before .before .before in
     let w = d .before .before in
     formula-met _ _ _ _ _ _ _
-    (λ g. group-met _ _ g _ _ disjunction (tells-any (c .before .if6 .left) (other g)) (d .if3 .left) _ (c .any-planes .ensures)) refl refl
+    (λ g. group-met _ _ g _ _ disjunction (tells-any (c .before .if6 .left) (other g)) (d .if3 .left) _ (c .any-planes .ensures))
     (rw (w .before .before .wide .ensures .0, w .wide2 .ensures .0))
 
 pub formula-planes-spec : {M : Type 1} → statement M
