@@ -122,28 +122,10 @@ empty-lane disjunction x e j l = x .any-false (λ i. omega arith) .lane j l
 -- ---- what stands from p up to q: a literal, or a group of the other kind than g
 
 pub data Item (s : List ℕ) (facts : ℕ) (g : Group) (p : ℕ) : Formula → ℕ → Type 0 where
-  leaf : {l : Literal} {q : ℕ} → Declared facts l → p < length s → getD s p 0 ≡ literalByte l → p + 1 ≡ q → Item s facts g p (lit l) q
+  leaf : {l : Literal} {q : ℕ} → getD s p 0 < 128 → literalOf (getD s p 0) ≡ l → p < length s → p + 1 ≡ q → Item s facts g p (lit l) q
   nest :
-      (ms : Formulas) {q : ℕ} → Members facts (other g) ms → p + 1 < length s → getD s p 0 ≡ mark (other g) →
-      getD s (p + 1) 0 ≡ memberCount ms → Span s (length s) (p + 2) (memberBytes ms) q → Item s facts g p (grouped (other g) ms) q
-
-module _ {s : List ℕ} {facts p q : ℕ} where
-  nested :
-      (g : Group) (ms : Formulas) → Members facts (other g) ms → Span s (length s) p (mark (other g) ∷ memberCount ms ∷ memberBytes ms) q →
-      Item s facts g p (grouped (other g) ms) q
-  nested g ms d v =
-      let (l, e, w) = first v in
-      let (k, n, u) = first w in
-      let i : p + 1 + 1 ≡ p + 2 = omega arith in
-      nest ms d k e n (rw i at u)
-
-  item : (g : Group) (m : Formula) → Member facts g m → Span s (length s) p (formulaBytes m) q → Item s facts g p m q
-  unfolding formulaBytes Member
-  item g (lit l) d v = let (i, e, w) = first v in leaf d i e (empty w)
-  item conjunction (all ms) d v = absurd d
-  item conjunction (any ms) d v = nested conjunction ms d v
-  item disjunction (all ms) d v = nested disjunction ms d v
-  item disjunction (any ms) d v = absurd d
+      (ms : Formulas) {q : ℕ} → 128 ≤ getD s p 0 → getD s p 0 ≡ mark (other g) → p + 1 < length s → getD s (p + 1) 0 ≡ memberCount ms →
+      facts ≤ 64 → Members facts (other g) ms → Span s (length s) (p + 2) (memberBytes ms) q → Item s facts g p (grouped (other g) ms) q
 
 literal-small : (facts : ℕ) (l : Literal) → facts ≤ 64 → Declared facts l → literalByte l < 128
 literal-small facts (fact f) h d = omega arith
@@ -153,50 +135,66 @@ mark-high : (g : Group) → 128 ≤ mark g
 mark-high conjunction = omega arith
 mark-high disjunction = omega arith
 
+module _ {s : List ℕ} {facts p q : ℕ} (h : facts ≤ 64) where
+  nested :
+      (g : Group) (ms : Formulas) → Members facts (other g) ms → Span s (length s) p (mark (other g) ∷ memberCount ms ∷ memberBytes ms) q →
+      Item s facts g p (grouped (other g) ms) q
+  nested g ms d v =
+      let (l, e, w) = first v in
+      let (k, n, u) = first w in
+      let i : p + 1 + 1 ≡ p + 2 = omega arith in
+      nest ms (omega (arith, mark-high (other g))) e k n h d (rw i at u)
+
+  item : (g : Group) (m : Formula) → Member facts g m → Span s (length s) p (formulaBytes m) q → Item s facts g p m q
+  unfolding formulaBytes Member
+  item g (lit l) d v =
+      let (i, e, w) = first v in
+      leaf {l = l} (omega (arith, literal-small facts l h d)) (rw e (literal-ok facts h l d .1)) i (empty w)
+  item conjunction (all ms) d v = absurd d
+  item conjunction (any ms) d v = nested conjunction ms d v
+  item disjunction (all ms) d v = nested disjunction ms d v
+  item disjunction (any ms) d v = absurd d
+
 module _ {s : List ℕ} {facts p : ℕ} {g : Group} where
   pub item-here : {m : Formula} {q : ℕ} → Item s facts g p m q → p < length s
-  item-here (leaf d i e n) = i
-  item-here (nest ms d i e n v) = omega arith
+  item-here (leaf b o i n) = i
+  item-here (nest ms b e i n h d v) = omega arith
 
-  pub item-counted : {m : Formula} {q : ℕ} → facts ≤ 64 → 128 ≤ getD s p 0 → Item s facts g p m q → p + 1 < length s
-  item-counted h b (leaf {l} d i e n) = absurd (omega (arith, literal-small facts l h d))
-  item-counted h b (nest ms d i e n v) = i
+  pub item-counted : {m : Formula} {q : ℕ} → 128 ≤ getD s p 0 → Item s facts g p m q → p + 1 < length s
+  item-counted big (leaf b o i n) = absurd (omega arith)
+  item-counted big (nest ms b e i n h d v) = i
 
 -- the two words have the value of what stands at p, in every lane; where the whole is asked for, it ends at o
 abbrev pub Met : List ℕ → List ℕ → Group → ℕ → Bool → ℕ → ℕ → ℕ → Type 0
 Met s c g p whole some sure o =
-    (facts : ℕ) (m : Formula) (q : ℕ) → facts ≤ 64 → Item s facts g p m q →
+    (facts : ℕ) (m : Formula) (q : ℕ) → Item s facts g p m q →
     (whole ≡ true → o ≡ q) × ((case : ℕ → List Kleene) → Table c case → (j : ℕ) → j < 64 → InLane j some sure (eval three (case j) m))
 
 module _ (s c : List ℕ) (g : Group) (p : ℕ) where
   pub literal-met : (whole : Bool) → getD s p 0 < 128 → (r : declared.Literal) → LiteralPlanes c (getD s p 0) r → Met s c g p whole (r .some) (r .sure) (p + 1)
   unfolding eval
-  literal-met whole small r x facts m q h (leaf {l} d i e n) = (
-    (λ w. n),
-    λ case t j k.
-        let o : literalOf (getD s p 0) ≡ l = rw e (literal-ok facts h l d .1) in
-        rw (x .is-some, x .is-sure) (rw o at (t .literal (getD s p 0) small .lane j k)),
-  )
-  literal-met whole small r x facts m q h (nest ms d i e n v) = absurd (omega (arith, mark-high (other g)))
+  literal-met whole small r x facts m q (leaf b o i n) =
+      ((λ w. n), λ case t j k. rw (x .is-some, x .is-sure) (rw o at (t .literal (getD s p 0) b .lane j k)))
+  literal-met whole small r x facts m q (nest ms b e i n h d v) = absurd (omega arith)
 
   -- the kind of the group is known by its mark
   pub group-met :
       (whole : Bool) (h : Group) → (getD s p 0 ≡ mark (other g) → other g ≡ h) → 128 ≤ getD s p 0 →
       (r : Planes) → GroupPlanes s c h (getD s (p + 1) 0) (p + 2) whole r → Met s c g p whole (r .some) (r .sure) (r .next)
-  group-met whole h tells big r x facts m q f (leaf {l} d i e n) = absurd (omega (arith, literal-small facts l f d))
-  group-met whole h tells big r x facts m q f (nest ms d i e n v) =
+  group-met whole h tells big r x facts m q (leaf b o i n) = absurd (omega arith)
+  group-met whole h tells big r x facts m q (nest ms b e i n f d v) =
       let y = x .is facts ms q f (rw (tells e) at d) (sym n) v in
       (y .0, λ case t j k. rw (group-value (case j) (other g) ms, tells e) (y .1 case t .lane j k))
 
   -- an empty one is known by what its first two bytes are
   pub empty-met :
       (next o : ℕ) (r : Planes) → 128 ≤ getD s p 0 → getD s (p + 1) 0 ≡ 0 → EmptyPlanes (getD s p 0) next r → Met s c g p false (r .some) (r .sure) o
-  empty-met next o r big z x facts m q f (leaf {l} d i e n) = absurd (omega (arith, literal-small facts l f d))
-  empty-met next o r big z x facts m q f (nest none d i e n v) = (
+  empty-met next o r big z x facts m q (leaf b l i n) = absurd (omega arith)
+  empty-met next o r big z x facts m q (nest none b e i n h d v) = (
     (λ w. absurd (false≢true w)),
     λ case t j k. rw (group-value (case j) (other g) none, group-none (case j) (other g)) (empty-lane (other g) x e j k),
   )
-  empty-met next o r big z x facts m q f (nest (more a ms) d i e n v) = absurd (omega arith)
+  empty-met next o r big z x facts m q (nest (more a ms) b e i n h d v) = absurd (omega arith)
 
 -- ---- a loop over members
 
@@ -244,10 +242,10 @@ decides disjunction some sure e j l No h y = absurd (omega (arith, h .is-sure, a
 module _ (s c : List ℕ) (g : Group) (whole : Bool) (some sure k p : ℕ) where
   -- a group that could not be met in full promises nothing of what does not stand there
   pub left-nothing :
-      0 < k → ((facts : ℕ) (m : Formula) (q : ℕ) → facts ≤ 64 → Item s facts g p m q → ⊥) → (r : Planes) → Left s c g whole some sure k p r
+      0 < k → ((facts : ℕ) (m : Formula) (q : ℕ) → Item s facts g p m q → ⊥) → (r : Planes) → Left s c g whole some sure k p r
   unfolding Members memberBytes
   left-nothing l nowhere r facts none q f m e v = absurd (omega arith)
-  left-nothing l nowhere r facts (more a ms) q f m e v = split (formulaBytes a) v λ n x y. absurd (nowhere facts a n f (item g a (m .0) x))
+  left-nothing l nowhere r facts (more a ms) q f m e v = split (formulaBytes a) v λ n x y. absurd (nowhere facts a n (item f g a (m .0) x))
 
   -- none is left
   pub left-none : k ≡ 0 → Left s c g whole some sure k p (record { some = some; next = p; sure = sure })
@@ -269,7 +267,7 @@ module _ (s c : List ℕ) (g : Group) (whole : Bool) (some sure k p : ℕ) where
     left-more r h facts none q f m e v = absurd (omega arith)
     left-more r h facts (more a ms) q f m e v =
         split (formulaBytes a) v λ n x y.
-        let (w, z) = met facts a n f (item g a (m .0) x) in
+        let (w, z) = met facts a n (item f g a (m .0) x) in
         let b : Span s (length s) o (memberBytes ms) q = rw (w refl) y in
         let (u, t) = h facts ms q f (m .1) (omega arith) b in (
           u,
@@ -301,18 +299,18 @@ mutual
 -- ---- the formula at p, its length field first
 
 outer :
-    (s : List ℕ) (facts p : ℕ) (f : Formula) (q : ℕ) → Formed facts maxDepth 0 f → Span s (length s) p (formulaBytes f) q →
+    (s : List ℕ) (facts p : ℕ) (f : Formula) (q : ℕ) → facts ≤ 64 → Formed facts maxDepth 0 f → Span s (length s) p (formulaBytes f) q →
     (g : Group) × Item s facts g p f q
 unfolding Formed Member
-outer s facts p (lit l) q d v = (conjunction, item conjunction (lit l) d v)
-outer s facts p (all ms) q d v = (disjunction, item disjunction (all ms) (members-formed ms conjunction facts (maxDepth - 1) (d .3)) v)
-outer s facts p (any ms) q d v = (conjunction, item conjunction (any ms) (members-formed ms disjunction facts (maxDepth - 1) (d .3)) v)
+outer s facts p (lit l) q h d v = (conjunction, item h conjunction (lit l) d v)
+outer s facts p (all ms) q h d v = (disjunction, item h disjunction (all ms) (members-formed ms conjunction facts (maxDepth - 1) (d .3)) v)
+outer s facts p (any ms) q h d v = (conjunction, item h conjunction (any ms) (members-formed ms disjunction facts (maxDepth - 1) (d .3)) v)
 
 stated :
-    (s : List ℕ) (facts p : ℕ) (f : Formula) (q : ℕ) → FormulaAt s facts p f q →
+    (s : List ℕ) (facts p : ℕ) (f : Formula) (q : ℕ) → facts ≤ 64 → FormulaAt s facts p f q →
     (g : Group) × (q ≡ p + 2 + (getD s p 0 * 256 + getD s (p + 1) 0)) × Item s facts g (p + 2) f q
 unfolding encodeFormula bytesOf
-stated s facts p f q at =
+stated s facts p f q h at =
     let n = length (formulaBytes f) in
     let (_, a, w) = first (at .bytes) in
     let (_, b, u) = first w in
@@ -320,13 +318,13 @@ stated s facts p f q at =
     let v : Span s (length s) (p + 2) (formulaBytes f) q = rw i at u in
     let m : n ≤ 1024 = at .ok .short in
     let k : (n / 256) % 256 * 256 + n / 1 % 256 ≡ n = omega arith in
-    let (g, o) = outer s facts (p + 2) f q (at .ok .formed) v in
+    let (g, o) = outer s facts (p + 2) f q h (at .ok .formed) v in
     (g, rw (a, b, k) (span-length v), o)
 
 module _ (s c : List ℕ) (p : ℕ) where
   pub formula-nothing :
-      (r : Planes) → ((facts : ℕ) (g : Group) (m : Formula) (q : ℕ) → facts ≤ 64 → Item s facts g (p + 2) m q → ⊥) → FormulaPlanes s c p r
-  formula-nothing r nowhere = record { is = λ facts f q l at. let (g, e, i) = stated s facts p f q at in absurd (nowhere facts g f q l i) }
+      (r : Planes) → ((facts : ℕ) (g : Group) (m : Formula) (q : ℕ) → Item s facts g (p + 2) m q → ⊥) → FormulaPlanes s c p r
+  formula-nothing r nowhere = record { is = λ facts f q l at. let (g, e, i) = stated s facts p f q l at in absurd (nowhere facts g f q i) }
 
   pub formula-met :
       (some sure o next : ℕ) → ((g : Group) → Met s c g (p + 2) false some sure o) →
@@ -335,6 +333,6 @@ module _ (s c : List ℕ) (p : ℕ) where
       record {
         is =
             λ facts f q l at.
-            let (g, e, i) = stated s facts p f q at in
-            (en ∙ sym e, λ case t. record { lane = met g facts f q l i .1 case t });
+            let (g, e, i) = stated s facts p f q l at in
+            (en ∙ sym e, λ case t. record { lane = met g facts f q i .1 case t });
       }

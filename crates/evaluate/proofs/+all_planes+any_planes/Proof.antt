@@ -39,7 +39,7 @@ pub +all-planes+any-planes-spec : {M : Type 1} → statement M
     c .before .before .loop .inv .goes _ (omega arith) (left-decided _ _ conjunction _ _ _ _ _ (not-true _ w) (eqb-true _ _ e)))
     -- the bytes end before a member
     (λ c. c .before .before .before .loop .inv .goes _ (omega arith)
-    (left-nothing _ _ conjunction _ _ _ _ _ (c .before .before .loop-test .taken) (λ facts m q h i. omega (arith, c .if2 .taken, item-here i)) _))
+    (left-nothing _ _ conjunction _ _ _ _ _ (c .before .before .loop-test .taken) (λ facts m q i. omega (arith, c .if2 .taken, item-here i)) _))
     (λ c. search needs)
     (λ c κs. search needs)
     (λ c. search needs)
@@ -47,7 +47,7 @@ pub +all-planes+any-planes-spec : {M : Type 1} → statement M
     -- or inside a group's head
     (λ c. let d = c .before .before .before .before .before in
     d .before .loop .inv .goes _ (omega arith)
-    (left-nothing _ _ conjunction _ _ _ _ _ (d .loop-test .taken) (λ facts m q h i. omega (arith, c .if4 .taken, item-counted h (c .before .if3 .left) i)) _))
+    (left-nothing _ _ conjunction _ _ _ _ _ (d .loop-test .taken) (λ facts m q i. omega (arith, c .if4 .taken, item-counted (c .before .if3 .left) i)) _))
     (λ c. search needs)
     (λ c. search needs)
     (λ c. search needs)
@@ -70,7 +70,7 @@ pub +all-planes+any-planes-spec : {M : Type 1} → statement M
     c .before .before .loop .inv .goes _ (omega arith) (left-decided _ _ disjunction _ _ _ _ _ (not-true _ w) (eqb-true _ _ e)))
     -- the bytes end before a member
     (λ c. c .before .before .before .loop .inv .goes _ (omega arith)
-    (left-nothing _ _ disjunction _ _ _ _ _ (c .before .before .loop-test .taken) (λ facts m q h i. omega (arith, c .if2 .taken, item-here i)) _))
+    (left-nothing _ _ disjunction _ _ _ _ _ (c .before .before .loop-test .taken) (λ facts m q i. omega (arith, c .if2 .taken, item-here i)) _))
     (λ c. search needs)
     (λ c κs. search needs)
     (λ c. search needs)
@@ -78,7 +78,7 @@ pub +all-planes+any-planes-spec : {M : Type 1} → statement M
     -- or inside a group's head
     (λ c. let d = c .before .before .before .before .before in
     d .before .loop .inv .goes _ (omega arith)
-    (left-nothing _ _ disjunction _ _ _ _ _ (d .loop-test .taken) (λ facts m q h i. omega (arith, c .if4 .taken, item-counted h (c .before .if3 .left) i)) _))
+    (left-nothing _ _ disjunction _ _ _ _ _ (d .loop-test .taken) (λ facts m q i. omega (arith, c .if4 .taken, item-counted (c .before .if3 .left) i)) _))
     (λ c. search needs)
     (λ c. search needs)
     (λ c. search needs)

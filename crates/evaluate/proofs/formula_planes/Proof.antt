@@ -7,10 +7,10 @@ use Rattle.model.specs.FormulaBytes.{conjunction, disjunction}
 use Rattle.evaluate.proofs.Evaluating.{other, item-here, item-counted, literal-met, group-met, empty-met, formula-nothing, formula-met, tells-all, tells-any}
 
 returns : tie.Need-returns
-returns c = formula-nothing _ _ _ _ (λ facts g m q h i. omega (arith, item-here i))
+returns c = formula-nothing _ _ _ _ (λ facts g m q i. omega (arith, item-here i))
 
 returns-2 : tie.Need-returns-2
-returns-2 c = formula-nothing _ _ _ _ (λ facts g m q h i. omega (arith, item-here i))
+returns-2 c = formula-nothing _ _ _ _ (λ facts g m q i. omega (arith, item-here i))
 
 returns-3 : tie.Need-returns-3
 returns-3 c =
@@ -19,7 +19,7 @@ returns-3 c =
     (rw (w .before .before .wide .ensures .0, w .wide2 .ensures .0))
 
 returns-4 : tie.Need-returns-4
-returns-4 c = formula-nothing _ _ _ _ (λ facts g m q h i. omega (arith, item-counted h (c .before .before .if3 .left) i))
+returns-4 c = formula-nothing _ _ _ _ (λ facts g m q i. omega (arith, item-counted (c .before .before .if3 .left) i))
 
 returns-5 : tie.Need-returns-5
 returns-5 c =
