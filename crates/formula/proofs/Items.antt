@@ -1,10 +1,10 @@
 -- One formula by its head, and the members of a group one after the other. Assumes nothing.
-use mathlib.Core.Path.{_≡_, refl, sym}
+use mathlib.Core.Path.{_≡_, sym}
 use mathlib.Core.List.{List}
 use Prim.Native.Nat.{ℕ, zero, suc, _+_, _-_, _<_}
 use native.Mathlib.Omega.{arith}
-use Rattle.model.specs.Formula.{Formula, all, any, more}
-use Rattle.model.specs.Read.{Read, reject, got, Reader, andThen, done, _>>=_}
+use Rattle.model.specs.Formula.{all, any, more}
+use Rattle.model.specs.Read.{andThen, done, _>>=_}
 use Rattle.model.specs.FormulaBytes.{members, whole, item}
 use Rattle.formula.specs.Heads.{Headed}
 use Rattle.formula.specs.Readings.{nextOf}
@@ -12,7 +12,7 @@ use Rattle.formula.specs.declared.read.Reading.{Reading}
 use Rattle.formula.specs.declared.read.Reading.the-variants.{Refused, Next}
 use Rattle.formula.specs.declared.read.Head.{Head}
 use Rattle.formula.specs.declared.read.Head.the-variants as heads
-use Rattle.formula.proofs.Readers.{then-next}
+use Rattle.formula.proofs.Readers.{then-next, onto, then-onto}
 
 module _ (s : List ℕ) (end facts : ℕ) where
   -- the members of a group with this mark, n of them from p on
@@ -42,28 +42,20 @@ module _ (s : List ℕ) (end facts : ℕ) where
       let d : suc left - 1 ≡ left = omega arith in
       rw (← h .is, d) (sym (then-next (members s end facts (item s end facts left 0x81) m (p + 2)) any))
 
-  -- what reading n members gives, by what reading the first of them gave
-  abbrev pub onFrom : ℕ → ℕ → ℕ → Reading → Reading
-  onFrom left parent n (Refused r) = Refused r
-  onFrom left parent n (Next q) = row left parent (n - 1) q
-
   module _ (left parent : ℕ) where
     pub row-ends : (n p : ℕ) → n ≡ 0 → Next p ≡ row left parent n p
     unfolding members done nextOf
     row-ends n p h = rw h
 
-    row-first : (n p : ℕ) → 0 < n → onFrom left parent n (nextOf (item s end facts left parent p)) ≡ row left parent n p
-    unfolding members _>>=_ andThen done nextOf
+    row-first : (n p : ℕ) → 0 < n → onto (row left parent (n - 1)) (nextOf (item s end facts left parent p)) ≡ row left parent n p
+    unfolding members _>>=_ done
     row-first zero p h = absurd (omega arith)
-    row-first (suc n) p h = go (item s end facts left parent p)
-      where
-        one : Reader Formula
-        one = item s end facts left parent
-
-        go : (x : Read Formula) → onFrom left parent (suc n) (nextOf x) ≡ nextOf (andThen x (λ m. members s end facts one n >>= λ ms. done (more m ms)))
-        go (reject i q) = refl
-        go (got a q) = let d : suc n - 1 ≡ n = omega arith in rw d (sym (then-next (members s end facts one n q) (more a)))
+    row-first (suc n) p h =
+        let d : suc n - 1 ≡ n = omega arith in
+        let one = item s end facts left parent in
+        rw d (then-onto (one p) _ _ (λ m q. sym (then-next (members s end facts one n q) (more m))))
 
     -- the members that are left, by the head of the first of them
-    pub row-turn : (n p : ℕ) → 0 < n → (r : Head) → Headed s end facts left parent p r → onFrom left parent n (byHead left p r) ≡ row left parent n p
+    pub row-turn :
+        (n p : ℕ) → 0 < n → (r : Head) → Headed s end facts left parent p r → onto (row left parent (n - 1)) (byHead left p r) ≡ row left parent n p
     row-turn n p h r g = rw (item-next left parent p r g) (row-first n p h)

@@ -1,5 +1,5 @@
 -- The length field, and the whole formula after it, case by case. Assumes nothing.
-use mathlib.Core.Path.{_≡_, refl, sym}
+use mathlib.Core.Path.{_≡_, sym}
 use mathlib.Core.Bool.{_&&_}
 use mathlib.Core.List.{List}
 use Prim.Native.Nat.{ℕ, suc, _+_, _*_, _<_, _≤_}
@@ -10,14 +10,13 @@ use lib.Seq.{drop-cons}
 use lib.Dec.{leb}
 use borrow.Author.Tests.{lt-ltb, le-ltb, le-leb, lt-leb}
 use Rattle.model.specs.Limits.{maxFormulaBytes, maxDepth}
-use Rattle.model.specs.Formula.{Formula}
-use Rattle.model.specs.Read.{Read, reject, got, Reader, andThen, done, position, require, bigEndianFrom, bigEndian, byte, _>>=_, _>>_}
+use Rattle.model.specs.Read.{reject, got, Reader, andThen, done, position, require, bigEndianFrom, bigEndian, byte, _>>=_, _>>_}
 use Rattle.model.specs.FormulaBytes.{item, stated, formula}
 use Rattle.model.specs.declared.Refusal.{Refusal}
 use Rattle.formula.specs.Readings.{refusalAt, nextOf, afterOf, Stated}
 use Rattle.formula.specs.declared.read.Reading.{Reading}
 use Rattle.formula.specs.declared.read.Reading.the-variants.{Refused, Next}
-use Rattle.formula.proofs.Readers.{then-next}
+use Rattle.formula.proofs.Readers.{then-next, onto, then-onto}
 
 two-bytes : (s : List ℕ) (p : ℕ) → p + 1 < length s → getD s p 0 * 256 + getD s (p + 1) 0 ≡ bigEndian (take 2 (drop p s))
 unfolding bigEndianFrom
@@ -79,15 +78,9 @@ formula-next s facts p r (Refused x) h e = let d = rw e at (h .is) in rw (← d)
 formula-next s facts p r (Next end) h e = let d = rw e at (h .is) in rw (← d)
 
 -- and what was read of it, by the end of its stated bytes
-abbrev byEnd : ℕ → Reading → Reading
-byEnd end (Refused r) = Refused r
-byEnd end (Next q) = nextOf (require (leb end q) 21 q q)
-
 pub after-next :
-    (s : List ℕ) (end facts p : ℕ) (r : Reading) → r ≡ nextOf (item s end facts maxDepth 0 p) → byEnd end r ≡ nextOf (afterOf s end facts p)
-unfolding afterOf _>>=_ _>>_ andThen position done nextOf
-after-next s end facts p r h = rw h (go (item s end facts maxDepth 0 p))
-  where
-    go : (x : Read Formula) → byEnd end (nextOf x) ≡ nextOf (andThen x (λ f q. (require (leb end q) 21 q >> done f) q))
-    go (reject n q) = refl
-    go (got f q) = sym (then-next (require (leb end q) 21 q q) (λ u. f))
+    (s : List ℕ) (end facts p : ℕ) (r : Reading) → r ≡ nextOf (item s end facts maxDepth 0 p) →
+    onto (λ q. nextOf (require (leb end q) 21 q q)) r ≡ nextOf (afterOf s end facts p)
+unfolding afterOf _>>=_ _>>_ andThen position require done
+after-next s end facts p r h =
+    rw h (then-onto (item s end facts maxDepth 0 p) _ _ (λ f q. sym (then-next (require (leb end q) 21 q q) (λ u. f))))

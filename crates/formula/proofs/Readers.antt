@@ -2,9 +2,10 @@
 use mathlib.Core.Path.{_≡_, refl}
 use Prim.Native.Nat.{ℕ}
 use native.Mathlib.Omega.{arith}
-use Rattle.model.specs.Read.{Read, reject, got, andThen}
+use Rattle.model.specs.Read.{Read, reject, got, Reader, andThen}
 use Rattle.model.specs.declared.Refusal.{Refusal}
 use Rattle.formula.specs.Readings.{refusalAt, rejected, nextOf}
+use Rattle.formula.specs.declared.read.Reading.{Reading}
 use Rattle.formula.specs.declared.read.Reading.the-variants.{Refused, Next}
 
 -- a step that only makes something of what was read
@@ -12,6 +13,17 @@ pub then-next : {A B : Type 0} (x : Read A) (f : A → B) → nextOf (andThen x 
 unfolding andThen nextOf
 then-next (reject n q) f = refl
 then-next (got a p) f = refl
+
+-- one reader after the other, where of the first only the position counts
+abbrev pub onto : (ℕ → Reading) → Reading → Reading
+onto f (Refused r) = Refused r
+onto f (Next q) = f q
+
+pub then-onto :
+    {A B : Type 0} (x : Read A) (k : A → Reader B) (f : ℕ → Reading) → ((a : A) (q : ℕ) → f q ≡ nextOf (k a q)) → onto f (nextOf x) ≡ nextOf (andThen x k)
+unfolding andThen nextOf
+then-onto (reject n q) k f h = refl
+then-onto (got a q) k f h = h a q
 
 module _ {A : Type 0} where
   pub record Got (x : Read A) (q : ℕ) : Type 0 where
