@@ -248,7 +248,7 @@ module _ (s c : List ℕ) (g : Group) (whole : Bool) (some sure k p : ℕ) where
   left-nothing l nowhere r facts (more a ms) q f m e v = split (formulaBytes a) v λ n x y. absurd (nowhere facts a n (item f g a (m .0) x))
 
   -- none is left
-  pub left-none : k ≡ 0 → Left s c g whole some sure k p (record { some = some; next = p; sure = sure })
+  pub left-none : k ≤ 0 → Left s c g whole some sure k p (record { some = some; next = p; sure = sure })
   unfolding memberBytes
   left-none l facts none q f m e v = ((λ w. empty v), λ case d j k x lane. rw (group-none (case j) g, join-unit g x) lane)
   left-none l facts (more a ms) q f m e v = absurd (omega arith)

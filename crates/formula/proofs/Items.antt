@@ -1,7 +1,7 @@
 -- One formula by its head, and the members of a group one after the other. Assumes nothing.
-use mathlib.Core.Path.{_≡_, sym}
+use mathlib.Core.Path.{_≡_, refl, sym}
 use mathlib.Core.List.{List}
-use Prim.Native.Nat.{ℕ, zero, suc, _+_, _-_, _<_}
+use Prim.Native.Nat.{ℕ, zero, suc, _+_, _-_, _<_, _≤_}
 use native.Mathlib.Omega.{arith}
 use Rattle.model.specs.Formula.{all, any, more}
 use Rattle.model.specs.Read.{andThen, done, _>>=_}
@@ -43,9 +43,10 @@ module _ (s : List ℕ) (end facts : ℕ) where
       rw (← h .is, d) (sym (then-next (members s end facts (item s end facts left 0x81) m (p + 2)) any))
 
   module _ (left parent : ℕ) where
-    pub row-ends : (n p : ℕ) → n ≡ 0 → Next p ≡ row left parent n p
+    pub row-ends : (n p : ℕ) → n ≤ 0 → Next p ≡ row left parent n p
     unfolding members done nextOf
-    row-ends n p h = rw h
+    row-ends zero p h = refl
+    row-ends (suc n) p h = absurd (omega arith)
 
     row-first : (n p : ℕ) → 0 < n → onto (row left parent (n - 1)) (nextOf (item s end facts left parent p)) ≡ row left parent n p
     unfolding members _>>=_ done

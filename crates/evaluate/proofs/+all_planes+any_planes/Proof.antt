@@ -62,7 +62,7 @@ pub +all-planes+any-planes-spec : {M : Type 1} → statement M
     (λ w. rw (w .6, w .7, w .8)
     (more _ _ _ (omega (arith, w .3 .ensures .onward)) (group-met _ _ conjunction _ _ disjunction (λ e. refl) (w .0 .left) _ (w .3 .ensures)) _ _ (d .before .loop .inv)))
     (c .if3 .came))
-    (λ c. c .before .loop .inv .goes _ (omega arith) (left-none _ _ conjunction _ _ _ _ _ (omega arith))))
+    (λ c. c .before .loop .inv .goes _ (omega arith) (left-none _ _ conjunction _ _ _ _ _ (c .loop-test .left))))
     λ t. any-planes-lts.spec (_, literal-planes.Learnt, _, all-planes.Post) _ any-planes.Post (Inv-loop disjunction) μ-loop
     (λ c. held-begins _ _ disjunction _ _ _)
     -- decided
@@ -93,4 +93,4 @@ pub +all-planes+any-planes-spec : {M : Type 1} → statement M
     (λ w. rw (w .6, w .7, w .8)
     (more _ _ _ (omega (arith, w .3 .ensures .onward)) (group-met _ _ disjunction _ _ conjunction (λ e. refl) (w .0 .left) _ (w .3 .ensures)) _ _ (d .before .loop .inv)))
     (c .if3 .came))
-    (λ c. c .before .loop .inv .goes _ (omega arith) (left-none _ _ disjunction _ _ _ _ _ (omega arith)))
+    (λ c. c .before .loop .inv .goes _ (omega arith) (left-none _ _ disjunction _ _ _ _ _ (c .loop-test .left)))

@@ -36,7 +36,7 @@ pub +read-all+read-any-spec : {M : Type 1} → statement M
     (λ c. search needs)
     -- the first member's head is refused
     (λ c. let d = c .before .before .before in
-    rw (c .before .r .given .1) at (row-turn _ _ _ _ _ _ _ (omega arith) _ (d .head-at .ensures) ∙ d .before .before .loop .inv))
+    rw (c .before .r .given .1) at (row-turn _ _ _ _ _ _ _ (d .before .loop-test .taken) _ (d .head-at .ensures) ∙ d .before .before .loop .inv))
     (λ c. search needs)
     (λ c. let h = rw (c .enum-told .given .1) at (c .before .before .head-at .ensures .placed) in omega arith)
     (λ c. search needs)
@@ -51,23 +51,24 @@ pub +read-all+read-any-spec : {M : Type 1} → statement M
     (λ c. let d = c .before .before .before in
     let e = d .before .before .before .before in
     rw (d .before .before .m .given .1, ← d .read-any .ensures, c .before .r2 .given .1)
-    at (row-turn _ _ _ _ _ _ _ (omega arith) _ (e .head-at .ensures) ∙ e .before .before .loop .inv))
+    at (row-turn _ _ _ _ _ _ _ (e .before .loop-test .taken) _ (e .head-at .ensures) ∙ e .before .before .loop .inv))
     (λ c. search needs)
     (λ c. search needs)
     (λ c. search needs)
     -- it was read: a literal, or a group
-    (λ c. let turn = row-turn _ _ _ _ _ _ _ (omega arith) _ (c .before .head-at .ensures) ∙ c .before .before .before .loop .inv in
+    (λ c. let d = c .before in
+    let turn = row-turn _ _ _ _ _ _ _ (d .before .loop-test .taken) _ (d .head-at .ensures) ∙ d .before .before .loop .inv in
     ⊎-elim (λ w. rw (w .2) (rw (w .1 .given .1) at turn))
     (λ w. rw (w .7) (rw (w .1 .given .1, ← w .3 .ensures, w .5 .given .1) at turn))
     (c .match .came))
-    (λ c. row-ends _ _ _ _ _ _ _ (omega arith) ∙ c .before .loop .inv))
+    (λ c. row-ends _ _ _ _ _ _ _ (c .loop-test .left) ∙ c .before .loop .inv))
     λ t. read-any-lts.spec (_, head-at.Learnt, _, refusal.Learnt, _, read-all.Post) _ read-any.Post (Inv-loop 0x81) μ-loop
     (λ c. refl)
     (λ c κs. search needs)
     (λ c. search needs)
     -- the first member's head is refused
     (λ c. let d = c .before .before .before in
-    rw (c .before .r .given .1) at (row-turn _ _ _ _ _ _ _ (omega arith) _ (d .head-at .ensures) ∙ d .before .before .loop .inv))
+    rw (c .before .r .given .1) at (row-turn _ _ _ _ _ _ _ (d .before .loop-test .taken) _ (d .head-at .ensures) ∙ d .before .before .loop .inv))
     (λ c. search needs)
     (λ c. let h = rw (c .enum-told .given .1) at (c .before .before .head-at .ensures .placed) in omega arith)
     (λ c. search needs)
@@ -82,13 +83,14 @@ pub +read-all+read-any-spec : {M : Type 1} → statement M
     (λ c. let d = c .before .before .before in
     let e = d .before .before .before .before in
     rw (d .before .before .m .given .1, ← d .read-all .ensures, c .before .r2 .given .1)
-    at (row-turn _ _ _ _ _ _ _ (omega arith) _ (e .head-at .ensures) ∙ e .before .before .loop .inv))
+    at (row-turn _ _ _ _ _ _ _ (e .before .loop-test .taken) _ (e .head-at .ensures) ∙ e .before .before .loop .inv))
     (λ c. search needs)
     (λ c. search needs)
     (λ c. search needs)
     -- it was read: a literal, or a group
-    (λ c. let turn = row-turn _ _ _ _ _ _ _ (omega arith) _ (c .before .head-at .ensures) ∙ c .before .before .before .loop .inv in
+    (λ c. let d = c .before in
+    let turn = row-turn _ _ _ _ _ _ _ (d .before .loop-test .taken) _ (d .head-at .ensures) ∙ d .before .before .loop .inv in
     ⊎-elim (λ w. rw (w .2) (rw (w .1 .given .1) at turn))
     (λ w. rw (w .7) (rw (w .1 .given .1, ← w .3 .ensures, w .5 .given .1) at turn))
     (c .match .came))
-    (λ c. row-ends _ _ _ _ _ _ _ (omega arith) ∙ c .before .loop .inv)
+    (λ c. row-ends _ _ _ _ _ _ _ (c .loop-test .left) ∙ c .before .loop .inv)
