@@ -1,20 +1,21 @@
--- Evaluating in 64 lanes: what one turn of a loop over members makes of the lanes, and what a formula's bytes begin with. Assumes nothing.
-use mathlib.Core.Path.{_≡_, refl, sym, ap, _∙_, subst}
+-- Evaluating in 64 lanes: what stands at a position, what one turn of a loop over members makes of the lanes, and a formula by its first bytes.
+-- Assumes nothing.
+use mathlib.Core.Path.{_≡_, refl, sym, ap, _∙_}
 use mathlib.Core.Bool.{Bool, true, false, false≢true}
-use mathlib.Core.List.{List, _∷_, _++_}
-use Prim.Native.Nat.{ℕ, suc, _+_, _*_, _-_, _/_, _%_, _≤_, _<_}
+use mathlib.Core.List.{List, _∷_}
+use Prim.Native.Nat.{ℕ, _+_, _*_, _-_, _/_, _%_, _≤_, _<_}
 use native.Mathlib.Omega.{arith}
 use lib.ListN.{length, getD}
 use lib.Bits.{bitAnd, bitOr}
 use Rattle.model.specs.Limits.{maxDepth}
 use Rattle.model.specs.Kleene.{Kleene, No, Unknown, Yes, both, either, three}
-use Rattle.model.specs.Formula.{Literal, fact, denial, Formula, Formulas, lit, all, any, none, more, valueOf, eval}
+use Rattle.model.specs.Formula.{Literal, fact, denial, Formula, Formulas, lit, all, any, none, more, eval}
 use Rattle.model.specs.Read.{bytesOf}
-use Rattle.model.specs.FormulaBytes.{Group, conjunction, disjunction, mark, literalByte, memberCount, formulaBytes, memberBytes, encodeFormula}
+use Rattle.model.specs.FormulaBytes.{Group, conjunction, disjunction, mark, grouped, literalOf, literalByte, memberCount, formulaBytes, memberBytes, encodeFormula}
 use Rattle.model.specs.WellFormed.{Declared, Formed, FormedAll}
-use Rattle.model.specs.Planes.{laneBit, InLane, InLanes, Table}
+use Rattle.model.specs.Planes.{laneBit, InLane, Table}
 use Rattle.model.specs.Stands.{Span, FormulaAt, Member, Members}
-use Rattle.model.proofs.Laws.Reading.{empty, first, split, span-length, span-end}
+use Rattle.model.proofs.Laws.Reading.{empty, first, split, span-length}
 use Rattle.model.proofs.Laws.FormulaCodec.{literal-ok}
 use Rattle.model.proofs.Laws.Planes.{ones, bit-ones, bit-zero, lane-both, lane-either, all-no, all-yes}
 use Rattle.evaluate.specs.declared.Planes.{Planes}
@@ -81,312 +82,203 @@ join-assoc disjunction Unknown Unknown No = refl
 join-assoc disjunction Unknown Unknown Unknown = refl
 join-assoc disjunction Unknown Unknown Yes = refl
 
-group-none : (g : Group) (c : List Kleene) → evalGroup g c none ≡ unitValue g
-unfolding eval
-group-none conjunction c = refl
-group-none disjunction c = refl
+module _ (c : List Kleene) where
+  group-none : (g : Group) → evalGroup g c none ≡ unitValue g
+  unfolding eval
+  group-none conjunction = refl
+  group-none disjunction = refl
 
-group-more : (g : Group) (c : List Kleene) (m : Formula) (ms : Formulas) → evalGroup g c (more m ms) ≡ joinValues g (eval three c m) (evalGroup g c ms)
-unfolding eval
-group-more conjunction c m ms = refl
-group-more disjunction c m ms = refl
+  group-more : (g : Group) (m : Formula) (ms : Formulas) → evalGroup g c (more m ms) ≡ joinValues g (eval three c m) (evalGroup g c ms)
+  unfolding eval
+  group-more conjunction m ms = refl
+  group-more disjunction m ms = refl
 
--- ---- what a member's bytes begin with
+  group-value : (g : Group) (ms : Formulas) → eval three c (grouped g ms) ≡ evalGroup g c ms
+  unfolding eval
+  group-value conjunction ms = refl
+  group-value disjunction ms = refl
+
+-- the kind of a group by its mark, as the code tests it
+pub tells-all : {b : ℕ} → b ≡ 0x80 → (g : Group) → b ≡ mark g → g ≡ conjunction
+tells-all e conjunction i = refl
+tells-all e disjunction i = absurd (omega arith)
+
+pub tells-any : {b : ℕ} → (b ≡ 0x80 → ⊥) → (g : Group) → b ≡ mark g → g ≡ disjunction
+tells-any e conjunction i = absurd (e i)
+tells-any e disjunction i = refl
+
+-- ---- empty groups
+
+pub empty-all : (b next : ℕ) (r : Planes) → b ≡ 0x80 → r .some ≡ ones → r .sure ≡ ones → r .next ≡ next → EmptyPlanes b next r
+empty-all b next r e s u n = record { after = n; all-true = λ h. rw (s, u) (record { lane = λ j l. all-yes l }); any-false = λ h. absurd (h e) }
+
+pub empty-any : (b next : ℕ) (r : Planes) → (b ≡ 0x80 → ⊥) → r .some ≡ 0 → r .sure ≡ 0 → r .next ≡ next → EmptyPlanes b next r
+empty-any b next r e s u n = record { after = n; all-true = λ h. absurd (e h); any-false = λ h. rw (s, u) (record { lane = λ j l. all-no }) }
+
+empty-lane : (g : Group) {b next : ℕ} {r : Planes} → EmptyPlanes b next r → b ≡ mark g → (j : ℕ) → j < 64 → InLane j (r .some) (r .sure) (unitValue g)
+empty-lane conjunction x e j l = x .all-true e .lane j l
+empty-lane disjunction x e j l = x .any-false (λ i. omega arith) .lane j l
+
+-- ---- what stands from p up to q: a literal, or a group of the other kind than g
+
+pub data Item (s : List ℕ) (facts : ℕ) (g : Group) (p : ℕ) : Formula → ℕ → Type 0 where
+  leaf : {l : Literal} {q : ℕ} → getD s p 0 < 128 → literalOf (getD s p 0) ≡ l → p < length s → p + 1 ≡ q → Item s facts g p (lit l) q
+  nest :
+      (ms : Formulas) {q : ℕ} → 128 ≤ getD s p 0 → getD s p 0 ≡ mark (other g) → p + 1 < length s → getD s (p + 1) 0 ≡ memberCount ms →
+      facts ≤ 64 → Members facts (other g) ms → Span s (length s) (p + 2) (memberBytes ms) q → Item s facts g p (grouped (other g) ms) q
 
 literal-small : (facts : ℕ) (l : Literal) → facts ≤ 64 → Declared facts l → literalByte l < 128
 literal-small facts (fact f) h d = omega arith
 literal-small facts (denial f) h d = omega arith
 
-data Shape (facts : ℕ) (g : Group) : Formula → Type 0 where
-  leaf : (l : Literal) → Declared facts l → Shape facts g (lit l)
-  all-group : (ms : Formulas) → other g ≡ conjunction → Members facts conjunction ms → Shape facts g (all ms)
-  any-group : (ms : Formulas) → other g ≡ disjunction → Members facts disjunction ms → Shape facts g (any ms)
+mark-high : (g : Group) → 128 ≤ mark g
+mark-high conjunction = omega arith
+mark-high disjunction = omega arith
 
-shape : (facts : ℕ) (g : Group) (m : Formula) → Member facts g m → Shape facts g m
-unfolding Member
-shape facts conjunction (lit l) h = leaf l h
-shape facts disjunction (lit l) h = leaf l h
-shape facts conjunction (all ms) h = absurd h
-shape facts conjunction (any ms) h = any-group ms refl h
-shape facts disjunction (all ms) h = all-group ms refl h
-shape facts disjunction (any ms) h = absurd h
+module _ {s : List ℕ} {facts p q : ℕ} (h : facts ≤ 64) where
+  nested :
+      (g : Group) (ms : Formulas) → Members facts (other g) ms → Span s (length s) p (mark (other g) ∷ memberCount ms ∷ memberBytes ms) q →
+      Item s facts g p (grouped (other g) ms) q
+  nested g ms d v =
+      let (l, e, w) = first v in
+      let (k, n, u) = first w in
+      let i : p + 1 + 1 ≡ p + 2 = omega arith in
+      nest ms (omega (arith, mark-high (other g))) e k n h d (rw i at u)
+
+  item : (g : Group) (m : Formula) → Member facts g m → Span s (length s) p (formulaBytes m) q → Item s facts g p m q
+  unfolding formulaBytes Member
+  item g (lit l) d v =
+      let (i, e, w) = first v in
+      leaf {l = l} (omega (arith, literal-small facts l h d)) (rw e (literal-ok facts h l d .1)) i (empty w)
+  item conjunction (all ms) d v = absurd d
+  item conjunction (any ms) d v = nested conjunction ms d v
+  item disjunction (all ms) d v = nested disjunction ms d v
+  item disjunction (any ms) d v = absurd d
+
+module _ {s : List ℕ} {facts p : ℕ} {g : Group} where
+  pub item-here : {m : Formula} {q : ℕ} → Item s facts g p m q → p < length s
+  item-here (leaf b o i n) = i
+  item-here (nest ms b e i n h d v) = omega arith
+
+  pub item-counted : {m : Formula} {q : ℕ} → 128 ≤ getD s p 0 → Item s facts g p m q → p + 1 < length s
+  item-counted big (leaf b o i n) = absurd (omega arith)
+  item-counted big (nest ms b e i n h d v) = i
+
+-- the two words have the value of what stands at p, in every lane; where the whole is asked for, it ends at o
+abbrev pub Met : List ℕ → List ℕ → Group → ℕ → Bool → ℕ → ℕ → ℕ → Type 0
+Met s c g p whole some sure o =
+    (facts : ℕ) (m : Formula) (q : ℕ) → Item s facts g p m q →
+    (whole ≡ true → o ≡ q) × ((case : ℕ → List Kleene) → Table c case → (j : ℕ) → j < 64 → InLane j some sure (eval three (case j) m))
+
+module _ (s c : List ℕ) (g : Group) (p : ℕ) where
+  pub literal-met : (whole : Bool) → getD s p 0 < 128 → (r : declared.Literal) → LiteralPlanes c (getD s p 0) r → Met s c g p whole (r .some) (r .sure) (p + 1)
+  unfolding eval
+  literal-met whole small r x facts m q (leaf b o i n) =
+      ((λ w. n), λ case t j k. rw (x .is-some, x .is-sure) (rw o at (t .literal (getD s p 0) b .lane j k)))
+  literal-met whole small r x facts m q (nest ms b e i n h d v) = absurd (omega arith)
+
+  -- the kind of the group is known by its mark
+  pub group-met :
+      (whole : Bool) (h : Group) → (getD s p 0 ≡ mark (other g) → other g ≡ h) → 128 ≤ getD s p 0 →
+      (r : Planes) → GroupPlanes s c h (getD s (p + 1) 0) (p + 2) whole r → Met s c g p whole (r .some) (r .sure) (r .next)
+  group-met whole h tells big r x facts m q (leaf b o i n) = absurd (omega arith)
+  group-met whole h tells big r x facts m q (nest ms b e i n f d v) =
+      let y = x .is facts ms q f (rw (tells e) at d) (sym n) v in
+      (y .0, λ case t j k. rw (group-value (case j) (other g) ms, tells e) (y .1 case t .lane j k))
+
+  -- an empty one is known by what its first two bytes are
+  pub empty-met :
+      (next o : ℕ) (r : Planes) → 128 ≤ getD s p 0 → getD s (p + 1) 0 ≡ 0 → EmptyPlanes (getD s p 0) next r → Met s c g p false (r .some) (r .sure) o
+  empty-met next o r big z x facts m q (leaf b l i n) = absurd (omega arith)
+  empty-met next o r big z x facts m q (nest none b e i n h d v) = (
+    (λ w. absurd (false≢true w)),
+    λ case t j k. rw (group-value (case j) (other g) none, group-none (case j) (other g)) (empty-lane (other g) x e j k),
+  )
+  empty-met next o r big z x facts m q (nest (more a ms) b e i n h d v) = absurd (omega arith)
 
 -- ---- a loop over members
 
--- of the members ms, which end at q, the first were joined into the two words; k are left, from p on
-pub record Rest (s c : List ℕ) (g : Group) (facts : ℕ) (ms : Formulas) (q some sure k p : ℕ) : Type 0 where
-  pub rest : Formulas
-  pub members : Members facts g rest
-  pub count : memberCount rest ≡ k
-  pub stands : Span s (length s) p (memberBytes rest) q
-  pub lanes :
-      (case : ℕ → List Kleene) → Table c case → (j : ℕ) → j < 64 →
-      (x : Kleene) × InLane j some sure x × (joinValues g x (evalGroup g (case j) rest) ≡ evalGroup g (case j) ms)
+-- what is left of the loop answers r: the values of k members from p on are joined to the two words
+abbrev pub Left : List ℕ → List ℕ → Group → Bool → ℕ → ℕ → ℕ → ℕ → Planes → Type 0
+Left s c g whole some sure k p r =
+    (facts : ℕ) (ms : Formulas) (q : ℕ) → facts ≤ 64 → Members facts g ms → memberCount ms ≡ k → Span s (length s) p (memberBytes ms) q →
+    (whole ≡ true → r .next ≡ q) ×
+    ((case : ℕ → List Kleene) → Table c case → (j : ℕ) → j < 64 → (x : Kleene) → InLane j some sure x →
+    InLane j (r .some) (r .sure) (joinValues g x (evalGroup g (case j) ms)))
 
--- so it is of whatever stands there, n members from `at` on
-pub record Held (s c : List ℕ) (g : Group) (n at some sure k p : ℕ) : Type 0 where
+-- so does the whole loop, over n members from `at` on
+pub record Held (s c : List ℕ) (g : Group) (whole : Bool) (n at some sure k p : ℕ) : Type 0 where
   pub onward : at ≤ p
-  pub is :
-      (facts : ℕ) (ms : Formulas) (q : ℕ) → facts ≤ 64 → Members facts g ms → memberCount ms ≡ n → Span s (length s) at (memberBytes ms) q →
-      Rest s c g facts ms q some sure k p
+  pub goes : (r : Planes) → p ≤ r .next → Left s c g whole some sure k p r → GroupPlanes s c g n at whole r
 
-pub held-begins : (s c : List ℕ) (g : Group) (n at : ℕ) → Held s c g n at (unitWord g) (unitWord g) n at
-held-begins s c g n at =
+pub held-begins : (s c : List ℕ) (g : Group) (whole : Bool) (n at : ℕ) → Held s c g whole n at (unitWord g) (unitWord g) n at
+held-begins s c g whole n at =
     record {
       onward = omega arith;
-      is =
-          λ facts ms q h m e r.
-          record { rest = ms; members = m; count = e; stands = r; lanes = λ case t j l. (unitValue g, lane-unit g l, unit-join g (evalGroup g (case j) ms)) };
+      goes =
+          λ r o h.
+          record {
+            onward = o;
+            is =
+                λ facts ms q f m e v.
+                let (i, y) = h facts ms q f m e v in
+                (i, λ case t. record { lane = λ j l. rw unit-join at (y case t j l (unitValue g) (lane-unit g l)) });
+          };
     }
 
--- the next of the members that are left
-record Front (s c : List ℕ) (g : Group) (facts : ℕ) (ms : Formulas) (q some sure k p : ℕ) : Type 0 where
-  pub head : Formula
-  pub rest : Formulas
-  pub member : Member facts g head
-  pub members : Members facts g rest
-  pub count : suc (memberCount rest) ≡ k
-  pub stands : Span s (length s) p (formulaBytes head ++ memberBytes rest) q
-  pub lanes :
-      (case : ℕ → List Kleene) → Table c case → (j : ℕ) → j < 64 →
-      (x : Kleene) × InLane j some sure x ×
-      (joinValues g x (joinValues g (eval three (case j) head) (evalGroup g (case j) rest)) ≡ evalGroup g (case j) ms)
+-- the words decide a group of this kind
+abbrev pub Decided : Group → ℕ → ℕ → Type 0
+Decided conjunction some sure = some ≡ 0
+Decided disjunction some sure = sure ≡ ones
 
-front :
-    (s c : List ℕ) (g : Group) (facts : ℕ) (ms : Formulas) (q some sure k p : ℕ) → Rest s c g facts ms q some sure k p → 0 < k →
-    Front s c g facts ms q some sure k p
-unfolding Members memberBytes
-front s c g facts ms q some sure k p R l = by-rest (R .rest) (R .members) (R .count) (R .stands) (R .lanes)
-  where
-    by-rest :
-        (rest : Formulas) → Members facts g rest → memberCount rest ≡ k → Span s (length s) p (memberBytes rest) q →
-        ((case : ℕ → List Kleene) → Table c case → (j : ℕ) → j < 64 →
-        (x : Kleene) × InLane j some sure x × (joinValues g x (evalGroup g (case j) rest) ≡ evalGroup g (case j) ms)) →
-        Front s c g facts ms q some sure k p
-    by-rest none m e v w = absurd (omega arith)
-    by-rest (more a rest) m e v w =
-        record {
-          head = a;
-          rest = rest;
-          member = m .0;
-          members = m .1;
-          count = e;
-          stands = v;
-          lanes = λ case t j b. let (x, h, i) = w case t j b in (x, h, ap (joinValues g x) (sym (group-more g (case j) a rest)) ∙ i);
-        }
+decides : (g : Group) (some sure : ℕ) → Decided g some sure → (j : ℕ) → j < 64 → (x : Kleene) → InLane j some sure x → (y : Kleene) → joinValues g x y ≡ x
+decides conjunction some sure e j l No h y = refl
+decides conjunction some sure e j l Unknown h y = absurd (omega (arith, h .is-some, ap (laneBit j) e, bit-zero j))
+decides conjunction some sure e j l Yes h y = absurd (omega (arith, h .is-some, ap (laneBit j) e, bit-zero j))
+decides disjunction some sure e j l Yes h y = refl
+decides disjunction some sure e j l Unknown h y = absurd (omega (arith, h .is-sure, ap (laneBit j) e, bit-ones j l))
+decides disjunction some sure e j l No h y = absurd (omega (arith, h .is-sure, ap (laneBit j) e, bit-ones j l))
 
--- its value joined, and what is left begins at o
-advance :
-    (s c : List ℕ) (g : Group) (facts : ℕ) (ms : Formulas) (q some sure k p some′ sure′ o : ℕ) (f : Front s c g facts ms q some sure k p) →
-    Span s (length s) o (memberBytes (f .rest)) q →
-    ((case : ℕ → List Kleene) → Table c case → (j : ℕ) → j < 64 → InLane j some′ sure′ (eval three (case j) (f .head))) →
-    Rest s c g facts ms q (joinWords g some some′) (joinWords g sure sure′) (k - 1) o
-advance s c g facts ms q some sure k p some′ sure′ o f v w =
-    record {
-      rest = f .rest;
-      members = f .members;
-      count = omega (arith, f .count);
-      stands = v;
-      lanes =
-          λ case t j l.
-          let (x, h, i) = f .lanes case t j l in (
-            joinValues g x (eval three (case j) (f .head)),
-            lane-join g j h (w case t j l),
-            join-assoc g x (eval three (case j) (f .head)) (evalGroup g (case j) (f .rest)) ∙ i,
-          );
-    }
-
--- a literal's value is that of its byte
-literal-value : (facts : ℕ) → facts ≤ 64 → (c : List ℕ) (case : ℕ → List Kleene) → Table c case → (l : Literal) → Declared facts l → (b : ℕ) → b ≡ literalByte l →
-    (r : declared.Literal) → LiteralPlanes c b r → (j : ℕ) → j < 64 → InLane j (r .some) (r .sure) (eval three (case j) (lit l))
-unfolding eval
-literal-value facts h c case t l d b e r p j m =
-    rw (p .is-some, p .is-sure, e)
-    (subst (λ (x : Literal). InLane j (getD c (2 * literalByte l) 0) (getD c (2 * literalByte l + 1) 0) (valueOf three (case j) x)) (literal-ok facts h l d .1)
-    (t .literal (literalByte l) (literal-small facts l h d) .lane j m))
-
--- ---- what the bytes of the next member begin with
-
-module _ (s : List ℕ) (p q facts : ℕ) (g : Group) {c : List ℕ} {ms : Formulas} {some sure k : ℕ} where
-  no-byte : Front s c g facts ms q some sure k p → length s ≤ p → ⊥
-  unfolding formulaBytes
-  no-byte f h = go (f .head) (f .stands)
-    where
-      go : (m : Formula) → Span s (length s) p (formulaBytes m ++ memberBytes (f .rest)) q → ⊥
-      go (lit x) v = omega (arith, first v .0)
-      go (all xs) v = omega (arith, first v .0)
-      go (any xs) v = omega (arith, first v .0)
-
-  literal-head :
-      (f : Front s c g facts ms q some sure k p) (b : ℕ) → b ≡ getD s p 0 → b < 128 →
-      (l : Literal) × Declared facts l × ((f .head ≡ lit l) × (b ≡ literalByte l)) × Span s (length s) (p + 1) (memberBytes (f .rest)) q
-  unfolding formulaBytes
-  literal-head f b e small = go (f .head) (shape facts g (f .head) (f .member)) (f .stands)
-    where
-      go :
-          (m : Formula) → Shape facts g m → Span s (length s) p (formulaBytes m ++ memberBytes (f .rest)) q →
-          (l : Literal) × Declared facts l × ((m ≡ lit l) × (b ≡ literalByte l)) × Span s (length s) (p + 1) (memberBytes (f .rest)) q
-      go m (leaf l d) v = (l, d, (refl, e ∙ first v .1), first v .2)
-      go m (all-group xs i d) v = absurd (omega (arith, first v .1))
-      go m (any-group xs i d) v = absurd (omega (arith, first v .1))
-
-  -- the members of the group, its count at p + 1, and where they end
-  group-head :
-      facts ≤ 64 → (f : Front s c g facts ms q some sure k p) (b : ℕ) → b ≡ getD s p 0 → 128 ≤ b →
-      (xs : Formulas) × Members facts (other g) xs × ((case : ℕ → List Kleene) (j : ℕ) → eval three (case j) (f .head) ≡ evalGroup (other g) (case j) xs) ×
-      ((p + 1 < length s) × (getD s (p + 1) 0 ≡ memberCount xs) × ((o : ℕ) × Span s (length s) (p + 2) (memberBytes xs) o × Span s (length s) o (memberBytes (f .rest)) q))
-  unfolding formulaBytes eval
-  group-head h f b e big = go (f .head) (shape facts g (f .head) (f .member)) (f .stands)
-    where
-      body :
-          (mark : ℕ) (xs : Formulas) → Span s (length s) p ((mark ∷ memberCount xs ∷ memberBytes xs) ++ memberBytes (f .rest)) q →
-          (p + 1 < length s) × (getD s (p + 1) 0 ≡ memberCount xs) × ((o : ℕ) × Span s (length s) (p + 2) (memberBytes xs) o × Span s (length s) o (memberBytes (f .rest)) q)
-      body mark xs v =
-          let w = first (first v .2) in
-          let i : p + 1 + 1 ≡ p + 2 = omega arith in
-          (w .0, w .1, split (memberBytes xs) (subst (λ (x : ℕ). Span s (length s) x (memberBytes xs ++ memberBytes (f .rest)) q) i (w .2)) λ o x y. (o, x, y))
-
-      go :
-          (m : Formula) → Shape facts g m → Span s (length s) p (formulaBytes m ++ memberBytes (f .rest)) q →
-          (xs : Formulas) × Members facts (other g) xs × ((case : ℕ → List Kleene) (j : ℕ) → eval three (case j) m ≡ evalGroup (other g) (case j) xs) ×
-          ((p + 1 < length s) × (getD s (p + 1) 0 ≡ memberCount xs) × ((o : ℕ) × Span s (length s) (p + 2) (memberBytes xs) o × Span s (length s) o (memberBytes (f .rest)) q))
-      go m (leaf l d) v = absurd (omega (arith, first v .1, literal-small facts l h d))
-      go m (all-group xs i d) v = (xs, rw i d, (λ case j. rw i), body 0x80 xs v)
-      go m (any-group xs i d) v = (xs, rw i d, (λ case j. rw i), body 0x81 xs v)
-
-none-left :
-    (s : List ℕ) (p q : ℕ) (g : Group) (rest : Formulas) → memberCount rest ≡ 0 → Span s (length s) p (memberBytes rest) q →
-    (p ≡ q) × ((c : List Kleene) → evalGroup g c rest ≡ unitValue g)
-unfolding memberBytes
-none-left s p q g none e v = (empty v, λ c. group-none g c)
-none-left s p q g (more m rest) e v = absurd (omega arith)
-
-module _ (s c : List ℕ) (g : Group) (n at some sure k p : ℕ) (held : Held s c g n at some sure k p) where
+module _ (s c : List ℕ) (g : Group) (whole : Bool) (some sure k p : ℕ) where
   -- a group that could not be met in full promises nothing of what does not stand there
-  nothing-stands :
-      ((facts : ℕ) (ms : Formulas) (q : ℕ) → facts ≤ 64 → Rest s c g facts ms q some sure k p → ⊥) → (whole : Bool) (r : Planes) → p ≤ r .next →
-      GroupPlanes s c g n at whole r
-  nothing-stands empty-handed whole r l =
-      record {
-        onward = omega (arith, held .onward);
-        is = λ facts ms q h m e v. absurd (empty-handed facts ms q h (held .is facts ms q h m e v));
-      }
+  pub left-nothing :
+      0 < k → ((facts : ℕ) (m : Formula) (q : ℕ) → Item s facts g p m q → ⊥) → (r : Planes) → Left s c g whole some sure k p r
+  unfolding Members memberBytes
+  left-nothing l nowhere r facts none q f m e v = absurd (omega arith)
+  left-nothing l nowhere r facts (more a ms) q f m e v = split (formulaBytes a) v λ n x y. absurd (nowhere facts a n (item f g a (m .0) x))
 
-  -- what is known of a turn, of whatever members stand there
-  turn :
-      (some′ sure′ o : ℕ) → p ≤ o →
-      ((facts : ℕ) (ms : Formulas) (q : ℕ) → facts ≤ 64 → Front s c g facts ms q some sure k p →
-      Rest s c g facts ms q (joinWords g some some′) (joinWords g sure sure′) (k - 1) o) → 0 < k →
-      Held s c g n at (joinWords g some some′) (joinWords g sure sure′) (k - 1) o
-  turn some′ sure′ o l goes k>0 =
-      record {
-        onward = omega (arith, held .onward);
-        is = λ facts ms q h m e v. goes facts ms q h (front s c g facts ms q some sure k p (held .is facts ms q h m e v) k>0);
-      }
-
-  -- the bytes end before a member
-  pub held-short : 0 < k → length s ≤ p → (whole : Bool) (r : Planes) → r .next ≡ p → GroupPlanes s c g n at whole r
-  held-short l h whole r e = nothing-stands (λ facts ms q m R. no-byte s p q facts g (front s c g facts ms q some sure k p R l) h) whole r (omega arith)
-
-  -- a literal is joined
-  pub held-literal :
-      0 < k → (b : ℕ) → b ≡ getD s p 0 → b < 128 → (r : declared.Literal) → LiteralPlanes c b r →
-      Held s c g n at (joinWords g some (r .some)) (joinWords g sure (r .sure)) (k - 1) (p + 1)
-  held-literal l b e small r x =
-      turn (r .some) (r .sure) (p + 1) (omega arith)
-      (λ facts ms q h f.
-      let (y, d, i, v) = literal-head s p q facts g f b e small in
-      advance s c g facts ms q some sure k p (r .some) (r .sure) (p + 1) f v
-      (λ case t j m. subst (λ (z : Formula). InLane j (r .some) (r .sure) (eval three (case j) z)) (sym (i .0)) (literal-value facts h c case t y d b (i .1) r x j m)))
-      l
-
-  -- a group's bytes are cut
-  pub held-cut : 0 < k → (b : ℕ) → b ≡ getD s p 0 → 128 ≤ b → length s - p < 2 → (whole : Bool) (r : Planes) → r .next ≡ p → GroupPlanes s c g n at whole r
-  held-cut l b e big h whole r x =
-      nothing-stands (λ facts ms q m R. let (y, d, i, v) = group-head s p q facts g m (front s c g facts ms q some sure k p R l) b e big in omega (arith, v .0)) whole r (omega arith)
-
-  -- a group of the other kind is joined
-  pub held-group :
-      0 < k → (b : ℕ) → b ≡ getD s p 0 → 128 ≤ b → (r : Planes) → GroupPlanes s c (other g) (getD s (p + 1) 0) (p + 2) true r →
-      Held s c g n at (joinWords g some (r .some)) (joinWords g sure (r .sure)) (k - 1) (r .next)
-  held-group l b e big r x =
-      turn (r .some) (r .sure) (r .next) (omega (arith, x .onward))
-      (λ facts ms q h f.
-      let (y, d, i, v) = group-head s p q facts g h f b e big in
-      let (o, a, z) = v .2 in
-      let (end, lanes) = x .is facts y o h d (sym (v .1)) a in
-      advance s c g facts ms q some sure k p (r .some) (r .sure) (r .next) f (subst (λ (u : ℕ). Span s (length s) u (memberBytes (f .rest)) q) (sym (end refl)) z)
-      (λ case t j m. subst (λ (u : Kleene). InLane j (r .some) (r .sure) u) (sym (i case j)) (lanes case t .lane j m)))
-      l
-
-  -- no member is left
-  pub held-ends : k ≡ 0 → (whole : Bool) (r : Planes) → r .some ≡ some → r .sure ≡ sure → r .next ≡ p → GroupPlanes s c g n at whole r
-  held-ends e whole r es eu en =
-      record {
-        onward = omega (arith, held .onward);
-        is =
-            λ facts ms q h m i v.
-            let R = held .is facts ms q h m i v in
-            let (z, a) = none-left s p q g (R .rest) (omega (arith, R .count)) (R .stands) in (
-              (λ w. en ∙ z),
-              λ case t. record {
-                lane =
-                    λ j l.
-                    let (x, y, b) = R .lanes case t j l in
-                    rw (es, eu) (subst (λ (u : Kleene). InLane j some sure u) (sym (join-unit g x) ∙ ap (joinValues g x) (sym (a (case j))) ∙ b) y);
-              },
-            );
-      }
+  -- none is left
+  pub left-none : k ≤ 0 → Left s c g whole some sure k p (record { some = some; next = p; sure = sure })
+  unfolding memberBytes
+  left-none l facts none q f m e v = ((λ w. empty v), λ case d j k x lane. rw (group-none (case j) g, join-unit g x) lane)
+  left-none l facts (more a ms) q f m e v = absurd (omega arith)
 
   -- the words decide it, and the position is not asked for
-  pub held-decided :
-      ((j : ℕ) → j < 64 → (x : Kleene) → InLane j some sure x → (y : Kleene) → joinValues g x y ≡ x) →
-      (r : Planes) → r .some ≡ some → r .sure ≡ sure → r .next ≡ p → GroupPlanes s c g n at false r
-  held-decided decides r es eu en =
-      record {
-        onward = omega (arith, held .onward);
-        is =
-            λ facts ms q h m i v.
-            let R = held .is facts ms q h m i v in (
-              (λ w. absurd (false≢true w)),
-              λ case t. record {
-                lane =
-                    λ j l.
-                    let (x, y, b) = R .lanes case t j l in
-                    rw (es, eu) (subst (λ (u : Kleene). InLane j some sure u) (sym (decides j l x y (evalGroup g (case j) (R .rest))) ∙ b) y);
-              },
-            );
-      }
+  pub left-decided : whole ≡ false → Decided g some sure → Left s c g whole some sure k p (record { some = some; next = p; sure = sure })
+  left-decided w h facts ms q f m e v = (
+    (λ i. absurd (false≢true (sym w ∙ i))),
+    λ case d j k x lane. rw (decides g some sure h j k x lane (evalGroup g (case j) ms)) lane,
+  )
 
--- the same under other names
-pub held-as :
-    (s c : List ℕ) (g : Group) (n at some sure k p some′ sure′ p′ : ℕ) → Held s c g n at some sure k p → some′ ≡ some → sure′ ≡ sure → p′ ≡ p →
-    Held s c g n at some′ sure′ k p′
-held-as s c g n at some sure k p some′ sure′ p′ h e f i = rw (e, f, i) h
+  -- a member is joined
+  module _ (l : 0 < k) (some′ sure′ o : ℕ) (i : p ≤ o) (met : Met s c g p true some′ sure′ o) where
+    left-more : (r : Planes) → Left s c g whole (joinWords g some some′) (joinWords g sure sure′) (k - 1) o r → Left s c g whole some sure k p r
+    unfolding Members memberBytes
+    left-more r h facts none q f m e v = absurd (omega arith)
+    left-more r h facts (more a ms) q f m e v =
+        split (formulaBytes a) v λ n x y.
+        let (w, z) = met facts a n (item f g a (m .0) x) in
+        let b : Span s (length s) o (memberBytes ms) q = rw (w refl) y in
+        let (u, t) = h facts ms q f (m .1) (omega arith) b in (
+          u,
+          λ case d j k x lane.
+              rw (group-more (case j) g a ms, ← join-assoc g x (eval three (case j) a) (evalGroup g (case j) ms))
+              (t case d j k _ (lane-join g j lane (z case d j k))),
+        )
 
--- ---- what decides a group
-
-all-decided : (some sure : ℕ) → some ≡ 0 → (j : ℕ) → j < 64 → (x : Kleene) → InLane j some sure x → (y : Kleene) → both x y ≡ x
-all-decided some sure e j l No h y = refl
-all-decided some sure e j l Unknown h y = absurd (omega (arith, h .is-some, ap (laneBit j) e, bit-zero j))
-all-decided some sure e j l Yes h y = absurd (omega (arith, h .is-some, ap (laneBit j) e, bit-zero j))
-
-any-decided : (some sure : ℕ) → sure ≡ ones → (j : ℕ) → j < 64 → (x : Kleene) → InLane j some sure x → (y : Kleene) → either x y ≡ x
-any-decided some sure e j l Yes h y = refl
-any-decided some sure e j l Unknown h y = absurd (omega (arith, h .is-sure, ap (laneBit j) e, bit-ones j l))
-any-decided some sure e j l No h y = absurd (omega (arith, h .is-sure, ap (laneBit j) e, bit-ones j l))
-
-pub held-no :
-    (s c : List ℕ) (n at some sure k p : ℕ) → Held s c conjunction n at some sure k p → some ≡ 0 → (whole : Bool) → whole ≡ false →
-    (r : Planes) → r .some ≡ some → r .sure ≡ sure → r .next ≡ p → GroupPlanes s c conjunction n at whole r
-held-no s c n at some sure k p held e whole w r es eu en =
-    rw w (held-decided s c conjunction n at some sure k p held (all-decided some sure e) r es eu en)
-
-pub held-yes :
-    (s c : List ℕ) (n at some sure k p : ℕ) → Held s c disjunction n at some sure k p → sure ≡ ones → (whole : Bool) → whole ≡ false →
-    (r : Planes) → r .some ≡ some → r .sure ≡ sure → r .next ≡ p → GroupPlanes s c disjunction n at whole r
-held-yes s c n at some sure k p held e whole w r es eu en =
-    rw w (held-decided s c disjunction n at some sure k p held (any-decided some sure e) r es eu en)
+    pub held-more :
+        (n at : ℕ) → Held s c g whole n at some sure k p → Held s c g whole n at (joinWords g some some′) (joinWords g sure sure′) (k - 1) o
+    held-more n at h = record { onward = omega (arith, h .onward); goes = λ r b t. h .goes r (omega arith) (left-more r t) }
 
 -- ---- a sound formula alternates
 
@@ -394,8 +286,7 @@ mutual
   unfolding Formed Member
 
   member-formed : (m : Formula) (g : Group) (facts left : ℕ) → Formed facts left (mark g) m → Member facts g m
-  member-formed (lit l) conjunction facts left h = h
-  member-formed (lit l) disjunction facts left h = h
+  member-formed (lit l) g facts left h = h
   member-formed (all ms) conjunction facts left h = h .1 refl
   member-formed (all ms) disjunction facts left h = members-formed ms conjunction facts (left - 1) (h .3)
   member-formed (any ms) conjunction facts left h = members-formed ms disjunction facts (left - 1) (h .3)
@@ -405,140 +296,43 @@ mutual
   members-formed none g facts left h = tt
   members-formed (more m ms) g facts left h = (member-formed m g facts left (h .0), members-formed ms g facts left (h .1))
 
--- ---- the group at p, from its mark on
-
--- the group whose mark stands at p: its value in each lane
-pub record OutermostPlanes (s c : List ℕ) (p : ℕ) (r : Planes) : Type 0 where
-  pub is :
-      (facts : ℕ) (g : Group) (ms : Formulas) (q : ℕ) → facts ≤ 64 → Members facts g ms →
-      Span s (length s) p (mark g ∷ memberCount ms ∷ memberBytes ms) q →
-      (case : ℕ → List Kleene) → Table c case → InLanes (r .some) (r .sure) (λ j. evalGroup g (case j) ms)
-
-mark-tells : (g h : Group) → mark g ≡ mark h → g ≡ h
-mark-tells conjunction conjunction e = refl
-mark-tells conjunction disjunction e = absurd (omega arith)
-mark-tells disjunction conjunction e = absurd (omega arith)
-mark-tells disjunction disjunction e = refl
-
-outermost : (s c : List ℕ) (p : ℕ) (g : Group) → ((h : Group) → getD s p 0 ≡ mark h → h ≡ g) → (r : Planes) → GroupPlanes s c g (getD s (p + 1) 0) (p + 2) false r → OutermostPlanes s c p r
-outermost s c p g tells r x =
-    record {
-      is =
-          λ facts h ms q l m v case t.
-          let a = first v in
-          let b = first (a .2) in
-          let i : p + 1 + 1 ≡ p + 2 = omega arith in
-          let e : h ≡ g = tells h (a .1) in
-          subst (λ (k : Group). Members facts k ms → InLanes (r .some) (r .sure) (λ j. evalGroup k (case j) ms)) (sym e)
-          (λ n. x .is facts ms q l n (sym (b .1)) (subst (λ (u : ℕ). Span s (length s) u (memberBytes ms) q) i (b .2)) .1 case t) m;
-    }
-
-pub outermost-all : (s c : List ℕ) (p : ℕ) → getD s p 0 ≡ 0x80 → (r : Planes) → GroupPlanes s c conjunction (getD s (p + 1) 0) (p + 2) false r → OutermostPlanes s c p r
-outermost-all s c p e r x = outermost s c p conjunction (λ h i. mark-tells h conjunction (sym i ∙ e)) r x
-
-pub outermost-any : (s c : List ℕ) (p : ℕ) → (getD s p 0 ≡ 0x80 → ⊥) → (r : Planes) → GroupPlanes s c disjunction (getD s (p + 1) 0) (p + 2) false r → OutermostPlanes s c p r
-outermost-any s c p e r x = outermost s c p disjunction tells r x
-  where
-    tells : (h : Group) → getD s p 0 ≡ mark h → h ≡ disjunction
-    tells conjunction i = absurd (e i)
-    tells disjunction i = refl
-
-pub empty-all : (b next : ℕ) (r : Planes) → b ≡ 0x80 → r .some ≡ ones → r .sure ≡ ones → r .next ≡ next → EmptyPlanes b next r
-empty-all b next r e s u n = record { after = n; all-true = λ h. rw (s, u) (record { lane = λ j l. all-yes l }); any-false = λ h. absurd (h e) }
-
-pub empty-any : (b next : ℕ) (r : Planes) → (b ≡ 0x80 → ⊥) → r .some ≡ 0 → r .sure ≡ 0 → r .next ≡ next → EmptyPlanes b next r
-empty-any b next r e s u n = record { after = n; all-true = λ h. absurd (e h); any-false = λ h. rw (s, u) (record { lane = λ j l. all-no }) }
-
-pub outermost-empty :
-    (s c : List ℕ) (p b next : ℕ) (r : Planes) → b ≡ getD s p 0 → getD s (p + 1) 0 ≡ 0 → EmptyPlanes b next r → OutermostPlanes s c p r
-unfolding eval
-outermost-empty s c p b next r e z x =
-    record {
-      is =
-          λ facts g ms q l m v case t.
-          let a = first v in
-          go case g ms (e ∙ a .1) (sym (first (a .2) .1) ∙ z);
-    }
-  where
-    go : (case : ℕ → List Kleene) (g : Group) (ms : Formulas) → b ≡ mark g → memberCount ms ≡ 0 → InLanes (r .some) (r .sure) (λ j. evalGroup g (case j) ms)
-    go case conjunction none k h = x .all-true k
-    go case disjunction none k h = x .any-false (λ i. omega arith)
-    go case g (more m ms) k h = absurd (omega arith)
-
 -- ---- the formula at p, its length field first
 
--- what stands there: the length field, and the bytes after it
-record Stated (s : List ℕ) (facts p : ℕ) (f : Formula) (q : ℕ) : Type 0 where
-  pub end : q ≡ p + 2 + (getD s p 0 * 256 + getD s (p + 1) 0)
-  pub stands : Span s (length s) (p + 2) (formulaBytes f) q
-  pub formed : Formed facts maxDepth 0 f
-  pub some : p + 2 < q
-  pub inside : q ≤ length s
+outer :
+    (s : List ℕ) (facts p : ℕ) (f : Formula) (q : ℕ) → facts ≤ 64 → Formed facts maxDepth 0 f → Span s (length s) p (formulaBytes f) q →
+    (g : Group) × Item s facts g p f q
+unfolding Formed Member
+outer s facts p (lit l) q h d v = (conjunction, item h conjunction (lit l) d v)
+outer s facts p (all ms) q h d v = (disjunction, item h disjunction (all ms) (members-formed ms conjunction facts (maxDepth - 1) (d .3)) v)
+outer s facts p (any ms) q h d v = (conjunction, item h conjunction (any ms) (members-formed ms disjunction facts (maxDepth - 1) (d .3)) v)
 
-formula-some : (f : Formula) → 1 ≤ length (formulaBytes f)
-unfolding formulaBytes
-formula-some (lit l) = omega arith
-formula-some (all ms) = omega arith
-formula-some (any ms) = omega arith
-
-stated : (s : List ℕ) (facts p : ℕ) (f : Formula) (q : ℕ) → FormulaAt s facts p f q → Stated s facts p f q
+stated :
+    (s : List ℕ) (facts p : ℕ) (f : Formula) (q : ℕ) → facts ≤ 64 → FormulaAt s facts p f q →
+    (g : Group) × (q ≡ p + 2 + (getD s p 0 * 256 + getD s (p + 1) 0)) × Item s facts g (p + 2) f q
 unfolding encodeFormula bytesOf
-stated s facts p f q at =
+stated s facts p f q h at =
     let n = length (formulaBytes f) in
-    let a = first (at .bytes) in
-    let b = first (a .2) in
+    let (_, a, w) = first (at .bytes) in
+    let (_, b, u) = first w in
     let i : p + 1 + 1 ≡ p + 2 = omega arith in
-    let v : Span s (length s) (p + 2) (formulaBytes f) q = subst (λ (x : ℕ). Span s (length s) x (formulaBytes f) q) i (b .2) in
-    let e = span-length v in
+    let v : Span s (length s) (p + 2) (formulaBytes f) q = rw i at u in
     let m : n ≤ 1024 = at .ok .short in
     let k : (n / 256) % 256 * 256 + n / 1 % 256 ≡ n = omega arith in
-    record {
-      end = e ∙ ap (λ (x : ℕ). p + 2 + x) (sym (rw (a .1, b .1) k));
-      stands = v;
-      formed = at .ok .formed;
-      some = omega (arith, formula-some f);
-      inside = span-end v (omega (arith, b .0));
-    }
+    let (g, o) = outer s facts (p + 2) f q h (at .ok .formed) v in
+    (g, rw (a, b, k) (span-length v), o)
 
-pub formula-short : (s c : List ℕ) (p : ℕ) (r : Planes) → length s < p + 3 → FormulaPlanes s c p r
-formula-short s c p r h = record { is = λ facts f q l at. let z = stated s facts p f q at in absurd (omega (arith, z .some, z .inside)) }
+module _ (s c : List ℕ) (p : ℕ) where
+  pub formula-nothing :
+      (r : Planes) → ((facts : ℕ) (g : Group) (m : Formula) (q : ℕ) → Item s facts g (p + 2) m q → ⊥) → FormulaPlanes s c p r
+  formula-nothing r nowhere = record { is = λ facts f q l at. let (g, e, i) = stated s facts p f q l at in absurd (nowhere facts g f q i) }
 
-pub formula-literal :
-    (s c : List ℕ) (p b : ℕ) → b ≡ getD s (p + 2) 0 → b < 128 → (x : declared.Literal) → LiteralPlanes c b x →
-    (r : Planes) → r .some ≡ x .some → r .sure ≡ x .sure → r .next ≡ p + 2 + (getD s p 0 * 256 + getD s (p + 1) 0) → FormulaPlanes s c p r
-unfolding formulaBytes Formed
-formula-literal s c p b e small x lp r es eu en =
-    record { is = λ facts f q l at. let z = stated s facts p f q at in (en ∙ sym (z .end), λ case t. record { lane = λ j m. rw (es, eu) (go facts l case t j m f q (z .stands) (z .formed)) }) }
-  where
-    go :
-        (facts : ℕ) → facts ≤ 64 → (case : ℕ → List Kleene) → Table c case → (j : ℕ) → j < 64 →
-        (f : Formula) (q : ℕ) → Span s (length s) (p + 2) (formulaBytes f) q → Formed facts maxDepth 0 f → InLane j (x .some) (x .sure) (eval three (case j) f)
-    go facts l case t j m (lit y) q v d = literal-value facts l c case t y d b (e ∙ first v .1) x lp j m
-    go facts l case t j m (all ms) q v d = absurd (omega (arith, first v .1))
-    go facts l case t j m (any ms) q v d = absurd (omega (arith, first v .1))
-
--- a group has a count
-pub formula-cut :
-    (s c : List ℕ) (p b : ℕ) (r : Planes) → b ≡ getD s (p + 2) 0 → 128 ≤ b → length s < p + 4 → FormulaPlanes s c p r
-unfolding formulaBytes Formed
-formula-cut s c p b r e big short =
-    record { is = λ facts f q l at. let z = stated s facts p f q at in absurd (go facts l f q (z .stands) (z .formed)) }
-  where
-    go : (facts : ℕ) → facts ≤ 64 → (f : Formula) (q : ℕ) → Span s (length s) (p + 2) (formulaBytes f) q → Formed facts maxDepth 0 f → ⊥
-    go facts l (lit y) q v d = omega (arith, first v .1, literal-small facts y l d)
-    go facts l (all ms) q v d = omega (arith, first (first v .2) .0)
-    go facts l (any ms) q v d = omega (arith, first (first v .2) .0)
-
-pub formula-group :
-    (s c : List ℕ) (p b : ℕ) → b ≡ getD s (p + 2) 0 → 128 ≤ b → (x : Planes) → OutermostPlanes s c (p + 2) x →
-    (r : Planes) → r .some ≡ x .some → r .sure ≡ x .sure → r .next ≡ p + 2 + (getD s p 0 * 256 + getD s (p + 1) 0) → FormulaPlanes s c p r
-unfolding formulaBytes Formed eval
-formula-group s c p b e big x o r es eu en =
-    record { is = λ facts f q l at. let z = stated s facts p f q at in (en ∙ sym (z .end), λ case t. record { lane = λ j m. rw (es, eu) (go facts l case t j m f q (z .stands) (z .formed)) }) }
-  where
-    go :
-        (facts : ℕ) → facts ≤ 64 → (case : ℕ → List Kleene) → Table c case → (j : ℕ) → j < 64 →
-        (f : Formula) (q : ℕ) → Span s (length s) (p + 2) (formulaBytes f) q → Formed facts maxDepth 0 f → InLane j (x .some) (x .sure) (eval three (case j) f)
-    go facts l case t j m (lit y) q v d = absurd (omega (arith, first v .1, literal-small facts y l d))
-    go facts l case t j m (all ms) q v d = o .is facts conjunction ms q l (members-formed ms conjunction facts (maxDepth - 1) (d .3)) v case t .lane j m
-    go facts l case t j m (any ms) q v d = o .is facts disjunction ms q l (members-formed ms disjunction facts (maxDepth - 1) (d .3)) v case t .lane j m
+  pub formula-met :
+      (some sure o next : ℕ) → ((g : Group) → Met s c g (p + 2) false some sure o) →
+      next ≡ p + 2 + (getD s p 0 * 256 + getD s (p + 1) 0) → FormulaPlanes s c p (record { some = some; next = next; sure = sure })
+  formula-met some sure o next met en =
+      record {
+        is =
+            λ facts f q l at.
+            let (g, e, i) = stated s facts p f q l at in
+            (en ∙ sym e, λ case t. record { lane = met g facts f q i .1 case t });
+      }

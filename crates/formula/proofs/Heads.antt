@@ -1,168 +1,80 @@
--- What a formula begins with: the cases of `head` under the tests that lead to them, and back. Assumes nothing.
-use mathlib.Core.Path.{_≡_, refl, sym, ap, _∙_}
-use mathlib.Core.Logic.{_⊎_, inl, inr}
-use mathlib.Core.Bool.{Bool, true, false, cond, _&&_, _||_, not}
+-- What a formula begins with: the cases of `head` under the tests that lead to them. Assumes nothing.
+use mathlib.Core.Path.{_≡_, refl, sym, _∙_}
+use mathlib.Core.Bool.{Bool, true, false, _&&_, _||_, not, and-false}
 use mathlib.Core.List.{List}
-use Prim.Native.Nat.{ℕ, _+_, _-_, _<_, _≤_}
+use Prim.Native.Nat.{ℕ, _+_, _<_, _≤_}
 use native.Mathlib.Omega.{arith}
 use lib.ListN.{getD}
-use lib.Dec.{eqb, ltb}
-use borrow.Author.Tests.{lt-ltb, le-ltb, le-leb, lt-leb, eq-eqb, ne-eqb, ltb-true, ltb-false, eqb-false}
-use Rattle.model.specs.Read.{reject, got, andThen, done, position, require, byte, _>>=_, _>>_}
-use Rattle.model.specs.FormulaBytes.{isLiteral, literalOf, Group, conjunction, disjunction, Head, leaf, group, groupHead, headFrom, head}
+use lib.Dec.{eqb}
+use borrow.Author.Tests.{lt-ltb, le-ltb, eq-eqb, ne-eqb, eqb-false}
+use Rattle.model.specs.Read.{reject, andThen, done, position, require, byte, _>>=_, _>>_}
+use Rattle.model.specs.FormulaBytes.{isLiteral, groupHead, headFrom, head}
 use Rattle.model.specs.declared.Refusal.{Refusal}
 use Rattle.formula.specs.Readings.{refusalAt}
 use Rattle.formula.specs.Heads.{Headed}
-use Rattle.formula.specs.declared.read.Head.the-variants.{Refused}
-use Rattle.formula.proofs.Readers.{then-got, require-got, byte-got}
-
-and-false : (t : Bool) → t && false ≡ false
-and-false true = refl
-and-false false = refl
-
--- bytes that are literals
-module _ (facts b : ℕ) where
-  pub literal-fact : b < facts → true ≡ isLiteral facts b
-  unfolding isLiteral
-  literal-fact h = simp (lt-ltb b facts h)
-
-  pub literal-low : facts ≤ b → b < 64 → false ≡ isLiteral facts b
-  unfolding isLiteral
-  literal-low h k = simp (le-ltb b facts h, lt-leb 64 b k)
-
-  pub literal-denial : facts ≤ b → 64 ≤ b → ltb (b - 64) facts ≡ isLiteral facts b
-  unfolding isLiteral
-  literal-denial h k = go (ltb (b - 64) facts) refl
-    where
-      go : (t : Bool) → ltb (b - 64) facts ≡ t → t ≡ isLiteral facts b
-      go true e = simp (le-ltb b facts h, le-leb 64 b k, lt-ltb b (64 + facts) (omega (arith, ltb-true (b - 64) facts e)))
-      go false e = simp (le-ltb b facts h, le-leb 64 b k, le-ltb b (64 + facts) (omega (arith, ltb-false (b - 64) facts e)))
+use Rattle.formula.specs.declared.read.Head.the-variants.{Refused, Literal, All, Any}
 
 -- the test of a mark
 abbrev marks : ℕ → ℕ → Bool
 marks b parent = (eqb b 0x80 || eqb b 0x81) && not (eqb b parent)
 
-module _ (b parent : ℕ) where
-  mark-repeated : b ≡ parent → marks b parent ≡ false
-  mark-repeated h = rw (eq-eqb b parent h) (and-false (eqb b 0x80 || eqb b 0x81))
-
-  mark-low : b < 0x80 → marks b parent ≡ false
-  mark-low h = simp (ne-eqb b 0x80 (λ q. omega arith), ne-eqb b 0x81 (λ q. omega arith))
-
-  mark-high : 0x81 < b → marks b parent ≡ false
-  mark-high h = simp (ne-eqb b 0x80 (λ q. omega arith), ne-eqb b 0x81 (λ q. omega arith))
-
-  mark-new : 0x80 ≤ b → b ≤ 0x81 → (b ≡ parent → ⊥) → marks b parent ≡ true
-  mark-new h k n = go (eqb b 0x80) refl
-    where
-      go : (t : Bool) → eqb b 0x80 ≡ t → marks b parent ≡ true
-      go true e = simp (e, ne-eqb b parent n)
-      go false e = let d = eqb-false b 0x80 e in simp (e, eq-eqb b 0x81 (omega arith), ne-eqb b parent n)
+mark-new : (b parent : ℕ) → 0x80 ≤ b → b ≤ 0x81 → (b ≡ parent → ⊥) → marks b parent ≡ true
+mark-new b parent h k n = go (eqb b 0x80) refl
+  where
+    go : (t : Bool) → eqb b 0x80 ≡ t → marks b parent ≡ true
+    go true e = simp (e, ne-eqb b parent)
+    go false e = let d = eqb-false b 0x80 e in simp (e, eq-eqb b 0x81 (omega arith), ne-eqb b parent)
 
 module _ (s : List ℕ) (end facts left parent p : ℕ) where
-  pub head-refuses : {n q : ℕ} {r : Refusal} → r ≡ refusalAt n q → reject n q ≡ head s end facts left parent p → Headed s end facts left parent p (Refused r)
-  head-refuses e h = record { is = rw e h; placed = tt }
+  refuses : {n q : ℕ} {r : Refusal} → r ≡ refusalAt n q → reject n q ≡ head s end facts left parent p → Headed s end facts left parent p (Refused r)
+  refuses e h = record { is = rw e h; placed = tt }
 
-  pub head-end : end ≤ p → reject 20 end ≡ head s end facts left parent p
+  pub head-end : {r : Refusal} → r ≡ refusalAt 20 end → end ≤ p → Headed s end facts left parent p (Refused r)
   unfolding head _>>=_ andThen position byte
-  head-end h = simp (le-ltb p end h)
+  head-end e h = refuses e (simp le-ltb)
 
-  module _ (h : p < end) where
-    pub head-literal : isLiteral facts (getD s p 0) ≡ true → got (leaf (literalOf (getD s p 0))) (p + 1) ≡ head s end facts left parent p
+  module _ (h : p < end) {t : Bool} (is : t ≡ isLiteral facts (getD s p 0)) where
+    pub head-literal : t ≡ true → Headed s end facts left parent p (Literal (getD s p 0))
     unfolding head _>>=_ andThen position byte headFrom done
-    head-literal l = simp (lt-ltb p end h, l)
+    head-literal l = record { is = simp (lt-ltb, ← is, l); placed = h }
 
-    module _ (l : isLiteral facts (getD s p 0) ≡ false) where
+    module _ (l : t ≡ false) where
       head-group : head s end facts left parent p ≡ groupHead s end facts left parent p (getD s p 0) (p + 1)
       unfolding head _>>=_ andThen position byte headFrom
-      head-group = simp (lt-ltb p end h, l)
+      head-group = simp (lt-ltb, ← is, l)
 
-      head-refused : marks (getD s p 0) parent ≡ false → reject 18 p ≡ head s end facts left parent p
-      unfolding groupHead _>>_ andThen require
-      head-refused m = rw (head-group, m)
+      module _ {r : Refusal} (e : r ≡ refusalAt 18 p) where
+        pub head-repeated : getD s p 0 ≡ parent → Headed s end facts left parent p (Refused r)
+        unfolding groupHead _>>_ andThen require
+        head-repeated b = refuses e (rw head-group (simp (eq-eqb (getD s p 0) parent, and-false)))
 
-      pub head-repeated : getD s p 0 ≡ parent → reject 18 p ≡ head s end facts left parent p
-      head-repeated b = head-refused (mark-repeated (getD s p 0) parent b)
+        pub head-unmarked : (0x80 ≤ getD s p 0 → getD s p 0 ≤ 0x81 → ⊥) → Headed s end facts left parent p (Refused r)
+        unfolding groupHead _>>_ andThen require
+        head-unmarked out =
+            let m = ne-eqb (getD s p 0) 0x80 (λ i. out (omega arith) (omega arith)) in
+            let n = ne-eqb (getD s p 0) 0x81 (λ i. out (omega arith) (omega arith)) in
+            refuses e (rw (head-group, m, n))
 
-      pub head-low : getD s p 0 < 0x80 → reject 18 p ≡ head s end facts left parent p
-      head-low b = head-refused (mark-low (getD s p 0) parent b)
-
-      pub head-high : 0x81 < getD s p 0 → reject 18 p ≡ head s end facts left parent p
-      head-high b = head-refused (mark-high (getD s p 0) parent b)
-
-      module _ (new : getD s p 0 ≡ parent → ⊥) (low : 0x80 ≤ getD s p 0) (high : getD s p 0 ≤ 0x81) where
+      module _ (low : 0x80 ≤ getD s p 0) (high : getD s p 0 ≤ 0x81) (new : getD s p 0 ≡ parent → ⊥) where
         m : marks (getD s p 0) parent ≡ true
         m = mark-new (getD s p 0) parent low high new
 
-        pub head-deep : left ≡ 0 → reject 19 p ≡ head s end facts left parent p
+        pub head-deep : {r : Refusal} → r ≡ refusalAt 19 p → left ≡ 0 → Headed s end facts left parent p (Refused r)
         unfolding groupHead _>>_ andThen require
-        head-deep d = rw head-group (simp (m, d))
+        head-deep e d = refuses e (rw (head-group, m, d))
 
-        pub head-cut : 0 < left → end ≤ p + 1 → reject 20 end ≡ head s end facts left parent p
+        pub head-cut : {r : Refusal} → r ≡ refusalAt 20 end → 0 < left → end ≤ p + 1 → Headed s end facts left parent p (Refused r)
         unfolding groupHead _>>_ _>>=_ andThen require byte
-        head-cut d e = rw head-group (simp (m, lt-ltb 0 left d, le-ltb (p + 1) end e))
+        head-cut e d k = refuses e (rw (head-group, m) (simp (lt-ltb, le-ltb)))
 
-        head-opens :
-            0 < left → p + 1 < end →
-            got (group (cond (eqb (getD s p 0) 0x80) conjunction disjunction) (getD s (p + 1) 0)) (p + 2) ≡ head s end facts left parent p
+        pub head-all : 0 < left → p + 1 < end → getD s p 0 ≡ 0x80 → Headed s end facts left parent p (All (getD s (p + 1) 0))
         unfolding groupHead _>>_ _>>=_ andThen require byte done
-        head-opens d e =
+        head-all d e b =
             let t : p + 2 ≡ p + 1 + 1 = omega arith in
-            rw (head-group, t) (simp (m, lt-ltb 0 left d, lt-ltb (p + 1) end e))
+            record { is = rw (head-group, t, m, b) (simp lt-ltb); placed = (e, d, λ i. new (b ∙ sym i)) }
 
-        pub head-all :
-            0 < left → p + 1 < end → getD s p 0 ≡ 0x80 →
-            got (group conjunction (getD s (p + 1) 0)) (p + 2) ≡ head s end facts left parent p
-        head-all d e b = rw (eq-eqb (getD s p 0) 0x80 b) at (head-opens d e)
-
-        pub head-any :
-            0 < left → p + 1 < end → (getD s p 0 ≡ 0x80 → ⊥) →
-            got (group disjunction (getD s (p + 1) 0)) (p + 2) ≡ head s end facts left parent p
-        head-any d e b = rw (ne-eqb (getD s p 0) 0x80 b) at (head-opens d e)
-
--- back: what is known where a head was read
-module _ (s : List ℕ) (end facts left parent p : ℕ) where
-  pub record Leaf (h : Head) (q : ℕ) : Type 0 where
-    pub inside : p < end
-    pub is : h ≡ leaf (literalOf (getD s p 0))
-    pub next : q ≡ p + 1
-
-  pub record Opens (h : Head) (q : ℕ) : Type 0 where
-    pub kind : Group
-    pub inside : p + 1 < end
-    pub nests : 0 < left
-    pub is : h ≡ group kind (getD s (p + 1) 0)
-    pub next : q ≡ p + 2
-
-  group-got : (h : Head) (q : ℕ) → groupHead s end facts left parent p (getD s p 0) (p + 1) ≡ got h q → Opens h q
-  unfolding groupHead _>>_ _>>=_ done
-  group-got h q e =
-      let a = then-got (require (marks (getD s p 0) parent) 18 p (p + 1)) _ h q e in
-      let a′ = require-got _ _ _ _ _ _ (a .first) in
-      let b = then-got (require (ltb 0 left) 19 p (a .at)) _ h q (a .rest) in
-      let b′ = require-got _ _ _ _ _ _ (b .first) in
-      let c = then-got (byte s end 20 (b .at)) _ h q (b .rest) in
-      let c′ = byte-got _ _ _ _ _ _ (c .first) in
-      let at : b .at ≡ p + 1 = omega arith in
-      let m : c .value ≡ getD s (p + 1) 0 = c′ .1 ∙ ap (λ (x : ℕ). getD s x 0) at in
-      let z : c .at ≡ q = cc in
-      record {
-        kind = cond (eqb (getD s p 0) 0x80) conjunction disjunction;
-        inside = omega arith;
-        nests = ltb-true 0 left (b′ .0);
-        is = cc;
-        next = omega (arith, c′);
-      }
-
-  pub head-got : (h : Head) (q : ℕ) → head s end facts left parent p ≡ got h q → Leaf h q ⊎ Opens h q
-  unfolding head _>>=_ andThen position
-  head-got h q e =
-      let a = then-got (byte s end 20 p) _ h q e in
-      let a′ = byte-got _ _ _ _ _ _ (a .first) in
-      go (isLiteral facts (getD s p 0)) refl (a′ .0)
-    where
-      go : (t : Bool) → isLiteral facts (getD s p 0) ≡ t → p < end → Leaf h q ⊎ Opens h q
-      go true l i =
-          let d = head-literal s end facts left parent p i l in
-          inl (record { inside = i; is = cc; next = cc })
-      go false l i = inr (group-got h q (sym (head-group s end facts left parent p i l) ∙ e))
+        pub head-any : 0 < left → p + 1 < end → getD s p 0 ≡ 0x81 → Headed s end facts left parent p (Any (getD s (p + 1) 0))
+        unfolding groupHead _>>_ _>>=_ andThen require byte done
+        head-any d e b =
+            let t : p + 2 ≡ p + 1 + 1 = omega arith in
+            record { is = rw (head-group, t, m, b) (simp lt-ltb); placed = (e, d, λ i. new (b ∙ sym i)) }

@@ -2,5 +2,4 @@
 pub mod Readers
 pub mod Heads
 pub mod Items
-pub mod Bounds
 pub mod Lengths

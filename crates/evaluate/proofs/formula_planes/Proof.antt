@@ -2,44 +2,47 @@
 use borrow.Author.Needs.{needs}
 use Rattle.evaluate.proofs.formula_planes.Statement.{statement}
 use Rattle.evaluate.proofs.formula_planes.Tie as tie
-use mathlib.Core.Path.{refl}
 use native.Mathlib.Omega.{arith}
-use Rattle.evaluate.proofs.Evaluating.{formula-short, formula-literal, formula-cut, formula-group, outermost-empty, outermost-all, outermost-any}
+use Rattle.model.specs.FormulaBytes.{conjunction, disjunction}
+use Rattle.evaluate.proofs.Evaluating.{other, item-here, item-counted, literal-met, group-met, empty-met, formula-nothing, formula-met, tells-all, tells-any}
 
 returns : tie.Need-returns
-returns c = formula-short _ _ _ _ (omega arith)
+returns c = formula-nothing _ _ _ _ (λ facts g m q i. omega (arith, item-here i))
 
 returns-2 : tie.Need-returns-2
-returns-2 c = formula-short _ _ _ _ (omega arith)
+returns-2 c = formula-nothing _ _ _ _ (λ facts g m q i. omega (arith, item-here i))
 
 returns-3 : tie.Need-returns-3
-returns-3 c = let w = c .before .before .before in
-    let u = w .before .before .wide .ensures .0 in
-    let v = w .wide2 .ensures .0 in
-    formula-literal _ _ _ _ refl (c .before .if3 .taken) _ (c .literal-planes .ensures) _ refl refl (cc)
+returns-3 c =
+    let w = c .before .before .before in
+    formula-met _ _ _ _ _ _ _ (λ g. literal-met _ _ g _ _ (c .before .if3 .taken) _ (c .literal-planes .ensures))
+    (rw (w .before .before .wide .ensures .0, w .wide2 .ensures .0))
 
 returns-4 : tie.Need-returns-4
-returns-4 c = formula-cut _ _ _ _ _ refl (c .before .before .if3 .left) (omega arith)
+returns-4 c = formula-nothing _ _ _ _ (λ facts g m q i. omega (arith, item-counted (c .before .before .if3 .left) i))
 
 returns-5 : tie.Need-returns-5
-returns-5 c = let d = c .before .before .before .before in
-    let u = d .before .before .before .before .wide .ensures .0 in
-    let v = d .before .before .wide2 .ensures .0 in
-    let e = c .empty-planes .ensures in
-    let n = e .after in
-    formula-group _ _ _ _ refl (d .if3 .left) _ (outermost-empty _ _ _ _ _ _ refl (c .before .if5 .taken) e) _ refl refl (cc)
+returns-5 c =
+    let d = c .before .before .before .before in
+    let w = d .before .before in
+    formula-met _ _ _ _ _ 0 _ (λ g. empty-met _ _ g _ _ _ _ (d .if3 .left) (c .before .if5 .taken) (c .empty-planes .ensures))
+    (rw (c .empty-planes .ensures .after, w .before .before .wide .ensures .0, w .wide2 .ensures .0))
 
 returns-6 : tie.Need-returns-6
-returns-6 c = let d = c .before .before .before .before .before in
-    let u = d .before .before .before .before .wide .ensures .0 in
-    let v = d .before .before .wide2 .ensures .0 in
-    formula-group _ _ _ _ refl (d .if3 .left) _ (outermost-all _ _ _ (c .before .if6 .taken) _ (c .all-planes .ensures)) _ refl refl (cc)
+returns-6 c =
+    let d = c .before .before .before .before .before in
+    let w = d .before .before in
+    formula-met _ _ _ _ _ _ _
+    (λ g. group-met _ _ g _ _ conjunction (tells-all (c .before .if6 .taken) (other g)) (d .if3 .left) _ (c .all-planes .ensures))
+    (rw (w .before .before .wide .ensures .0, w .wide2 .ensures .0))
 
 returns-7 : tie.Need-returns-7
-returns-7 c = let d = c .before .before .before .before .before in
-    let u = d .before .before .before .before .wide .ensures .0 in
-    let v = d .before .before .wide2 .ensures .0 in
-    formula-group _ _ _ _ refl (d .if3 .left) _ (outermost-any _ _ _ (c .before .if6 .left) _ (c .any-planes .ensures)) _ refl refl (cc)
+returns-7 c =
+    let d = c .before .before .before .before .before in
+    let w = d .before .before in
+    formula-met _ _ _ _ _ _ _
+    (λ g. group-met _ _ g _ _ disjunction (tells-any (c .before .if6 .left) (other g)) (d .if3 .left) _ (c .any-planes .ensures))
+    (rw (w .before .before .wide .ensures .0, w .wide2 .ensures .0))
 
 pub formula-planes-spec : {M : Type 1} → statement M
 formula-planes-spec =

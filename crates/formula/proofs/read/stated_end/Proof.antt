@@ -15,13 +15,13 @@ returns-3 : tie.Need-returns-3
 returns-3 c = stated-refuses _ _ (c .refusal3 .ensures) (stated-zero _ _ (omega arith) _ (c .before .before .read-number .ensures .0) (omega arith))
 
 returns-4 : tie.Need-returns-4
-returns-4 c = stated-refuses _ _ (c .refusal4 .ensures) (stated-long _ _ (omega arith) _ (c .before .before .before .read-number .ensures .0) (omega arith) (omega arith))
+returns-4 c = stated-refuses _ _ (c .refusal4 .ensures) (stated-long _ _ (omega arith) _ (c .before .before .before .read-number .ensures .0) (omega arith))
 
 returns-5 : tie.Need-returns-5
 returns-5 c = stated-refuses _ _ (c .refusal5 .ensures) (stated-short _ _ (omega arith) _ (c .before .before .before .before .read-number .ensures .0) (omega arith) (omega arith) (omega arith))
 
 returns-6 : tie.Need-returns-6
-returns-6 c = record { is = stated-whole _ _ (omega arith) _ (c .before .before .before .read-number .ensures .0) (omega arith) (omega arith) _ (omega arith) (omega arith); within = (omega arith, omega arith) }
+returns-6 c = record { is = stated-whole _ _ (omega arith) _ (c .before .before .before .read-number .ensures .0) (omega arith) (omega arith) (omega arith); within = (omega arith, omega arith) }
 
 pub stated-end-spec : {M : Type 1} → statement M
 stated-end-spec =
