@@ -1,15 +1,12 @@
 -- `list_line` meets its contract. Assumes nothing.
+use borrow.Author.Needs.{needs}
 use Rattle.text.specs.Written.{filled, shown}
 use Rattle.text.proofs.Puts.{line-put}
-use borrow.Author.Needs.{needs}
 use Rattle.text.proofs.line.list_line.Statement.{statement}
 use Rattle.text.proofs.line.list_line.Tie as tie
 
-returns : tie.Need-returns
-unfolding filled shown
-returns c = search (line-put, needs)
-
 pub list-line-spec : {M : Type 1} → statement M
+unfolding filled shown
 list-line-spec =
     tie.close
     (tie.spec
@@ -19,4 +16,4 @@ list-line-spec =
     (λ c. search needs)
     (λ c κs. search needs)
     (λ c. search needs)
-    returns)
+    (λ c. search (line-put, needs)))
