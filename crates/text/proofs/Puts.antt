@@ -8,7 +8,7 @@ use native.Mathlib.Nat.{add-zero, pow-suc}
 use native.Mathlib.Numerals.{add-one}
 use lib.Dec.{eqb}
 use lib.ListN.{length, getD, set, take, drop, length-append, length-set}
-use lib.Seq.{sets, take-suc, take-length, drop-cons}
+use lib.Seq.{sets, take-suc, drop-cons}
 use borrow.Author.Tests.{lt-ltb, le-ltb, ne-eqb}
 use Rattle.model.specs.Action.{tabulate}
 use Rattle.model.specs.Case.{bit}

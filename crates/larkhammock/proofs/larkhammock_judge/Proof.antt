@@ -1,22 +1,10 @@
 -- `larkhammock_judge` meets its contract. Assumes nothing.
+use borrow.Author.Needs.{needs}
 use Rattle.model.specs.Answers.{judgeAnswer}
 use Rattle.larkhammock.specs.Words.{judgeWords}
 use Rattle.larkhammock.proofs.Rows.{laid-out}
-use borrow.Author.Needs.{needs}
 use Rattle.larkhammock.proofs.larkhammock_judge.Statement.{statement}
 use Rattle.larkhammock.proofs.larkhammock_judge.Tie as tie
-
-returns : tie.Need-returns
-returns c = laid-out judgeAnswer judgeWords _ _ _ _ (c .refused .ensures) (c .before .before .r .given .1) (c .before .before .before .before .judge .ensures .0)
-
-returns-2 : tie.Need-returns-2
-returns-2 c = laid-out judgeAnswer judgeWords _ _ _ _ (c .row .ensures) (c .before .before .lines .given .1) (c .before .before .before .before .judge .ensures .0)
-
-returns-3 : tie.Need-returns-3
-returns-3 c = laid-out judgeAnswer judgeWords _ _ _ _ (c .wrong .ensures) (c .before .before .state .given .1) (c .before .before .before .before .judge .ensures .0)
-
-returns-4 : tie.Need-returns-4
-returns-4 c = laid-out judgeAnswer judgeWords _ _ _ _ (c .row2 .ensures) (c .before .before .visits .given .1) (c .before .before .before .before .judge .ensures .0)
 
 pub larkhammock-judge-spec : {M : Type 1} → statement M
 larkhammock-judge-spec =
@@ -31,7 +19,7 @@ larkhammock-judge-spec =
     (λ c κs. search needs)
     (λ c. search needs)
     (λ c κs. search needs)
-    returns
-    returns-2
-    returns-3
-    returns-4)
+    (λ c. search (laid-out judgeAnswer judgeWords, needs))
+    (λ c. search (laid-out judgeAnswer judgeWords, needs))
+    (λ c. search (laid-out judgeAnswer judgeWords, needs))
+    (λ c. search (laid-out judgeAnswer judgeWords, needs)))
