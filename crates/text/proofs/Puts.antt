@@ -148,8 +148,8 @@ wrong-put F n s v o (Blocked t) e x y z = rw e (x then y then z)
 
 -- a line of a list, from what was read
 pub line-put :
-    (F : Limits) (n : ℕ) (list : List ℕ) (i : ℕ) {l : lines.Line} {a b c d : List ℕ} {p q r : ℕ} → Reads list i (F .line) l →
-    Put a 0 (kindText (l .kind) ++ (32 ∷ [])) p b → Put b p (marks (F .width) n (l .k) (l .value)) q c → Put c q (10 ∷ []) r d →
-    Put a 0 (lineText F n (lineNumber (F .line) list i)) r d
+    (F : Limits) (n : ℕ) (list : List ℕ) (i : ℕ) {l : lines.Line} {a b c : List ℕ} {p q : ℕ} → Reads list i (F .line) l →
+    Put a 0 (kindText (l .kind) ++ (32 ∷ [])) p b → Put b p (marks (F .width) n (l .k) (l .value)) q c → q < length c →
+    Put a 0 (lineText F n (lineNumber (F .line) list i)) (q + 1) (set c q 10)
 unfolding lineText sentence
-line-put F n list i {l} e x y z = put-as (append-assoc (kindText (l .kind)) (32 ∷ []) _ ∙ ap (lineText F n) (e .is)) (x then y then z)
+line-put F n list i {l} e x y h = put-as (append-assoc (kindText (l .kind)) (32 ∷ []) _ ∙ ap (lineText F n) (e .is)) (x then y then byte h)

@@ -8,10 +8,4 @@ use Rattle.text.proofs.line.too_long.Tie as tie
 
 pub too-long-spec : {M : Type 1} → statement M
 unfolding filled shown ascii sentence
-too-long-spec =
-    tie.close
-    (tie.spec
-    (λ c. search needs)
-    (λ c κs. search needs)
-    (λ c. search needs)
-    (λ c. search needs))
+too-long-spec = tie.close (tie.spec (λ c. search needs) (λ c κs. search needs) (λ c. search needs) (λ c. search needs))
