@@ -8,7 +8,7 @@ use native.Mathlib.Nat.{add-zero, pow-suc}
 use native.Mathlib.Numerals.{add-one}
 use lib.Dec.{eqb}
 use lib.ListN.{length, getD, set, take, drop, length-append, length-set}
-use lib.Seq.{sets, take-suc, take-length, drop-cons}
+use lib.Seq.{sets, take-suc, drop-cons}
 use borrow.Author.Tests.{lt-ltb, le-ltb, ne-eqb}
 use Rattle.model.specs.Action.{tabulate}
 use Rattle.model.specs.Case.{bit}
@@ -16,10 +16,8 @@ use Rattle.model.specs.Text.{ascii}
 use Rattle.model.specs.declared.Limits.{Limits}
 use Rattle.model.specs.DeskText.{decimal, marks, wrongLine, kindText, lineText, sentence}
 use Rattle.model.specs.Answers.{outcome}
-use Rattle.model.specs.declared.Stop.{Stop}
 use Rattle.model.specs.declared.Outcome.{Outcome}
 use Rattle.model.specs.declared.Outcome.the-variants.{Reached, Missed, Blocked}
-use Rattle.model.proofs.Laws.Tabulate.{length-tabulate}
 use Rattle.lines.specs.declared.form.Line as lines
 use Rattle.lines.specs.Lines.{Reads, lineNumber}
 use Rattle.lines.proofs.Stores.{sets-append}
@@ -107,10 +105,6 @@ tabulate-last zero f = refl
 tabulate-last (suc n) f = ap (λ (t : List ℕ). f zero ∷ t) (tabulate-last n (λ i. f (suc i)))
 
 module _ (w k v : ℕ) where
-  pub marks-long : (n : ℕ) → length (marks w n k v) ≡ n
-  unfolding marks
-  marks-long n = length-tabulate n _
-
   -- the marks of the facts below i + 1
   pub marks-more :
       (i x : ℕ) {l m : List ℕ} {at p : ℕ} → x ≡ mark w k v i → Put l at (marks w i k v) p m → p < length m →
@@ -138,26 +132,24 @@ pub kind-carries : (d : ℕ) → (d ≡ 0 → ⊥) → kindText d ≡ ascii "car
 kind-carries zero e = absurd (e refl)
 kind-carries (suc d) e = refl
 
--- the line of a wrong plan, by how its run ended
-module _ (F : Limits) (n s v : ℕ) {o : Outcome} {a b c d : List ℕ} {p q r : ℕ} (x : Put a 0 (ascii "wrong ") p b) (y : Put b p (marks (F .width) n n s) q c) where
-  pub wrong-reached : o ≡ Reached → Put c q (filled (ascii " at end visited A\n") v 0) r d → Put a 0 (wrongLine F n s (outcome o) v) r d
-  unfolding ascii filled shown wrongLine sentence
-  wrong-reached e z = rw e (x then y then z)
+-- what follows a wrong plan's marks, by how its run ended
+abbrev ended : Outcome → ℕ → List ℕ
+ended Reached v = filled (ascii " at end visited A\n") v 0
+ended Missed v = filled (ascii " at end visited A\n") v 0
+ended (Blocked t) v = filled (ascii " at step A visited B\n") (t .step) v
 
-  pub wrong-missed : o ≡ Missed → Put c q (filled (ascii " at end visited A\n") v 0) r d → Put a 0 (wrongLine F n s (outcome o) v) r d
-  unfolding ascii filled shown wrongLine sentence
-  wrong-missed e z = rw e (x then y then z)
-
-  pub wrong-blocked :
-      (t : Stop) → o ≡ Blocked t → Put c q (filled (ascii " at step A visited B\n") (t .step) v) r d →
-      Put a 0 (wrongLine F n s (outcome o) v) r d
-  unfolding ascii filled shown wrongLine sentence
-  wrong-blocked t e z = rw e (x then y then z)
+pub wrong-put :
+    (F : Limits) (n s v : ℕ) (o o′ : Outcome) {a b c d : List ℕ} {p q r : ℕ} → o ≡ o′ → Put a 0 (ascii "wrong ") p b →
+    Put b p (marks (F .width) n n s) q c → Put c q (ended o′ v) r d → Put a 0 (wrongLine F n s (outcome o) v) r d
+unfolding ascii filled shown wrongLine sentence
+wrong-put F n s v o Reached e x y z = rw e (x then y then z)
+wrong-put F n s v o Missed e x y z = rw e (x then y then z)
+wrong-put F n s v o (Blocked t) e x y z = rw e (x then y then z)
 
 -- a line of a list, from what was read
 pub line-put :
-    (F : Limits) (n : ℕ) (list : List ℕ) (i : ℕ) {l : lines.Line} {a b c d : List ℕ} {p q r : ℕ} → Reads list i (F .line) l →
-    Put a 0 (kindText (l .kind) ++ (32 ∷ [])) p b → Put b p (marks (F .width) n (l .k) (l .value)) q c → Put c q (10 ∷ []) r d →
-    Put a 0 (lineText F n (lineNumber (F .line) list i)) r d
+    (F : Limits) (n : ℕ) (list : List ℕ) (i : ℕ) {l : lines.Line} {a b c : List ℕ} {p q : ℕ} → Reads list i (F .line) l →
+    Put a 0 (kindText (l .kind) ++ (32 ∷ [])) p b → Put b p (marks (F .width) n (l .k) (l .value)) q c → q < length c →
+    Put a 0 (lineText F n (lineNumber (F .line) list i)) (q + 1) (set c q 10)
 unfolding lineText sentence
-line-put F n list i {l} e x y z = put-as (append-assoc (kindText (l .kind)) (32 ∷ []) _ ∙ ap (lineText F n) (e .is)) (x then y then z)
+line-put F n list i {l} e x y h = put-as (append-assoc (kindText (l .kind)) (32 ∷ []) _ ∙ ap (lineText F n) (e .is)) (x then y then byte h)

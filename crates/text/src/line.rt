@@ -89,7 +89,8 @@ pub fn list_line(limits: Limits, facts: u8, list: &[u8], line: usize, out: &mut 
     let l = read_line(list, line, limits.line);
     let p = put_kind(out, l.kind);
     let q = put_marks(out, p, limits, facts, l.k, l.value);
-    put_form(out, q, b"\n", 0, 0)
+    out[q] = b'\n';
+    q + 1
 }
 
 // The line in place of a list that is too long.

@@ -14,11 +14,11 @@ fn write_decimal(out: &mut [u8], at: usize, n: u64) -> usize
     ensures { λ r. ⌜ Put (now (out .entry)) at (decimal n) r (now (out .exit)) ⌝ }
 {
     if n < 10 {
-        out[at] = 48 + n as u8;
+        out[at] = b'0' + n as u8;
         return at + 1;
     }
     let p = write_decimal(out, at, n / 10);
-    out[p] = 48 + (n % 10) as u8;
+    out[p] = b'0' + (n % 10) as u8;
     p + 1
 }
 
@@ -59,7 +59,7 @@ fn mark(limits: Limits, i: u8, k: u8, value: u64) -> u8
     if k <= i {
         return b'?';
     }
-    48 + (value / span(wide(limits.width), wide(i) + 1) % 2) as u8
+    b'0' + (value / span(wide(limits.width), wide(i) + 1) % 2) as u8
 }
 
 // One mark per fact.

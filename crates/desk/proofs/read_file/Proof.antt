@@ -41,24 +41,6 @@ abbrev μ-loop : tie.MeasureT-loop
 more : (c : tie.Else2 Inv-loop μ-loop) → Came (length (c .before .before .before .before .before .before .before .loop .buf) - c .before .before .before .before .before .before .before .loop .done) (toZ w64 (ofZ w64 (c .before .before .before .before .read .result)))
 more c = let h = back _ (c .before .before .before .before .read .result) (record { sfits = c .before .before .before .before .read .ok }) (c .before .before .before .before .read .ensures) (c .before .if1 .left) (c .if2 .left) in record { sign = h .sign; some = h .some; within = omega arith }
 
-returns-2 : tie.Need-returns-2 Inv-loop μ-loop
-returns-2 c = (search needs, sym (length-take-le _ _ (search needs)))
-
-cast-done : tie.Need-cast-done Inv-loop μ-loop
-cast-done c = (more c .sign, omega (arith, more c .within))
-
-add-done : tie.Need-add-done Inv-loop μ-loop
-add-done c = omega (arith, more c .within)
-
-loop-less : tie.Need-loop-less Inv-loop μ-loop
-loop-less c = omega (arith, more c .some)
-
-loop-again : tie.Need-loop-again Inv-loop μ-loop
-loop-again c = (omega (arith, more c .within), search needs)
-
-returns-3 : tie.Need-returns-3 Inv-loop μ-loop
-returns-3 c = (search needs, sym (length-take-le _ _ (search needs)))
-
 pub read-file-spec : {M : Type 1} → statement M
 read-file-spec =
     tie.close
@@ -73,10 +55,10 @@ read-file-spec =
     (λ c. search needs)
     (λ c. search needs)
     (λ c. search needs)
-    returns-2
-    cast-done
-    add-done
-    loop-less
-    loop-again
+    (λ c. (search needs, sym (length-take-le _ _ (search needs))))
+    (λ c. (more c .sign, omega (arith, more c .within)))
+    (λ c. omega (arith, more c .within))
+    (λ c. omega (arith, more c .some))
+    (λ c. (omega (arith, more c .within), search needs))
     (λ c. search needs)
-    returns-3)
+    (λ c. (search needs, sym (length-take-le _ _ (search needs)))))

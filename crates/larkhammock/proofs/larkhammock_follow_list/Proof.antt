@@ -1,8 +1,8 @@
 -- `larkhammock_follow_list` meets its contract. Assumes nothing.
+use borrow.Author.Needs.{needs}
 use Rattle.model.specs.Answers.{followAnswer}
 use Rattle.larkhammock.specs.Words.{countWords}
 use Rattle.larkhammock.proofs.Rows.{laid-out}
-use borrow.Author.Needs.{needs}
 use Rattle.larkhammock.proofs.larkhammock_follow_list.Statement.{statement}
 use Rattle.larkhammock.proofs.larkhammock_follow_list.Tie as tie
 
@@ -15,5 +15,5 @@ larkhammock-follow-list-spec =
     (λ c κs. search needs)
     (λ c. search needs)
     (λ c κs. search needs)
-    (λ c. laid-out followAnswer countWords _ _ _ _ (c .refused .ensures) (c .before .before .r .given .1) (c .before .before .before .before .follow-list .ensures .0))
-    (λ c. laid-out followAnswer countWords _ _ _ _ (c .row .ensures) (c .before .before .lines .given .1) (c .before .before .before .before .follow-list .ensures .0)))
+    (λ c. search (laid-out followAnswer countWords, needs))
+    (λ c. search (laid-out followAnswer countWords, needs)))

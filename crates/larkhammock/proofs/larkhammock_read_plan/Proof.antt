@@ -1,8 +1,8 @@
 -- `larkhammock_read_plan` meets its contract. Assumes nothing.
+use borrow.Author.Needs.{needs}
 use Rattle.model.specs.Answers.{planAnswer}
 use Rattle.larkhammock.specs.Words.{countWords}
 use Rattle.larkhammock.proofs.Rows.{laid-out}
-use borrow.Author.Needs.{needs}
 use Rattle.larkhammock.proofs.larkhammock_read_plan.Statement.{statement}
 use Rattle.larkhammock.proofs.larkhammock_read_plan.Tie as tie
 
@@ -15,5 +15,5 @@ larkhammock-read-plan-spec =
     (λ c κs. search needs)
     (λ c. search needs)
     (λ c κs. search needs)
-    (λ c. laid-out planAnswer countWords _ _ _ _ (c .refused .ensures) (c .before .before .r .given .1) (c .before .before .before .before .read-plan .ensures .0))
-    (λ c. laid-out planAnswer countWords _ _ _ _ (c .row .ensures) (c .before .before .steps .given .1) (c .before .before .before .before .read-plan .ensures .0)))
+    (λ c. search (laid-out planAnswer countWords, needs))
+    (λ c. search (laid-out planAnswer countWords, needs)))

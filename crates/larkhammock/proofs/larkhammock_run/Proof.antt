@@ -1,10 +1,8 @@
 -- `larkhammock_run` meets its contract. Assumes nothing.
-use mathlib.Core.Path.{_∙_, ap}
+use borrow.Author.Needs.{needs}
 use Rattle.model.specs.Answers.{runAnswer}
-use Rattle.model.specs.declared.RunAnswer.the-variants.{Ended}
 use Rattle.larkhammock.specs.Words.{runWords}
 use Rattle.larkhammock.proofs.Rows.{laid-out}
-use borrow.Author.Needs.{needs}
 use Rattle.larkhammock.proofs.larkhammock_run.Statement.{statement}
 use Rattle.larkhammock.proofs.larkhammock_run.Tie as tie
 
@@ -22,7 +20,7 @@ larkhammock-run-spec =
     (λ c κs. search needs)
     (λ c. search needs)
     (λ c κs. search needs)
-    (λ c. laid-out runAnswer runWords _ _ _ _ (c .refused .ensures) (c .before .before .r .given .1) (c .before .before .before .before .run .ensures .0))
-    (λ c. laid-out runAnswer runWords _ _ _ _ (c .row .ensures) (c .before .before .before .before .outcome .given .1 ∙ ap Ended (c .before .enum-told .given .1)) (c .before .before .before .before .before .before .run .ensures .0))
-    (λ c. laid-out runAnswer runWords _ _ _ _ (c .row2 .ensures) (c .before .before .before .before .outcome .given .1 ∙ ap Ended (c .before .enum-told2 .given .1)) (c .before .before .before .before .before .before .run .ensures .0))
-    (λ c. laid-out runAnswer runWords _ _ _ _ (c .row3 .ensures) (c .before .before .before .before .before .outcome .given .1 ∙ ap Ended (c .before .before .outcome2 .given .1)) (c .before .before .before .before .before .before .before .run .ensures .0)))
+    (λ c. search (laid-out runAnswer runWords, needs))
+    (λ c. rw (← c .before .before .before .before .before .before .run .ensures .0, c .before .before .before .before .outcome .given .1, c .before .enum-told .given .1) (c .row .ensures))
+    (λ c. rw (← c .before .before .before .before .before .before .run .ensures .0, c .before .before .before .before .outcome .given .1, c .before .enum-told2 .given .1) (c .row2 .ensures))
+    (λ c. rw (← c .before .before .before .before .before .before .before .run .ensures .0, c .before .before .before .before .before .outcome .given .1, c .before .before .outcome2 .given .1) (c .row3 .ensures)))

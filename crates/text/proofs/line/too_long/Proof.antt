@@ -1,20 +1,11 @@
 -- `too_long` meets its contract. Assumes nothing.
+use borrow.Author.Needs.{needs}
 use Rattle.model.specs.Text.{ascii}
 use Rattle.model.specs.DeskText.{sentence}
 use Rattle.text.specs.Written.{filled, shown}
-use borrow.Author.Needs.{needs}
 use Rattle.text.proofs.line.too_long.Statement.{statement}
 use Rattle.text.proofs.line.too_long.Tie as tie
 
-returns : tie.Need-returns
-unfolding filled shown ascii sentence
-returns c = search needs
-
 pub too-long-spec : {M : Type 1} → statement M
-too-long-spec =
-    tie.close
-    (tie.spec
-    (λ c. search needs)
-    (λ c κs. search needs)
-    (λ c. search needs)
-    returns)
+unfolding filled shown ascii sentence
+too-long-spec = tie.close (tie.spec (λ c. search needs) (λ c κs. search needs) (λ c. search needs) (λ c. search needs))

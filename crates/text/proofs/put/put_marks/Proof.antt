@@ -1,11 +1,11 @@
 -- `put_marks` meets its contract: the marks so far. Assumes nothing.
-use mathlib.Core.Path.{_≡_, refl, ap}
+use mathlib.Core.Path.{_≡_, refl}
 use Prim.Native.Nat.{_+_, _-_, _≤_}
 use native.Mathlib.Omega.{arith}
 use lib.ListN.{length, length-set}
 use Rattle.model.specs.DeskText.{marks}
 use Rattle.text.specs.Written.{Put}
-use Rattle.text.proofs.Puts.{put-as, nothing, marks-more}
+use Rattle.text.proofs.Puts.{nothing, marks-more}
 use Rattle.text.proofs.put.put_marks.Statement.{statement}
 use Rattle.text.proofs.put.put_marks.Tie as tie
 
