@@ -8,7 +8,7 @@ use report::Rest;
 ghost use Prim.Native.Nat.{_+_, _*_, _≤_};
 ghost use lib.ListN.{length};
 ghost use Rattle.model.specs.Read.{headBytes};
-ghost use Rattle.text.specs.Written.{Narrow};
+ghost use Rattle.model.specs.WellFormed.{Sensible};
 ghost use Rattle.io.specs.Counts.{Counts};
 
 // One byte more than a block may have: a longer file is cut there, and still refused as too long.
@@ -55,7 +55,7 @@ fn print(text: &[u8], n: usize)
 
 // So many lines of a list block.
 fn print_list(limits: Limits, facts: u8, list: &[u8], count: usize)
-    requires { ⌜ Narrow limits × (facts ≤ limits .facts) × (headBytes + limits .line * count ≤ length (now list)) ⌝ }
+    requires { ⌜ Sensible limits × (facts ≤ limits .facts) × (headBytes + limits .line * count ≤ length (now list)) ⌝ }
 {
     let mut line = [0u8; 160];
     let mut i: usize = 0;
@@ -68,7 +68,7 @@ fn print_list(limits: Limits, facts: u8, list: &[u8], count: usize)
 
 // What follows the first line: a right plan's list, or that it is too long.
 fn print_rest(page: Page, list: &[u8])
-    requires { ⌜ Narrow (page .limits) × (page .facts ≤ page .limits .facts) × (headBytes + page .limits .line * page .limits .lines ≤ length (now list)) ⌝ }
+    requires { ⌜ Sensible (page .limits) × (page .facts ≤ page .limits .facts) × (headBytes + page .limits .line * page .limits .lines ≤ length (now list)) ⌝ }
 {
     match report::what_follows(page) {
         Rest::Nothing => {}

@@ -4,6 +4,7 @@ use mathlib.Core.Bool.{Bool, true, false}
 use mathlib.Core.Logic.{⊎-elim}
 use mathlib.Core.List.{List, [], _∷_, _++_}
 use Prim.Native.Nat.{ℕ, zero, suc, _+_, _-_, _*_, _≤_, _<_}
+use native.Mathlib.Nat.{mul-zero, mul-suc, mul-le-mul-left}
 use native.Mathlib.Omega.{arith}
 use lib.Dec.{leb}
 use lib.ListN.{length, take, drop}
@@ -20,7 +21,7 @@ use Rattle.model.specs.Read.{headBytes}
 use Rattle.model.specs.Walk.{Line, walked, Verdict, right, wrong, undecided, judged}
 use Rattle.model.specs.Operations.{lineCount}
 use Rattle.model.specs.ListBytes.{lineAt, linesFrom, linesBytes}
-use Rattle.model.specs.WellFormed.{LineOk, Each}
+use Rattle.model.specs.WellFormed.{LineOk, Each, Sensible}
 use Rattle.model.specs.Stands.{Span}
 use Rattle.model.specs.Answers.{judgeAnswer}
 use Rattle.model.specs.declared.JudgeAnswer.{JudgeAnswer}
@@ -34,8 +35,8 @@ use Rattle.model.proofs.Laws.Lists.{follows-ok}
 use Rattle.blocks.specs.declared.plan.Task as blocks
 use Rattle.blocks.specs.Parts.{FindsTask}
 use Rattle.blocks.specs.Standing.{StandsFound}
-use Rattle.text.specs.Written.{Narrow, firstOf}
-use Rattle.judge.specs.Verdicts.{LaysLines, Judges, JudgesTask}
+use Rattle.text.specs.Written.{firstOf}
+use Rattle.judge.specs.Verdicts.{LaysLines, JudgesTask}
 use Rattle.blocks.proofs.Standing.{found-in}
 use Rattle.report.specs.Pages.{restOf, listed, restText, PageOf, countOf, FollowsPage}
 use Rattle.report.specs.declared.page.Page.{Page}
@@ -44,90 +45,93 @@ use Rattle.report.specs.declared.page.Rest.the-variants.{Nothing, TooLon
 
 -- ---- the lines of a list, read back
 
--- lines that were put where a list block has them
-lines-read :
-    (before : List ℕ) (ls : List Line) → 5 + 8 * length ls ≤ length before → Each (LineOk version1) ls →
-    linesFrom version1 (sets before 5 (linesBytes version1 ls)) (length ls) 5 ≡ ls
-lines-read before ls room ok =
-    let bytes = linesBytes version1 ls in
-    let fit : 5 + length bytes ≤ length before = omega (arith, codec.length-lines version1 version1-sensible [] ls) in
-    let l = take 5 before ++ bytes ++ drop (5 + length bytes) before in
-    ap (λ (x : List ℕ). linesFrom version1 x (length ls) 5) (sets-eq bytes before 5 fit) ∙
-    (split (take 5 before ++ bytes) (is-whole {s = l}) λ q a b.
-    split (take 5 before) a λ p x y.
-    let i : p ≡ 5 = omega (arith, span-length x, length-take-le 5 before (omega arith)) in
-    codec.lines-ok version1 version1-sensible l ls 5 q ok (subst (λ (j : ℕ). Span l (length l) j bytes q) i y))
+module _ (F : Limits) (S : Sensible F) where
+  -- lines that were put where a list block has them
+  lines-read :
+      (before : List ℕ) (ls : List Line) → headBytes + F .line * length ls ≤ length before → Each (LineOk F) ls →
+      linesFrom F (sets before headBytes (linesBytes F ls)) (length ls) headBytes ≡ ls
+  lines-read before ls room ok =
+      let bytes = linesBytes F ls in
+      let fit : headBytes + length bytes ≤ length before = omega (arith, codec.length-lines F S [] ls) in
+      let l = take headBytes before ++ bytes ++ drop (headBytes + length bytes) before in
+      ap (λ (x : List ℕ). linesFrom F x (length ls) headBytes) (sets-eq bytes before headBytes fit) ∙
+      (split (take headBytes before ++ bytes) (is-whole {s = l}) λ q a b.
+      split (take headBytes before) a λ p x y.
+      let i : p ≡ headBytes = omega (arith, span-length x, length-take-le headBytes before (omega arith)) in
+      codec.lines-ok F S l ls headBytes q ok (subst (λ (j : ℕ). Span l (length l) j bytes q) i y))
 
-listed-is : (n : ℕ) (list : List ℕ) (c i p : ℕ) → p ≡ 5 + 8 * i → listed version1 n list i c ≡ linesText version1 n (linesFrom version1 list c p)
-unfolding linesText linesFrom listed lineAt
-listed-is n list zero i p h = refl
-listed-is n list (suc c) i p h =
-    ap₂ _++_ (ap (λ (j : ℕ). lineText version1 n (lineAt version1 list j)) (sym h)) (listed-is n list c (suc i) (p + 8) (omega arith))
+  listed-is : (n : ℕ) (list : List ℕ) (c i p : ℕ) → p ≡ headBytes + F .line * i → listed F n list i c ≡ linesText F n (linesFrom F list c p)
+  unfolding linesText linesFrom listed lineAt
+  listed-is n list zero i p h = refl
+  listed-is n list (suc c) i p h =
+      ap₂ _++_ (ap (λ (j : ℕ). lineText F n (lineAt F list j)) (sym h)) (listed-is n list c (suc i) (p + F .line) (omega (arith, mul-suc (F .line) i)))
 
--- a right verdict's lines are sound to write
-lines-fit : (T : Task) → T .facts ≤ version1 .facts → T .width ≡ version1 .width → (g : ℕ) (ls : List Line) (a : ℕ) → judged T g ≡ right ls a → Each (LineOk version1) ls
-lines-fit T h w g ls a e =
-    let n≤w : T .facts ≤ T .width = omega arith in
-    let m = subst (Means T n≤w g (walked T)) e (judged-means T n≤w g) in
-    follows-ok version1 version1-sensible (T .width) _ (T .facts) (omega arith) w ls 0 (walk-passes T n≤w ls a (m .0)) .1
+  -- a right verdict's lines are sound to write
+  lines-fit : (T : Task) → T .facts ≤ F .facts → T .width ≡ F .width → (g : ℕ) (ls : List Line) (a : ℕ) → judged T g ≡ right ls a → Each (LineOk F) ls
+  lines-fit T h w g ls a e =
+      let n≤w : T .facts ≤ T .width = omega (arith, S .width) in
+      let m = subst (Means T n≤w g (walked T)) e (judged-means T n≤w g) in
+      follows-ok F S (T .width) _ (T .facts) (omega (arith, S .facts)) w ls 0 (walk-passes T n≤w ls a (m .0)) .1
 
--- ---- what follows the first line
+  -- ---- what follows the first line
 
-module _ (n : ℕ) (before after : List ℕ) (room : 65533 ≤ length before) where
-  list-is :
-      (ls : List Line) (b : Bool) → leb (length ls) 8191 ≡ b → Each (LineOk version1) ls → (a : ℕ) → LaysLines version1 (right ls a) before 5 after →
-      restText version1 n after (restOf version1 (answered (right (length ls) a))) ≡ listText version1 n ls
-  unfolding listText
-  list-is ls true e ok a lays =
-      let h : 5 + 8 * length ls ≤ length before = omega (arith, leb-true (length ls) 8191 e) in
-      let z = lays h .bytes version1 refl in
-      rw e
-      (listed-is n after (length ls) 0 5 refl ∙
-      ap (λ (l : List ℕ). linesText version1 n (linesFrom version1 l (length ls) 5)) z ∙
-      ap (linesText version1 n) (lines-read before ls h ok))
-  list-is ls false e ok a lays = rw e
+  module _ (n : ℕ) (before after : List ℕ) (room : headBytes + F .line * F .lines ≤ length before) where
+    list-is :
+        (ls : List Line) (b : Bool) → leb (length ls) (F .lines) ≡ b → Each (LineOk F) ls → (a : ℕ) → LaysLines F (right ls a) before headBytes after →
+        restText F n after (restOf F (answered (right (length ls) a))) ≡ listText F n ls
+    unfolding listText
+    list-is ls true e ok a lays =
+        let h : headBytes + F .line * length ls ≤ length before = omega (arith, mul-le-mul-left (F .line) (leb-true (length ls) (F .lines) e)) in
+        rw e
+        (listed-is n after (length ls) 0 headBytes (omega (arith, mul-zero (F .line))) ∙
+        ap (λ (l : List ℕ). linesText F n (linesFrom F l (length ls) headBytes)) (lays h .bytes F refl) ∙
+        ap (linesText F n) (lines-read before ls h ok))
+    list-is ls false e ok a lays = rw e
 
-  rest-is :
-      (v : Verdict (List Line)) → ((ls : List Line) (a : ℕ) → v ≡ right ls a → Each (LineOk version1) ls) → LaysLines version1 v before 5 after →
-      restText version1 n after (restOf version1 (answered (lineCount v))) ≡ verdictRest version1 n v
-  unfolding verdictRest
-  rest-is (right ls a) ok lays = list-is ls _ refl (ok ls a refl) a lays
-  rest-is (wrong s o a) ok lays = refl
-  rest-is (undecided a) ok lays = refl
+    rest-is :
+        (v : Verdict (List Line)) → ((ls : List Line) (a : ℕ) → v ≡ right ls a → Each (LineOk F) ls) → LaysLines F v before headBytes after →
+        restText F n after (restOf F (answered (lineCount v))) ≡ verdictRest F n v
+    unfolding verdictRest
+    rest-is (right ls a) ok lays = list-is ls _ refl (ok ls a refl) a lays
+    rest-is (wrong s o a) ok lays = refl
+    rest-is (undecided a) ok lays = refl
 
 -- ---- the page
 
-version1-narrow : Narrow version1
-version1-narrow = record { facts = omega arith; word = omega arith; some = omega arith; value = omega arith }
+module _ (s t : List ℕ) (r : blocks.Task) (f : FindsTask version1 s t r) (after : List ℕ) (fit : headBytes + version1 .line * version1 .lines ≤ length after) where
+  room : headBytes + r .limits .line * r .limits .lines ≤ length after
+  room = rw (f .limits) fit
 
-module _ (s t : List ℕ) (r : blocks.Task) (f : FindsTask version1 s t r) (after : List ℕ) (room : 65533 ≤ length after) where
   pub page-refused : r .refused ≡ true → PageOf s t after (record { limits = r .limits; facts = 0; answer = Refused (r .refusal) })
   unfolding firstLine answerLine laterLines answerRest
   page-refused e =
-      rw (f .limits)
-      record { narrow = version1-narrow; most = omega arith; room = room; first = rw (f .refusal e); later = rw (f .refusal e) }
+      record {
+        sensible = rw (f .limits) version1-sensible;
+        most = omega arith;
+        room = room;
+        first = rw (f .refusal e);
+        later = rw (f .refusal e);
+      }
 
   pub page-found :
       (found : StandsFound version1 s t r) (steps : List ℕ) → steps ≡ take (length t - headBytes) (drop headBytes t) →
-      (a : JudgeAnswer) (before : List ℕ) → 65533 ≤ length before → JudgesTask (r .limits) s steps (r .problem) deskGrant a before headBytes after →
+      (a : JudgeAnswer) (before : List ℕ) → JudgesTask (r .limits) s steps (r .problem) deskGrant a before headBytes after →
       PageOf s t after (record { limits = r .limits; facts = r .problem .facts; answer = a })
   unfolding firstLine answerLine laterLines answerRest
-  page-found found steps own a before fit J =
+  page-found found steps own a before J =
       let T = found .task in
-      let j = subst (λ (F : Limits). Judges F (judged T deskGrant) a before headBytes after) (f .limits) (J .is T (found-in version1 s t r found steps own)) in
+      let S = found .sensible in
       let n = r .problem .facts in
-      let few : T .facts ≤ version1 .facts = subst (λ (F : Limits). T .facts ≤ F .facts) (f .limits) (found .few) in
-      let wide : T .width ≡ version1 .width = subst (λ (F : Limits). T .width ≡ F .width) (f .limits) (found .width) in
-      rw (f .limits)
+      let j = J .is T (found-in version1 s t r found steps own) in
       record {
-        narrow = version1-narrow;
-        most = omega (arith, found .facts);
+        sensible = S;
+        most = omega (arith, found .facts, found .few);
         room = room;
-        first = ap (firstOf version1 n) (j .answer) ∙ rw (found .read, found .facts);
+        first = ap (firstOf (r .limits) n) (j .answer) ∙ rw (found .read, found .facts, f .limits);
         later =
-            ap (λ x. restText version1 n after (restOf version1 x)) (j .answer) ∙
-            rest-is n before after fit (judged T deskGrant) (lines-fit T few wide deskGrant) (j .lays) ∙
-            rw (found .read, found .facts);
+            ap (λ x. restText (r .limits) n after (restOf (r .limits) x)) (j .answer) ∙
+            rest-is (r .limits) S n before after (omega (arith, room, J .size)) (judged T deskGrant) (lines-fit (r .limits) S T (found .few) (found .width) deskGrant) (j .lays) ∙
+            rw (found .read, found .facts, f .limits);
       }
 
 -- ---- what follows, by the judge's answer

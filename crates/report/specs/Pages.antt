@@ -12,8 +12,9 @@ use Rattle.model.specs.Answer.{Answer, refused, answered}
 use Rattle.model.specs.Walk.{Verdict, right, wrong, undecided}
 use Rattle.model.specs.Answers.{judgeAnswer}
 use Rattle.model.specs.DeskText.{lineText, tooLong, firstLine, laterLines}
+use Rattle.model.specs.WellFormed.{Sensible}
 use Rattle.lines.specs.Lines.{lineNumber}
-use Rattle.text.specs.Written.{Narrow, firstOf}
+use Rattle.text.specs.Written.{firstOf}
 use Rattle.report.specs.declared.page.Page.{Page}
 use Rattle.report.specs.declared.page.Rest.{Rest}
 use Rattle.report.specs.declared.page.Rest.the-variants.{Nothing, TooLong, Lines}
@@ -44,7 +45,7 @@ module _ (F : Limits) (n : ℕ) (list : List ℕ) where
 
 -- the page of the problem s and the plan t: its first line is the definition's, and so is what follows, with its lines in `list`
 pub record PageOf (s t list : List ℕ) (p : Page) : Type 0 where
-  pub narrow : Narrow (p .limits)
+  pub sensible : Sensible (p .limits)
   pub most : p .facts ≤ p .limits .facts
   pub room : headBytes + p .limits .line * p .limits .lines ≤ length list
   pub first : pageLine p ≡ firstLine version1 s t

@@ -44,13 +44,6 @@ mark w k v i = cond (ltb i k) (cond (bit w v i) 49 48) 63
 
 -- ---- lines
 
--- what the text needs of a version's numbers: a state has a bit for each fact, and it and a line's value fit a word
-pub record Narrow (F : Limits) : Type 0 where
-  pub facts : F .facts ≤ F .width
-  pub word : F .width ≤ 64
-  pub some : 2 < F .line
-  pub value : F .line ≤ 10
-
 -- any line of any version has room here: a state of 64 facts takes 6 + 64 bytes, and the longest of what follows it 59
 abbrev pub lineRoom : ℕ
 lineRoom = 160

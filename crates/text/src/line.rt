@@ -6,7 +6,8 @@ ghost use Rattle.model.specs.Read.{headBytes};
 ghost use Rattle.model.specs.Answers.{outcome as outcomeOf, judgeAnswer};
 ghost use Rattle.model.specs.DeskText.{refusalLine, wrongLine, kindText, lineText, tooLong};
 ghost use Rattle.lines.specs.Lines.{lineNumber};
-ghost use Rattle.text.specs.Written.{Put, Narrow, lineRoom, firstOf};
+ghost use Rattle.model.specs.WellFormed.{Sensible};
+ghost use Rattle.text.specs.Written.{Put, lineRoom, firstOf};
 use crate::put::put_form;
 use crate::put::put_marks;
 use lines::read_line;
@@ -36,7 +37,7 @@ fn put_wrong(
     outcome: Outcome,
     visits: u64,
 ) -> usize
-    requires { ⌜ Narrow limits × (facts ≤ limits .facts) × (lineRoom ≤ length (now out)) ⌝ }
+    requires { ⌜ Sensible limits × (facts ≤ limits .facts) × (lineRoom ≤ length (now out)) ⌝ }
     ensures { λ r. ⌜ Put (now (out .entry)) 0 (wrongLine limits facts state (outcomeOf outcome) visits) r (now (out .exit)) ⌝ }
 {
     let p = put_form(out, 0, b"wrong ", 0, 0);
@@ -52,7 +53,7 @@ fn put_wrong(
 
 // The first line, by the judge's answer: the refusal, or the verdict over so many facts.
 pub fn first_line(limits: Limits, facts: u8, answer: JudgeAnswer, out: &mut [u8]) -> usize
-    requires { ⌜ Narrow limits × (facts ≤ limits .facts) × (lineRoom ≤ length (now out)) ⌝ }
+    requires { ⌜ Sensible limits × (facts ≤ limits .facts) × (lineRoom ≤ length (now out)) ⌝ }
     ensures { λ r. ⌜ Put (now (out .entry)) 0 (firstOf limits facts (judgeAnswer answer)) r (now (out .exit)) ⌝ }
 {
     match answer {
@@ -83,7 +84,7 @@ fn put_kind(out: &mut [u8], kind: u8) -> usize
 
 // The line numbered `line` of a list block: its kind and one mark per fact.
 pub fn list_line(limits: Limits, facts: u8, list: &[u8], line: usize, out: &mut [u8]) -> usize
-    requires { ⌜ Narrow limits × (facts ≤ limits .facts) × (headBytes + limits .line * line + limits .line ≤ length (now list)) × (lineRoom ≤ length (now out)) ⌝ }
+    requires { ⌜ Sensible limits × (facts ≤ limits .facts) × (headBytes + limits .line * line + limits .line ≤ length (now list)) × (lineRoom ≤ length (now out)) ⌝ }
     ensures { λ r. ⌜ Put (now (out .entry)) 0 (lineText limits facts (lineNumber (limits .line) (now (list .entry)) line)) r (now (out .exit)) ⌝ }
 {
     let l = read_line(list, line, limits.line);
