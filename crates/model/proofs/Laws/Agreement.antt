@@ -11,6 +11,19 @@ use Rattle.model.specs.Formula.{Literal, fact, denial, Formula, Formulas
 use Rattle.model.specs.Action.{Action, conditionOf, tabulate, applicable, next, step}
 use Rattle.model.specs.Run.{Outcome, reached, Stop, atEnd, goesOn, run}
 
+-- an equation in one value, or in two, by the table of its instances
+abbrev row : {A : Type 0} → (Kleene → A) → List A
+row f = f No ∷ f Unknown ∷ f Yes ∷ []
+
+pub by-row : {A : Type 0} (f g : Kleene → A) → row f ≡ row g → (x : Kleene) → f x ≡ g x
+by-row f g e No = cc
+by-row f g e Unknown = cc
+by-row f g e Yes = cc
+
+pub by-table :
+    {A : Type 0} (f g : Kleene → Kleene → A) → row (λ x. row (f x)) ≡ row (λ x. row (g x)) → (x y : Kleene) → f x y ≡ g x y
+by-table f g e x = by-row (f x) (g x) (by-row (λ x. row (f x)) (λ x. row (g x)) e x)
+
 -- ---- a run that is reached
 
 pub goes-on-reached : (b : Bool) (r : Outcome) (s : Stop) → goesOn b r s ≡ reached → (b ≡ true) × (r ≡ reached)
@@ -124,13 +137,7 @@ denied-refines wider = wider
 
 -- "an "any" mirrors it"
 either-mirrors : (x y : Kleene) → either x y ≡ denied (both (denied x) (denied y))
-either-mirrors No No = refl
-either-mirrors No Unknown = refl
-either-mirrors No Yes = refl
-either-mirrors Unknown No = refl
-either-mirrors Unknown Unknown = refl
-either-mirrors Unknown Yes = refl
-either-mirrors Yes y = refl
+either-mirrors = by-table either (λ x y. denied (both (denied x) (denied y))) refl
 
 either-refines : {x x′ y y′ : Kleene} → Refines x y → Refines x′ y′ → Refines (either x x′) (either y y′)
 either-refines {x} {x′} {y} {y′} r t =
