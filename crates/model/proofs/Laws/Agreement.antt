@@ -181,17 +181,11 @@ exact =
       denied = λ {x} {y} p. ap denied p ∙ denied-exact y;
     }
 
--- what a case reads as yes or no, a state that it admits reads so
-pub from-yes : {t : Kleene} (b : Bool) → Refines t (known b) → t ≡ Yes → b ≡ true
-from-yes true r e = refl
-from-yes false r e = sym (never (rw e at r))
-  where
-    never : Refines Yes No → true ≡ false
-    never r = elim r [ ]
+pub known-inj : {b b′ : Bool} → known b ≡ known b′ → b ≡ b′
+known-inj {b} {b′} e = sym (yes-exact b) ∙ ap isYes e ∙ yes-exact b′
 
-pub from-no : {t : Kleene} (b : Bool) → Refines t (known b) → t ≡ No → b ≡ false
-from-no false r e = refl
-from-no true r e = sym (never (rw e at r))
-  where
-    never : Refines No Yes → false ≡ true
-    never r = elim r [ ]
+-- what a case reads as yes or no, one that says more reads so
+pub refines-known : {x y : Kleene} (b : Bool) → Refines x y → x ≡ known b → y ≡ known b
+refines-known b same e = e
+refines-known true wider e = cc
+refines-known false wider e = cc

@@ -1,15 +1,15 @@
 -- The walk as a tree of cases, and lists of lines as covers of all numbers: what is closed is covered, the walk's lines pass, and no
 -- list that passes has fewer. The width, the fact count and the look are parameters. Assumes nothing.
 use mathlib.Core.Path.{_≡_, refl, sym, ap, _∙_, subst}
-use mathlib.Core.Bool.{Bool, true, false, false≢true}
+use mathlib.Core.Bool.{true, false≢true}
 use mathlib.Core.List.{List, [], _∷_, _++_, append-assoc}
 use Prim.Native.Nat.{ℕ, zero, suc, _+_, _-_, _*_, _/_, _%_, _^_, _≤_, _<_, zero-le}
-use native.Mathlib.Nat.{div-add-mod', div-eq-of-lt-le, mul-le-mul-right, mul-assoc, pow-suc, mul-mod-left}
+use native.Mathlib.Nat.{div-add-mod', div-eq-of-lt-le, mul-le-mul-right, lt-of-mul-lt-mul-right, mul-assoc, pow-suc, mul-mod-left}
 use native.Mathlib.Omega.{arith}
 use native.Mathlib.Decide.{decLe, decLt}
 use lib.ListN.{length, length-append}
-use lib.Dec.{leb, eqb}
-use borrow.Author.Tests.{le-leb, lt-leb, leb-true, eq-eqb}
+use lib.Dec.{eqb}
+use borrow.Author.Tests.{eq-eqb}
 use lib.Pow.{pow-add, pow-pos, shr-shr}
 use Rattle.model.specs.Case.{bit}
 use Rattle.model.specs.Walk.{Kind, kindNumber, Look, closed, opened, Line, Walked, covered, failed, line, join, walkFrom, walk}
@@ -51,10 +51,7 @@ root-span w = ap (λ (x : ℕ). 2 ^ x) (omega arith)
 
 -- of two multiples of a
 pub below : (p q a : ℕ) → p * a < q * a + a → p ≤ q
-below p q a h = elim (decLe p q) [ yes l ↦ l | no g ↦ absurd (far (omega arith)) ]
-  where
-    far : q < p → ⊥
-    far l = omega (arith, mul-le-mul-right a l)
+below p q a h = omega (arith, lt-of-mul-lt-mul-right a {m = p} {n = suc q} (omega arith))
 
 -- the numbers from v on that a block covers agree with v in the first k facts
 pub agree : (w k v s i : ℕ) → k ≤ w → Block w k v → v ≤ s → s < v + 2 ^ (w - k) → i < k → bit w s i ≡ bit w v i
@@ -67,21 +64,6 @@ agree w k v s i l b h h′ j = ap (λ (x : ℕ). lib.Dec.eqb (x % 2) 1) (high s 
         let lo : b .q * 2 ^ (w - k) ≤ t = omega (arith, b .is) in
         let hi : t < (b .q + 1) * 2 ^ (w - k) = omega (arith, b .is) in
         rw (e, ← (shr-shr t (w - k) (k - suc i)), div-eq-of-lt-le {k = b .q} (2 ^ (w - k)) {m = t} lo hi)
-
-abbrev one-if : Bool → ℕ
-one-if true = 1
-one-if false = 0
-
-one-if-le : (b : Bool) → one-if b ≤ 1
-one-if-le true = omega arith
-one-if-le false = omega arith
-
-later-le : (x y v : ℕ) → x ≤ y → one-if (leb y v) ≤ one-if (leb x v)
-later-le x y v h = by-cases (leb y v) refl
-  where
-    by-cases : (b : Bool) → leb y v ≡ b → one-if b ≤ one-if (leb x v)
-    by-cases true e = rw (le-leb x v (omega (arith, leb-true y v e))) (omega arith)
-    by-cases false e = zero-le
 
 -- a block around the middle of another, that does not begin there, holds all of the other
 around : (w k v k′ v′ : ℕ) → k < w → k′ ≤ w → Block w k v → Block w k′ v′ → v′ < v + 2 ^ (w - suc k) → v + 2 ^ (w - suc k) < v′ + 2 ^ (w - k′) → (k′ ≤ k) × (v′ ≤ v)
@@ -101,15 +83,9 @@ around w k v k′ v′ h h′ b b′ lo hi = elim (decLe k′ k) [ yes l ↦ (l,
 
 -- ---- a claim
 
-pub claims-own : (κ : Kind) → claims (kindNumber κ) (closed κ) ≡ true
-claims-own κ = eq-eqb (kindNumber κ) (kindNumber κ) refl
-
 pub claimed : (d : ℕ) (l : Look) → claims d l ≡ true → (κ : Kind) × (l ≡ closed κ)
 claimed d (closed κ) e = (κ, refl)
 claimed d opened e = absurd (false≢true e)
-
-pub claims-open : (d : ℕ) (l : Look) → l ≡ opened → claims d l ≡ true → ⊥
-claims-open d l e c = let z : false ≡ true = sym (ap (claims d) e) ∙ c in false≢true z
 
 -- ---- what the walk met, as a tree
 
@@ -161,30 +137,22 @@ module _ (w : ℕ) (look : ℕ → ℕ → Look) where
           | no g ↦ closes-good y (omega arith) (next-block w (suc k) v (rescale w k (suc k) v (omega arith) (omega arith) b)) s (omega arith) (omega (arith, pow-half w k (omega arith)))
         ]
 
-    pub record FailsAt (k v s : ℕ) : Type 0 where
+    pub record FailsAt (s : ℕ) : Type 0 where
       pub is-open : look n s ≡ opened
       pub block : Block w n s
-      pub low : v ≤ s
-      pub high : s < v + 2 ^ (w - k)
-      pub before : (t : ℕ) → v ≤ t → t < s → Good t
+      pub high : s < 2 ^ w
+      pub before : (t : ℕ) → t < s → Good t
 
-    pub fails-at : {d k v s : ℕ} → Fails d k v s → k + d ≡ n → Block w k v → FailsAt k v s
-    fails-at (here {k} {v} e) f b =
+    pub fails-at : {d k v s : ℕ} → Fails d k v s → k + d ≡ n → Block w k v → v + 2 ^ (w - k) ≤ 2 ^ w → ((t : ℕ) → t < v → Good t) → FailsAt s
+    fails-at (here {k} {v} e) f b h g =
         let k≡n : k ≡ n = omega arith in
-        record { is-open = subst (λ (x : ℕ). look x v ≡ opened) k≡n e; block = subst (λ (x : ℕ). Block w x v) k≡n b; low = omega arith; high = omega (arith, pow-pos (w - k)); before = λ t l h. absurd (omega arith) }
-    fails-at (left {d} {k} {v} {s} e x) f b =
-        let r = fails-at x (omega arith) (rescale w k (suc k) v (omega arith) (omega arith) b) in
-        record { is-open = r .is-open; block = r .block; low = r .low; high = omega (arith, r .high, pow-half w k (omega arith)); before = r .before }
-    fails-at (right {d} {k} {v} {s} e x y) f b =
+        record { is-open = rw k≡n at e; block = rw k≡n at b; high = omega (arith, pow-pos (w - k)); before = g }
+    fails-at (left {d} {k} {v} e x) f b h g =
+        fails-at x (omega arith) (rescale w k (suc k) v (omega arith) (omega arith) b) (omega (arith, pow-half w k (omega arith))) g
+    fails-at (right {d} {k} {v} e x y) f b h g =
         let c = rescale w k (suc k) v (omega arith) (omega arith) b in
-        let r = fails-at y (omega arith) (next-block w (suc k) v c) in
-        record {
-          is-open = r .is-open;
-          block = r .block;
-          low = omega (arith, r .low);
-          high = omega (arith, r .high, pow-half w k (omega arith));
-          before = λ t l h. elim (decLt t (v + 2 ^ (w - suc k))) [ yes g ↦ closes-good x (omega arith) c t l g | no g ↦ r .before t (omega arith) h ];
-        }
+        fails-at y (omega arith) (next-block w (suc k) v c) (omega (arith, pow-half w k (omega arith))) λ t l.
+        elim (decLt t v) [ yes p ↦ g t p | no p ↦ closes-good x (omega arith) c t (omega arith) l ]
 
   -- ---- lists of lines
 
@@ -193,23 +161,27 @@ module _ (w : ℕ) (look : ℕ → ℕ → Look) where
   Follows n ls x = Joined w ls x × Each (LineHolds w look n) ls
 
   module _ (n : ℕ) where
-    pub data Hit (s : ℕ) : List Line → Type 0 where
-      hit : {l : Line} {ls : List Line} → l .k ≤ n → Block w (l .k) (l .value) → claims (l .kind) (look (l .k) (l .value)) ≡ true → l .value ≤ s → s < l .value + 2 ^ (w - l .k) → Hit s (l ∷ ls)
-      later : {l : Line} {ls : List Line} → Hit s ls → Hit s (l ∷ ls)
+    pub data Starts (x : ℕ) : List Line → Type 0 where
+      first : {l : Line} {ls : List Line} → l .value ≡ x → Starts x (l ∷ ls)
+      later : {l : Line} {ls : List Line} → Starts x ls → Starts x (l ∷ ls)
 
-    -- each number from x on is covered
-    pub each-hit : (ls : List Line) (x : ℕ) → Follows n ls x → (s : ℕ) → x ≤ s → s < 2 ^ w → Hit s ls
-    each-hit [] x f s l h = absurd (omega arith)
-    each-hit (m ∷ ls) x f s l h =
+    -- each number from x on is covered by a line
+    pub covering :
+        {C : Type 0} (ls : List Line) (x : ℕ) → Follows n ls x → (s : ℕ) → x ≤ s → s < 2 ^ w →
+        ((k v : ℕ) (κ : Kind) → Starts v ls → k ≤ n → Block w k v → look k v ≡ closed κ → v ≤ s → s < v + 2 ^ (w - k) → C) → C
+    covering [] x f s l h c = absurd (omega arith)
+    covering (m ∷ ls) x f s l h c =
         elim (decLt s (x + 2 ^ (w - m .k))) [
-          | yes g ↦ hit (f .1 .0 .k-fits) (block-of-mod w _ _ (f .1 .0 .no-bits)) (f .1 .0 .claim) (omega arith) (omega arith)
-          | no g ↦ later (each-hit ls (x + 2 ^ (w - m .k)) (f .0 .1, f .1 .1) s (omega arith) h)
+          | yes g ↦
+              let (κ, e) = claimed (m .kind) _ (f .1 .0 .claim) in
+              c (m .k) (m .value) κ (first refl) (f .1 .0 .k-fits) (block-of-mod w _ _ (f .1 .0 .no-bits)) e (omega arith) (omega arith)
+          | no g ↦ covering ls (x + 2 ^ (w - m .k)) (f .0 .1, f .1 .1) s (omega arith) h (λ k v κ st. c k v κ (later st))
         ]
 
     -- the walk's lines pass
     pub closes-follows : n ≤ w → {d k v a : ℕ} {ls : List Line} → Closes d k v ls a → k + d ≡ n → Block w k v → (rest : List Line) → Follows n rest (v + 2 ^ (w - k))
         → Follows n (ls ++ rest) v
-    closes-follows nw {d} {k} {v} (leaf {κ} e) f b rest g = ((refl, g .0), (record { k-fits = omega arith; no-bits = mod-of-block w k v b; claim = ap (claims (kindNumber κ)) e ∙ claims-own κ }, g .1))
+    closes-follows nw {d} {k} {v} (leaf {κ} e) f b rest g = ((refl, g .0), (record { k-fits = omega arith; no-bits = mod-of-block w k v b; claim = rw e (eq-eqb (kindNumber κ) (kindNumber κ) refl) }, g .1))
     closes-follows nw (node {d} {k} {v} {ls} {ms} e x y) f b rest g =
         let c = rescale w k (suc k) v (omega arith) (omega arith) b in
         rw (append-assoc ls ms rest)
@@ -219,55 +191,50 @@ module _ (w : ℕ) (look : ℕ → ℕ → Look) where
     -- how many lines begin at x or later
     abbrev from : ℕ → List Line → ℕ
     from x [] = 0
-    from x (l ∷ ls) = one-if (leb x (l .value)) + from x ls
+    from x (l ∷ ls) = (1 - (x - l .value)) + from x ls
 
     from-le : (x y : ℕ) → x ≤ y → (ls : List Line) → from y ls ≤ from x ls
     from-le x y h [] = omega arith
-    from-le x y h (l ∷ ls) = omega (arith, from-le x y h ls, later-le x y (l .value) h)
+    from-le x y h (l ∷ ls) = omega (arith, from-le x y h ls)
 
     from-length : (ls : List Line) → from 0 ls ≤ length ls
     from-length [] = zero-le
-    from-length (l ∷ ls) = omega (arith, from-length ls, one-if-le (leb 0 (l .value)))
-
-    data Starts (x : ℕ) : List Line → Type 0 where
-      first : {l : Line} {ls : List Line} → l .value ≡ x → Starts x (l ∷ ls)
-      later : {l : Line} {ls : List Line} → Starts x ls → Starts x (l ∷ ls)
+    from-length (l ∷ ls) = omega (arith, from-length ls)
 
     from-starts : (x y : ℕ) → x < y → {ls : List Line} → Starts x ls → suc (from y ls) ≤ from x ls
-    from-starts x y h (first {l} {ls} e) = omega (arith, from-le x y (omega arith) ls, ap one-if (le-leb x (l .value) (omega arith)), ap one-if (lt-leb y (l .value) (omega arith)))
-    from-starts x y h (later {l} {ls} t) = omega (arith, from-starts x y h t, later-le x y (l .value) (omega arith))
+    from-starts x y h (first {l} {ls} e) = omega (arith, from-le x y (omega arith) ls)
+    from-starts x y h (later {l} {ls} t) = omega (arith, from-starts x y h t)
 
     begins-at-0 : (ls : List Line) → Follows n ls 0 → Starts 0 ls
     begins-at-0 [] f = absurd (omega (arith, pow-pos w))
     begins-at-0 (l ∷ ls) f = first (f .0 .0)
 
-    module _ (n≤w : n ≤ w) (mono : (k v k′ v′ : ℕ) → k ≤ k′ → k′ ≤ n → Block w k v → v ≤ v′ → v′ < v + 2 ^ (w - k) → look k′ v′ ≡ opened → look k v ≡ opened) where
-      -- a line that covers the middle of an open case initially there
-      mid-starts : (k v : ℕ) → k < n → Block w k v → look k v ≡ opened → (ls : List Line) → Hit (v + 2 ^ (w - suc k)) ls → Starts (v + 2 ^ (w - suc k)) ls
-      mid-starts k v kn b e ls (later h) = later (mid-starts k v kn b e _ h)
-      mid-starts k v kn b e ls (hit {l} lk lb le lo hi) =
-          elim (decLt (l .value) (v + 2 ^ (w - suc k))) [
+    module _ (n≤w : n ≤ w)
+        (shut : (k v k′ v′ : ℕ) (κ : Kind) → k ≤ k′ → k′ ≤ n → Block w k v → v ≤ v′ → v′ < v + 2 ^ (w - k) → look k v ≡ closed κ → look k′ v′ ≡ opened → ⊥)
+        (all : List Line) (fol : Follows n all 0) where
+      -- a line that covers the middle of an open case begins there
+      mid-starts : (k v : ℕ) → k < n → Block w k v → look k v ≡ opened → v + 2 ^ (w - suc k) < 2 ^ w → Starts (v + 2 ^ (w - suc k)) all
+      mid-starts k v kn b e h =
+          covering all 0 fol (v + 2 ^ (w - suc k)) zero-le h λ k′ v′ κ st k′n b′ e′ lo hi.
+          elim (decLt v′ (v + 2 ^ (w - suc k))) [
             | yes g ↦
-                let p = around w k v (l .k) (l .value) (omega arith) (omega arith) b lb g hi in
-                let e′ = mono (l .k) (l .value) k v (p .0) (omega arith) lb (p .1) (omega arith) e in
-                absurd (claims-open (l .kind) _ e′ le)
-            | no g ↦ first {l = l} (omega arith)
+                let (p, q) = around w k v k′ v′ (omega arith) (omega arith) b b′ g hi in
+                absurd (shut k′ v′ k v κ p (omega arith) b′ q (omega arith) e′ e)
+            | no g ↦ let i : v′ ≡ v + 2 ^ (w - suc k) = omega arith in rw i at st
           ]
 
       -- no list has fewer lines
-      least : (all : List Line) → ((s : ℕ) → s < 2 ^ w → Hit s all) → {d k v a : ℕ} {ls : List Line} → Closes d k v ls a → k + d ≡ n → Block w k v → v + 2 ^ (w - k) ≤ 2 ^ w
-          → Starts v all → length ls + from (v + 2 ^ (w - k)) all ≤ from v all
-      least all cov {d} {k} {v} (leaf e) f b h st = omega (arith, from-starts v (v + 2 ^ (w - k)) (omega (arith, pow-pos (w - k))) st)
-      least all cov (node {d} {k} {v} {ls} {ms} e x y) f b h st =
+      least : {d k v a : ℕ} {ls : List Line} → Closes d k v ls a → k + d ≡ n → Block w k v → v + 2 ^ (w - k) ≤ 2 ^ w → Starts v all
+          → length ls + from (v + 2 ^ (w - k)) all ≤ from v all
+      least {d} {k} {v} (leaf e) f b h st = omega (arith, from-starts v (v + 2 ^ (w - k)) (omega (arith, pow-pos (w - k))) st)
+      least (node {d} {k} {v} {ls} {ms} e x y) f b h st =
           let c = rescale w k (suc k) v (omega arith) (omega arith) b in
           let p = pow-half w k (omega arith) in
-          let m = v + 2 ^ (w - suc k) in
-          let l1 = least all cov x (omega arith) c (omega arith) st in
-          let st′ = mid-starts k v (omega arith) b e all (cov m (omega (arith, pow-pos (w - suc k)))) in
-          let l2 = least all cov y (omega arith) (next-block w (suc k) v c) (omega arith) st′ in
-          let q : v + 2 ^ (w - k) ≡ (v + 2 ^ (w - suc k)) + 2 ^ (w - suc k) = omega (arith, p) in
+          let l1 = least x (omega arith) c (omega arith) st in
+          let l2 = least y (omega arith) (next-block w (suc k) v c) (omega arith) (mid-starts k v (omega arith) b e (omega (arith, pow-pos (w - suc k)))) in
+          let q : v + 2 ^ (w - k) ≡ (v + 2 ^ (w - suc k)) + 2 ^ (w - suc k) = omega arith in
           rw (length-append ls ms, q) (omega (arith, l1, l2))
 
       -- whole
-      pub fewest : (all : List Line) → Follows n all 0 → {a : ℕ} {ls : List Line} → Closes n 0 0 ls a → length ls ≤ length all
-      fewest all fol {a} {ls} x = omega (arith, least all (λ s h. each-hit all 0 fol s zero-le h) x (omega arith) (root-block w) (omega (arith, root-span w)) (begins-at-0 all fol), from-length all)
+      pub fewest : {a : ℕ} {ls : List Line} → Closes n 0 0 ls a → length ls ≤ length all
+      fewest x = omega (arith, least x (omega arith) (root-block w) (omega (arith, root-span w)) (begins-at-0 all fol), from-length all)
