@@ -1,17 +1,14 @@
 -- Document 004's solutions are the right plans: belief states and runs of single states agree, and every list of n values is a
 -- state. A run of one state ends as that section says of the belief that holds it alone. Assumes nothing.
 use mathlib.Core.Path.{_≡_, refl, sym, ap, _∙_, subst}
-use mathlib.Core.Bool.{Bool, true, false, cond, false≢true}
+use mathlib.Core.Bool.{Bool, true, false, false≢true}
 use mathlib.Core.Logic.{_↔_}
 use mathlib.Core.List.{List, [], _∷_, _++_, append-nil}
-use Prim.Native.Nat.{ℕ, zero, suc, _+_, _-_, _*_, _^_, _≤_, _<_}
-use native.Mathlib.Nat.{pow-suc, mod-eq-of-lt, mul-add-mod-self-right, mul-add-div-right, not-suc-le-zero}
+use Prim.Native.Nat.{ℕ, zero, suc, _+_, _-_, _^_, _≤_, _<_}
 use native.Mathlib.Omega.{arith}
 use lib.ListN.{length, getD}
 use lib.Seq.{ext-getD}
-use lib.Dec.{eqb}
-use lib.Arith.{digits-div}
-use lib.Pow.{pow-pos, pow-add}
+use lib.Pow.{pow-pos}
 use Rattle.model.specs.Kleene.{two}
 use Rattle.model.specs.Formula.{Formula, eval}
 use Rattle.model.specs.Action.{Action, tabulate, applicable, next, step}
@@ -20,7 +17,8 @@ use Rattle.model.specs.Case.{bit, stateOf, Task, runOf, initially, IsSta
 use Rattle.model.specs.Belief.{Belief, Entails, ApplicableIn, only, Image, after, Applicable, Solution, initialBelief, Blocks, OutcomeMeans}
 use Rattle.model.proofs.Laws.Tabulate.{length-tabulate, getD-tabulate}
 use Rattle.model.proofs.Laws.Agreement.{goes-on-reached, at-end-reached}
-use Rattle.model.proofs.Laws.Cover.{Block, mod-of-block}
+use Rattle.model.proofs.Laws.Cover.{Block, rescale, mod-of-block, root-block, root-span, agree}
+use Rattle.model.proofs.Laws.Splitting.{part, part-in, part-block, part-bit}
 
 module _ (n : ℕ) where
   step-image : (a : Action) (B : Belief) (s : List Bool) → B s → Image n a B (step two n a s)
@@ -172,86 +170,66 @@ module _ (n : ℕ) (goal : Formula) where
 
 -- ---- the number of a state
 
-unfoldable pub number : ℕ → List Bool → ℕ
-number zero c = 0
-number (suc w) [] = 0
-number (suc w) (b ∷ c) = cond b (2 ^ w) 0 + number w c
+-- in the case (k, v), a number whose next values are those of c, and that has no bit set past them
+record Numbered (w k v : ℕ) (c : List Bool) : Type 0 where
+  pub number : ℕ
+  pub block : Block w (k + length c) number
+  pub low : v ≤ number
+  pub high : number < v + 2 ^ (w - k)
+  pub bits : (i : ℕ) → i < length c → bit w number (k + i) ≡ getD c i false
 
-number-lt : (w : ℕ) (c : List Bool) → number w c < 2 ^ w
-unfolding number
-number-lt zero c = omega arith
-number-lt (suc w) [] = pow-pos (suc w)
-number-lt (suc w) (true ∷ c) = rw pow-suc (omega (arith, number-lt w c))
-number-lt (suc w) (false ∷ c) = rw pow-suc (omega (arith, number-lt w c))
-
-cons-block : (w k v : ℕ) (b : Bool) → k ≤ w → Block w k v → Block (suc w) (suc k) (cond b (2 ^ w) 0 + v)
-cons-block w k v b h r = record { q = cond b (2 ^ k) 0 + r .q; is = by-head b }
+numbered : (w k v : ℕ) (c : List Bool) → k + length c ≤ w → Block w k v → Numbered w k v c
+numbered w k v [] h b =
+    record {
+      number = v;
+      block = rescale w k (k + 0) v (omega arith) h b;
+      low = omega arith;
+      high = omega (arith, pow-pos (w - k));
+      bits = λ i l. absurd (omega arith);
+    }
+numbered w k v (x ∷ c) h b =
+    let r = numbered w (suc k) (part w k v x) c (omega arith) (part-block w k v (omega arith) b x) in
+    let p = part-in w k v (omega arith) b x in
+    record {
+      number = r .number;
+      block = rescale w (suc k + length c) (k + suc (length c)) (r .number) (omega arith) h (r .block);
+      low = omega (arith, r .low);
+      high = omega (arith, r .high);
+      bits = bits r;
+    }
   where
-    e : suc w - suc k ≡ w - k
-    e = omega arith
-
-    f : 2 ^ w ≡ 2 ^ k * 2 ^ (w - k)
-    f = ap (λ (x : ℕ). 2 ^ x) (omega arith) ∙ pow-add 2 k (w - k)
-
-    by-head : (b : Bool) → cond b (2 ^ w) 0 + v ≡ (cond b (2 ^ k) 0 + r .q) * 2 ^ (suc w - suc k)
-    by-head true = rw e (omega (arith, f, r .is))
-    by-head false = rw e (omega (arith, r .is))
-
-number-block : (w : ℕ) (c : List Bool) → length c ≤ w → Block w (length c) (number w c)
-unfolding number
-number-block zero [] h = record { q = 0; is = omega arith }
-number-block zero (b ∷ c) h = absurd (omega arith)
-number-block (suc w) [] h = record { q = 0; is = omega arith }
-number-block (suc w) (b ∷ c) h = cons-block w (length c) (number w c) b (omega arith) (number-block w c (omega arith))
-
--- below the top bit
-low-bits : (w q r i : ℕ) → i < w → bit (suc w) (q * 2 ^ w + r) (suc i) ≡ bit w r i
-unfolding bit
-low-bits w q r i h =
-    let e : suc w - suc (suc i) ≡ w - suc i = omega arith in
-    let f : w ≡ suc i + (w - suc i) = omega arith in
-    let p : 2 ^ w ≡ (2 ^ i * 2) * 2 ^ (w - suc i) = ap (λ (x : ℕ). 2 ^ x) f ∙ pow-add 2 (suc i) (w - suc i) ∙ ap (λ (x : ℕ). x * 2 ^ (w - suc i)) (pow-suc 2 i) in
-    let g : q * 2 ^ w ≡ ((q * 2 ^ i) * 2) * 2 ^ (w - suc i) = ap (λ (x : ℕ). q * x) p ∙ omega arith in
-    rw (e, g, mul-add-div-right (pow-pos (w - suc i)), mul-add-mod-self-right)
-
-top-bit : (w q r : ℕ) → q < 2 → r < 2 ^ w → bit (suc w) (q * 2 ^ w + r) 0 ≡ eqb q 1
-unfolding bit
-top-bit w q r h l =
-    let e : suc w - suc 0 ≡ w = omega arith in
-    rw (e, digits-div q l, mod-eq-of-lt h)
-
-number-bit : (w : ℕ) (c : List Bool) (i : ℕ) → i < length c → length c ≤ w → bit w (number w c) i ≡ getD c i false
-unfolding number
-number-bit w [] i h l = absurd (not-suc-le-zero h)
-number-bit zero (b ∷ c) i h l = absurd (not-suc-le-zero l)
-number-bit (suc w) (true ∷ c) zero h l = subst (λ (x : ℕ). bit (suc w) x 0 ≡ true) (omega arith) (top-bit w 1 (number w c) (omega arith) (number-lt w c))
-number-bit (suc w) (false ∷ c) zero h l = subst (λ (x : ℕ). bit (suc w) x 0 ≡ false) (omega arith) (top-bit w 0 (number w c) (omega arith) (number-lt w c))
-number-bit (suc w) (true ∷ c) (suc i) h l = subst (λ (x : ℕ). bit (suc w) x (suc i) ≡ getD c i false) (omega arith) (low-bits w 1 (number w c) i (omega arith) ∙ number-bit w c i (omega arith) (omega arith))
-number-bit (suc w) (false ∷ c) (suc i) h l = subst (λ (x : ℕ). bit (suc w) x (suc i) ≡ getD c i false) (omega arith) (low-bits w 0 (number w c) i (omega arith) ∙ number-bit w c i (omega arith) (omega arith))
+    bits : (r : Numbered w (suc k) (part w k v x) c) (i : ℕ) → i < suc (length c) → bit w (r .number) (k + i) ≡ getD (x ∷ c) i false
+    bits r zero l =
+        let e : k + 0 ≡ k = omega arith in
+        rw e (agree w (suc k) (part w k v x) (r .number) k (omega arith) (part-block w k v (omega arith) b x) (r .low) (r .high) (omega arith)) ∙
+        part-bit w k v (omega arith) b x
+    bits r (suc i) l = let e : k + suc i ≡ suc k + i = omega arith in rw e (r .bits i (omega arith))
 
 module _ (T : Task) (n≤w : T .facts ≤ T .width) where
   -- a list of n values is a state
-  state-of-number : (c : List Bool) → length c ≡ T .facts → stateOf (T .width) (T .facts) (number (T .width) c) ≡ c
+  state : (c : List Bool) → length c ≡ T .facts → Numbered (T .width) 0 0 c
+  state c e = numbered (T .width) 0 0 c (omega arith) (root-block (T .width))
+
+  state-of-number : (c : List Bool) (e : length c ≡ T .facts) → stateOf (T .width) (T .facts) (state c e .number) ≡ c
   unfolding stateOf
   state-of-number c e =
       ext-getD false (tabulate (T .facts) _) c (length-tabulate (T .facts) _ ∙ sym e)
       (λ i h.
       let l : i < T .facts = rw (length-tabulate (T .facts) _) at h in
-      getD-tabulate (T .facts) (bit (T .width) (number (T .width) c)) i false l ∙ number-bit (T .width) c i (omega arith) (omega arith))
+      let z : 0 + i ≡ i = omega arith in
+      getD-tabulate (T .facts) (bit (T .width) (state c e .number)) i false l ∙ (rw z at (state c e .bits i (omega arith))))
 
   state-length : (s : ℕ) → length (stateOf (T .width) (T .facts) s) ≡ T .facts
   unfolding stateOf
   state-length s = length-tabulate (T .facts) _
 
-  starts : (c : List Bool) → initialBelief (T .facts) (T .initial) c → IsStart T (number (T .width) c)
+  starts : (c : List Bool) (b : initialBelief (T .facts) (T .initial) c) → IsStart T (state c (b .0) .number)
   unfolding initially
   starts c b =
+      let r = state c (b .0) in
+      let m : 0 + length c ≡ T .facts = omega arith in
       record {
-        state =
-            record {
-              in-width = number-lt (T .width) c;
-              no-bits = mod-of-block (T .width) (T .facts) _ (subst (λ (x : ℕ). Block (T .width) x (number (T .width) c)) (b .0) (number-block (T .width) c (omega arith)));
-            };
+        state = record { in-width = omega (arith, r .high, root-span (T .width)); no-bits = mod-of-block (T .width) (T .facts) _ (rw m at (r .block)) };
         starts = rw (state-of-number c (b .0)) (b .1);
       }
 
@@ -259,5 +237,5 @@ module _ (T : Task) (n≤w : T .facts ≤ T .width) where
   unfolding runOf initially
   solution-right = (
     (λ h s st. solution-runs (T .facts) (T .goal) (T .plan) 0 (initialBelief (T .facts) (T .initial)) h (stateOf (T .width) (T .facts) s) (state-length s, st .starts)),
-    λ r. runs-solution (T .facts) (T .goal) (T .plan) 0 (initialBelief (T .facts) (T .initial)) λ c b. rw (state-of-number c (b .0)) at (r (number (T .width) c) (starts c b)),
+    λ r. runs-solution (T .facts) (T .goal) (T .plan) 0 (initialBelief (T .facts) (T .initial)) λ c b. rw (state-of-number c (b .0)) at (r (state c (b .0) .number) (starts c b)),
   )
