@@ -6,6 +6,7 @@ use mathlib.Core.Logic.{_↔_}
 use mathlib.Core.List.{List, [], _∷_, _++_, append-nil}
 use Prim.Native.Nat.{ℕ, zero, suc, _+_, _-_, _^_, _≤_, _<_}
 use native.Mathlib.Omega.{arith}
+use native.Mathlib.Decide.{ℕ-discrete}
 use lib.ListN.{length, getD}
 use lib.Seq.{ext-getD}
 use lib.Pow.{pow-pos}
@@ -13,11 +14,11 @@ use Rattle.model.specs.Kleene.{two}
 use Rattle.model.specs.Formula.{Formula, eval}
 use Rattle.model.specs.Action.{Action, tabulate, applicable, next, step}
 use Rattle.model.specs.Run.{Outcome, reached, missed, blocked, atEnd, goesOn, run}
-use Rattle.model.specs.Case.{bit, stateOf, Task, runOf, initially, IsStart, Right}
+use Rattle.model.specs.Case.{bit, stateOf, Task, runOf, initially, IsState, Right}
 use Rattle.model.specs.Belief.{Belief, Entails, ApplicableIn, only, Image, after, Applicable, Solution, initialBelief, Blocks, OutcomeMeans}
 use Rattle.model.proofs.Laws.Tabulate.{length-tabulate, getD-tabulate}
 use Rattle.model.proofs.Laws.Agreement.{goes-on-reached, at-end-reached}
-use Rattle.model.proofs.Laws.Cover.{Block, rescale, mod-of-block, root-block, root-span, agree}
+use Rattle.model.proofs.Laws.Cover.{Block, mod-of-block, root-block, root-span, agree}
 use Rattle.model.proofs.Laws.Splitting.{part, part-in, part-block, part-bit}
 
 module _ (n : ℕ) where
@@ -152,90 +153,50 @@ module _ (n : ℕ) (goal : Formula) where
       rw (not-true (applicable two (b .action) t) (λ e. b .not-applicable (applicable-alone (after n B (b .before)) t l (b .action) .1 e)))
       (ap (λ x. blocked (record { step = x })) (omega (arith, b .at)))))
 
-  means-run : (plan : List Action) (s : List Bool) (o : Outcome) → OutcomeMeans n s goal plan o → run two n goal plan 0 s ≡ o
-  means-run plan s reached m = solution-runs n goal plan 0 (only s) m s refl
-  means-run plan s missed m = misses plan (only s) s (only-alone s) (m .0) (m .1)
-  means-run plan s (blocked p) m = stops plan (p .step) (only s) s (only-alone s) m
-
-  from-0 : (plan : List Action) (s : List Bool) (o : Outcome) → MeansFrom (only s) plan 0 o → OutcomeMeans n s goal plan o
-  from-0 plan s reached m = m
-  from-0 plan s missed m = m
-  from-0 plan s (blocked p) m = subst (Blocks n (only s) plan) (omega (arith, m .1)) (m .2)
-
   pub outcome-means : (plan : List Action) (s : List Bool) (o : Outcome) → (run two n goal plan 0 s ≡ o) ↔ OutcomeMeans n s goal plan o
-  outcome-means plan s o = (
-    (λ e. subst (OutcomeMeans n s goal plan) e (from-0 plan s (run two n goal plan 0 s) (run-means plan 0 (only s) s (only-alone s)))),
-    means-run plan s o,
+  outcome-means plan s reached = ((λ e. rw e at (run-means plan 0 (only s) s (only-alone s))), λ m. solution-runs n goal plan 0 (only s) m s refl)
+  outcome-means plan s missed = ((λ e. rw e at (run-means plan 0 (only s) s (only-alone s))), λ m. misses plan (only s) s (only-alone s) (m .0) (m .1))
+  outcome-means plan s (blocked p) = (
+    (λ e. let (j, i, b) = rw e at (run-means plan 0 (only s) s (only-alone s)) in subst (Blocks n (only s) plan) (omega arith) b),
+    λ m. stops plan (p .step) (only s) s (only-alone s) m,
   )
 
 -- ---- the number of a state
 
--- in the case (k, v), a number whose next values are those of c, and that has no bit set past them
-record Numbered (w k v : ℕ) (c : List Bool) : Type 0 where
-  pub number : ℕ
-  pub block : Block w (k + length c) number
-  pub low : v ≤ number
-  pub high : number < v + 2 ^ (w - k)
-  pub bits : (i : ℕ) → i < length c → bit w number (k + i) ≡ getD c i false
-
-numbered : (w k v : ℕ) (c : List Bool) → k + length c ≤ w → Block w k v → Numbered w k v c
-numbered w k v [] h b =
-    record {
-      number = v;
-      block = rescale w k (k + 0) v (omega arith) h b;
-      low = omega arith;
-      high = omega (arith, pow-pos (w - k));
-      bits = λ i l. absurd (omega arith);
-    }
-numbered w k v (x ∷ c) h b =
-    let r = numbered w (suc k) (part w k v x) c (omega arith) (part-block w k v (omega arith) b x) in
-    let p = part-in w k v (omega arith) b x in
-    record {
-      number = r .number;
-      block = rescale w (suc k + length c) (k + suc (length c)) (r .number) (omega arith) h (r .block);
-      low = omega (arith, r .low);
-      high = omega (arith, r .high);
-      bits = bits r;
-    }
-  where
-    bits : (r : Numbered w (suc k) (part w k v x) c) (i : ℕ) → i < suc (length c) → bit w (r .number) (k + i) ≡ getD (x ∷ c) i false
-    bits r zero l =
-        let e : k + 0 ≡ k = omega arith in
-        rw e (agree w (suc k) (part w k v x) (r .number) k (omega arith) (part-block w k v (omega arith) b x) (r .low) (r .high) (omega arith)) ∙
-        part-bit w k v (omega arith) b x
-    bits r (suc i) l = let e : k + suc i ≡ suc k + i = omega arith in rw e (r .bits i (omega arith))
-
 module _ (T : Task) (n≤w : T .facts ≤ T .width) where
-  -- a list of n values is a state
-  state : (c : List Bool) → length c ≡ T .facts → Numbered (T .width) 0 0 c
-  state c e = numbered (T .width) 0 0 c (omega arith) (root-block (T .width))
-
-  state-of-number : (c : List Bool) (e : length c ≡ T .facts) → stateOf (T .width) (T .facts) (state c e .number) ≡ c
+  -- a list of n values is a state: its number is in the case (k, v), whose facts have its values
+  numbered :
+      (c : List Bool) → length c ≡ T .facts → (d k v : ℕ) → k + d ≡ T .facts → Block (T .width) k v →
+      v + 2 ^ (T .width - k) ≤ 2 ^ T .width → ((i : ℕ) → i < k → bit (T .width) v i ≡ getD c i false) →
+      (s : ℕ) × IsState T s × (stateOf (T .width) (T .facts) s ≡ c)
   unfolding stateOf
-  state-of-number c e =
-      ext-getD false (tabulate (T .facts) _) c (length-tabulate (T .facts) _ ∙ sym e)
-      (λ i h.
-      let l : i < T .facts = rw (length-tabulate (T .facts) _) at h in
-      let z : 0 + i ≡ i = omega arith in
-      getD-tabulate (T .facts) (bit (T .width) (state c e .number)) i false l ∙ (rw z at (state c e .bits i (omega arith))))
-
-  state-length : (s : ℕ) → length (stateOf (T .width) (T .facts) s) ≡ T .facts
-  unfolding stateOf
-  state-length s = length-tabulate (T .facts) _
-
-  starts : (c : List Bool) (b : initialBelief (T .facts) (T .initial) c) → IsStart T (state c (b .0) .number)
-  unfolding initially
-  starts c b =
-      let r = state c (b .0) in
-      let m : 0 + length c ≡ T .facts = omega arith in
-      record {
-        state = record { in-width = omega (arith, r .high, root-span (T .width)); no-bits = mod-of-block (T .width) (T .facts) _ (rw m at (r .block)) };
-        starts = rw (state-of-number c (b .0)) (b .1);
-      }
+  numbered c e zero k v f b h g =
+      let i : k ≡ T .facts = omega arith in (
+        v,
+        record { in-width = omega (arith, pow-pos (T .width - k)); no-bits = mod-of-block (T .width) (T .facts) v (rw i at b) },
+        ext-getD false (tabulate (T .facts) _) c (length-tabulate (T .facts) _ ∙ sym e) λ i l.
+            let l′ : i < T .facts = rw (length-tabulate (T .facts) _) at l in
+            getD-tabulate (T .facts) (bit (T .width) v) i false l′ ∙ g i (omega arith),
+      )
+  numbered c e (suc d) k v f b h g =
+      let x = getD c k false in
+      let (low, high) = part-in (T .width) k v (omega arith) b x in
+      numbered c e d (suc k) (part (T .width) k v x) (omega arith) (part-block (T .width) k v (omega arith) b x) (omega arith) λ i l.
+      elim (ℕ-discrete i k) [
+        | yes p ↦ rw p (part-bit (T .width) k v (omega arith) b x)
+        | no p ↦
+            agree (T .width) k v (part (T .width) k v x) i (omega arith) b low (omega (arith, pow-pos (T .width - suc k))) (omega arith) ∙
+            g i (omega arith)
+      ]
 
   pub solution-right : Solution (T .facts) (initialBelief (T .facts) (T .initial)) (T .goal) (T .plan) ↔ Right T
-  unfolding runOf initially
+  unfolding runOf initially stateOf
   solution-right = (
-    (λ h s st. solution-runs (T .facts) (T .goal) (T .plan) 0 (initialBelief (T .facts) (T .initial)) h (stateOf (T .width) (T .facts) s) (state-length s, st .starts)),
-    λ r. runs-solution (T .facts) (T .goal) (T .plan) 0 (initialBelief (T .facts) (T .initial)) λ c b. rw (state-of-number c (b .0)) at (r (state c (b .0) .number) (starts c b)),
+    (λ h s st.
+        solution-runs (T .facts) (T .goal) (T .plan) 0 (initialBelief (T .facts) (T .initial)) h (stateOf (T .width) (T .facts) s)
+        (length-tabulate (T .facts) _, st .starts)),
+    λ r.
+        runs-solution (T .facts) (T .goal) (T .plan) 0 (initialBelief (T .facts) (T .initial)) λ c b.
+        let (s, st, e) = numbered c (b .0) (T .facts) 0 0 (omega arith) (root-block (T .width)) (omega (arith, root-span (T .width))) (λ i l. absurd (omega arith)) in
+        rw e at (r s (record { state = st; starts = rw e (b .1) })),
   )
