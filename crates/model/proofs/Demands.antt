@@ -14,7 +14,7 @@ use Rattle.model.specs.Operations.{taskOf, readTask, listFor, writeList}
 use Rattle.model.specs.WellFormed.{ProblemOk, PlanOk, Sensible}
 use Rattle.model.specs.Demands.{Demand1, Demands}
 use Rattle.model.proofs.Laws.Reading.{answer-got}
-use Rattle.model.proofs.Laws.ProblemCodec.{problem-got, problem-ok, plan-got, plan-ok}
+use Rattle.model.proofs.Laws.ProblemCodec.{problem-gives, problem-ok, plan-gives, plan-ok}
 use Rattle.model.proofs.Laws.ListCodec.{list-sound, list-accepted}
 use Rattle.model.proofs.Laws.Tasks.{task-fits}
 use Rattle.model.proofs.Laws.Judging.{verdicts}
@@ -39,8 +39,8 @@ module _ (F : Limits) (S : Sensible F) where
   unfolding problemOf planOf writeList
   reading =
       record {
-        problem-sound = λ s b p e. let (q, h) = answer-got (problem F s 0) e in problem-got F S s p q b h;
-        plan-sound = λ s b m steps e. let (q, h) = answer-got (plan s m 0) e in plan-got s m steps q b h;
+        problem-sound = λ s b p e. let (q, h) = answer-got (problem F s 0) e in problem-gives F S s b .of p q h;
+        plan-sound = λ s b m steps e. let (q, h) = answer-got (plan s m 0) e in plan-gives s m b .of steps q h;
         list-sound = list-sound F S;
         problem-accepted = problem-accepted;
         plan-accepted = plan-accepted;

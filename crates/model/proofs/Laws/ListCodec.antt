@@ -13,7 +13,7 @@ use Rattle.model.specs.Read.{got, andThen, _>>_, done, require, answerOf
 use Rattle.model.specs.ListBytes.{lineAt, linesFrom, caseList, listOf, lineBytes, linesBytes, encodeList}
 use Rattle.model.specs.WellFormed.{Bytes, Each, LineOk, ListOk, Sensible}
 use Rattle.model.specs.Stands.{Span, nothing, next}
-use Rattle.model.proofs.Laws.Reading.{then-got, answer-got, needed, carried, first, join, split, span-length, length-bytesOf, number-got, number-ok, length-block, header-got, header-ok}
+use Rattle.model.proofs.Laws.Reading.{answer-got, Gives, gives, reads, tests, first, join, split, span-length, length-bytesOf, number-got, number-ok, length-block, header-gives, header-ok}
 
 module _ (F : Limits) (sense : Sensible F) (s : List ℕ) where
   -- one line
@@ -72,17 +72,15 @@ module _ (F : Limits) (sense : Sensible F) (s : List ℕ) where
   length-lines (l ∷ ls) =
       rw (length-append (lineBytes F l) (linesBytes F ls), length-line l, length-lines ls) (omega (arith, suc-mul (length ls) (F .line)))
 
-  list-got : (ls : List Line) (q : ℕ) → Bytes s → caseList F s 0 ≡ got ls q → ListOk F ls × (s ≡ encodeList F ls)
+  list-gives : Bytes s → Gives (caseList F s 0) (λ ls q. ListOk F ls × (s ≡ encodeList F ls))
   unfolding caseList _>>_ done encodeList
-  list-got ls q sound h =
-      then-got h λ _ o h₁ h₂.
-      let (i, l, z, law) = header-got s 60 (5 + F .line * F .lines) (F .version) 0 sound h₁ in
-      needed _ _ _ _ _ h₂ λ t h₃.
+  list-gives sound =
+      reads (header-gives s 60 (5 + F .line * F .lines) (F .version) 0 sound) λ _ o (i, l, z, law).
+      tests _ _ _ _ _ λ t.
       let n = (length s - 5) / F .line in
       let e : n * F .line ≡ length s - 5 = omega (arith, div-add-mod' (length s - 5) (F .line), eqb-true ((length s - 5) % F .line) 0 t) in
       let (a, b, c) = lines-got n 5 (length s) sound (omega arith) (omega arith) in
-      carried (λ ls q. ListOk F ls × (s ≡ encodeList F ls)) h₃
-      (record { count = rw c (div-le-of-le-mul (F .line) (omega arith)); lines = a }, law _ b)
+      gives (record { count = rw c (div-le-of-le-mul (F .line) (omega arith)); lines = a }, law _ b)
 
   list-ok : (ls : List Line) → ListOk F ls → s ≡ encodeList F ls → caseList F s 0 ≡ got ls 5
   unfolding caseList _>>_ done encodeList andThen require
@@ -107,7 +105,7 @@ module _ (F : Limits) (sense : Sensible F) (s : List ℕ) where
 module _ (F : Limits) (sense : Sensible F) where
   pub list-sound : (s : List ℕ) → Bytes s → (ls : List Line) → listOf F s ≡ answered ls → ListOk F ls × (s ≡ encodeList F ls)
   unfolding listOf
-  list-sound s sound ls e = let (q, h) = answer-got (caseList F s 0) e in list-got F sense s ls q sound h
+  list-sound s sound ls e = let (q, h) = answer-got (caseList F s 0) e in list-gives F sense s sound .of ls q h
 
   pub list-accepted : (ls : List Line) → ListOk F ls → listOf F (encodeList F ls) ≡ answered ls
   unfolding listOf answerOf

@@ -27,9 +27,6 @@ then-got {x = got a m} h f = f a m refl h
 pub got-inj : {A : Type 0} {a b : A} {p q : ℕ} → got a p ≡ got b q → (a ≡ b) × (p ≡ q)
 got-inj h = (cc, cc)
 
-pub carried : {A : Type 0} {a b : A} {p q : ℕ} (P : A → ℕ → Type 0) → got a p ≡ got b q → P a p → P b q
-carried P h = subst₂ P (got-inj h .0) (got-inj h .1)
-
 pub both-true : (a b : Bool) → (a && b) ≡ true → (a ≡ true) × (b ≡ true)
 both-true true b h = (refl, h)
 both-true false true h = (h, refl)
@@ -42,6 +39,26 @@ pub needed :
 unfolding andThen require
 needed true n o p k h f = f refl h
 needed false n o p k h f = let z : _≡_ {A = ℕ} 0 1 = cc in absurd (omega arith)
+
+-- what a reader that succeeds gives
+pub record Gives {A : Type 0} (x : Read A) (P : A → ℕ → Type 0) : Type 0 where
+  pub of : (a : A) (q : ℕ) → x ≡ got a q → P a q
+
+module _ {B : Type 0} {Q : B → ℕ → Type 0} where
+  pub gives : {b : B} {p : ℕ} → Q b p → Gives (got b p) Q
+  gives x = record { of = λ a q e. subst₂ Q (got-inj e .0) (got-inj e .1) x }
+
+  pub reads :
+      {A : Type 0} {P : A → ℕ → Type 0} {x : Read A} {k : A → Reader B} → Gives x P →
+      ((a : A) (m : ℕ) → P a m → Gives (k a m) Q) → Gives (andThen x k) Q
+  reads f g = record { of = λ b q e. then-got e λ a m e₁ e₂. g a m (f .of a m e₁) .of b q e₂ }
+
+  -- a reader that ends with another
+  pub ends : {P : B → ℕ → Type 0} {x : Read B} → Gives x P → ((a : B) (q : ℕ) → P a q → Q a q) → Gives x Q
+  ends f g = record { of = λ a q e. g a q (f .of a q e) }
+
+  pub tests : (t : Bool) (n o p : ℕ) (k : Unit {0} → Reader B) → (t ≡ true → Gives (k tt p) Q) → Gives (andThen (require t n o p) k) Q
+  tests t n o p k f = record { of = λ b q e. needed t n o p k e λ i e₁. f i .of b q e₁ }
 
 pub answer-got : {A : Type 0} {a : A} (x : Read A) → answerOf x ≡ answered a → (q : ℕ) × (x ≡ got a q)
 unfolding answerOf
@@ -90,6 +107,12 @@ module _ {s : List ℕ} {end : ℕ} where
       go : (t : Bool) → ltb p end ≡ t → cond t (got (getD s p 0) (p + 1)) (reject number end) ≡ got b q → Span s end p (b ∷ []) q
       go true e h = next (ltb-true p end e) (got-inj h .0) (nothing (got-inj h .1))
       go false e h = let z : _≡_ {A = ℕ} 0 1 = cc in absurd (omega arith)
+
+  pub byte-gives : (number p : ℕ) → Gives (byte s end number p) (λ b q. Span s end p (b ∷ []) q)
+  byte-gives number p = record { of = λ b q e. byte-got number e }
+
+  pub small-byte : Bytes s → (number p : ℕ) → Gives (byte s end number p) (λ b q. Span s end p (b ∷ []) q × (b < 256))
+  small-byte sound number p = ends (byte-gives number p) λ b q r. (r, rw (first r .1) at (sound p))
 
   pub byte-ok : {b p q : ℕ} {xs : List ℕ} (number : ℕ) → Span s end p (b ∷ xs) q → byte s end number p ≡ got b (p + 1)
   unfolding byte
@@ -176,25 +199,27 @@ unfolding block
 length-block version body = rw (length-append (bytesOf 4 (length body)) body, length-bytesOf) (omega arith)
 
 module _ (s : List ℕ) (number most version p : ℕ) where
-  pub header-got :
-      {u : Unit {0}} {q : ℕ} → Bytes s → header s number most version p ≡ got u q →
+  pub header-gives :
+      Bytes s →
+      Gives (header s number most version p) λ _ q.
       (q ≡ 5) × (length s ≤ most) × (5 ≤ length s) × ((body : List ℕ) → Span s (length s) 5 body (length s) → s ≡ block version body)
   unfolding header _>>_ block
-  header-got b h =
-      needed _ _ _ _ _ h λ t₁ h₁.
-      needed _ _ _ _ _ h₁ λ t₂ h₂.
-      needed _ _ _ _ _ h₂ λ t₃ h₃.
-      needed _ _ _ _ _ h₃ λ t₄ h₄.
+  header-gives sound =
+      tests _ _ _ _ _ λ t₁.
+      tests _ _ _ _ _ λ t₂.
+      tests _ _ _ _ _ λ t₃.
+      tests _ _ _ _ _ λ t₄.
       let l = leb-true 5 (length s) t₂ in
-      let o : 0 < length s = omega arith in (
-        sym (got-inj h₄ .1),
+      let o : 0 < length s = omega arith in
+      gives (
+        refl,
         leb-true (length s) most t₁,
         l,
         λ body k.
             let e : bigEndian (take 4 (drop 1 s)) ≡ length body =
             omega (arith, eqb-true (bigEndian (take 4 (drop 1 s))) (length s - 5) t₄, span-length k)
             in
-            whole-is (next o (eqb-true _ _ t₃) (join (rw e at (number-got s 4 1 5 b (omega arith) l .1)) k)),
+            whole-is (next o (eqb-true _ _ t₃) (join (rw e at (number-got s 4 1 5 sound (omega arith) l .1)) k)),
       )
 
   pub header-ok :
@@ -219,15 +244,13 @@ module _ (s : List ℕ) (number most version p : ℕ) where
 
 -- counts
 module _ (s : List ℕ) (number low high p : ℕ) where
-  pub count-got : {n q : ℕ} → count s number low high p ≡ got n q → (low ≤ n) × (n ≤ high) × Span s (length s) p (n ∷ []) q
+  pub count-gives : Gives (count s number low high p) (λ n q. (low ≤ n) × (n ≤ high) × Span s (length s) p (n ∷ []) q)
   unfolding count _>>=_ _>>_ andThen position done
-  count-got {n} {q} h =
-      then-got h λ b m e h₁.
-      needed _ _ _ _ _ h₁ λ t h₂.
-      let (i, j) = got-inj h₂ in
+  count-gives =
+      reads (byte-gives 14 p) λ b m r.
+      tests _ _ _ _ _ λ t.
       let (l, u) = both-true (leb low b) (leb b high) t in
-      let r : Span s (length s) p (b ∷ []) m = byte-got 14 e in
-      (rw i at (leb-true low b l), rw i at (leb-true b high u), rw (i, j) at r)
+      gives (leb-true low b l, leb-true b high u, r)
 
   pub count-ok :
       {n q : ℕ} {xs : List ℕ} → low ≤ n → n ≤ high → Span s (length s) p (n ∷ xs) q → count s number low high p ≡ got n (p + 1)

@@ -17,7 +17,7 @@ use Rattle.model.specs.Read.{_>>=_, _>>_, done}
 use Rattle.model.specs.ProblemBytes.{Problem, ending, parts, body, problem, problemOf}
 use Rattle.model.specs.ListBytes.{listOf}
 use Rattle.model.specs.Operations.{isState, taskOf, readTask, runState, lineCount, judge, linesFor, listFor, followList}
-use Rattle.model.proofs.Laws.Reading.{then-got, got-inj, answer-got, count-got}
+use Rattle.model.proofs.Laws.Reading.{then-got, got-inj, answer-got, count-gives}
 
 -- what comes after an answer
 pub answer-then :
@@ -51,7 +51,7 @@ module _ (F : Limits) where
       then-got h₄ λ l p₅ e₅ h₅.
       then-got h₅ λ p₆ p₇ e₆ h₆.
       then-got h₆ λ u₁ p₈ e₈ h₈.
-      subst (λ (x : Problem). x .facts ≤ F .facts) (got-inj h₈ .0) (count-got s 15 1 (F .facts) p₀ e₁ .1)
+      subst (λ (x : Problem). x .facts ≤ F .facts) (got-inj h₈ .0) (count-gives s 15 1 (F .facts) p₀ .of n p₁ e₁ .1)
 
   -- the bounds that the demands need
   pub record Fits (T : Task) : Type 0 where
