@@ -1,7 +1,7 @@
 -- A relation between two logics that every connective keeps is kept by every reading, step and run. Two instances: a case that says
 -- more (`refining`), and a case with every fact fixed (`exact`). Assumes nothing.
 use mathlib.Core.Path.{_≡_, refl, sym, ap, ap₂, _∙_}
-use mathlib.Core.Bool.{Bool, true, false, _&&_, _||_, not}
+use mathlib.Core.Bool.{Bool, true, false}
 use mathlib.Core.List.{List, [], _∷_}
 use Prim.Native.Nat.{ℕ, zero, suc, _<_, suc-le-suc}
 use lib.ListN.{getD}
@@ -116,19 +116,18 @@ pub data Refines : Kleene → Kleene → Type 0 where
   same : {t : Kleene} → Refines t t
   wider : {t : Kleene} → Refines Unknown t
 
-both-wider : (b t : Kleene) → Refines (both Unknown t) (both b t)
-both-wider No No = same
-both-wider Unknown No = same
-both-wider Yes No = same
-both-wider b Unknown = wider
-both-wider b Yes = wider
+both-wider : (t u : Kleene) → Refines (both t Unknown) (both t u)
+both-wider No u = same
+both-wider Unknown u = wider
+both-wider Yes u = wider
+
+both-comm : (x y : Kleene) → both x y ≡ both y x
+both-comm = by-table both (λ x y. both y x) refl
 
 both-refines : {x x′ y y′ : Kleene} → Refines x y → Refines x′ y′ → Refines (both x x′) (both y y′)
-both-refines (same {t = No}) r = same
-both-refines (same {t = Yes}) r = r
-both-refines (same {t = Unknown}) same = same
-both-refines (same {t = Unknown}) wider = wider
-both-refines (wider {t = b}) (same {t}) = both-wider b t
+both-refines same same = same
+both-refines (same {t}) (wider {t = u}) = both-wider t u
+both-refines (wider {t = u}) (same {t}) = rw (both-comm Unknown t, both-comm u t) (both-wider t u)
 both-refines wider wider = wider
 
 denied-refines : {x y : Kleene} → Refines x y → Refines (denied x) (denied y)
@@ -155,18 +154,6 @@ refines-yes x y wider e = cc
 abbrev pub Exact : Kleene → Bool → Type 0
 Exact t b = t ≡ known b
 
-both-exact : (b b′ : Bool) → both (known b) (known b′) ≡ known (b && b′)
-both-exact true b′ = refl
-both-exact false b′ = refl
-
-either-exact : (b b′ : Bool) → either (known b) (known b′) ≡ known (b || b′)
-either-exact true b′ = refl
-either-exact false b′ = refl
-
-denied-exact : (b : Bool) → denied (known b) ≡ known (not b)
-denied-exact true = refl
-denied-exact false = refl
-
 pub yes-exact : (b : Bool) → isYes (known b) ≡ b
 yes-exact true = refl
 yes-exact false = refl
@@ -176,9 +163,9 @@ exact =
     record {
       always = refl;
       never = refl;
-      both = λ {x} {x′} {y} {y′} p q. ap₂ both p q ∙ both-exact y y′;
-      either = λ {x} {x′} {y} {y′} p q. ap₂ either p q ∙ either-exact y y′;
-      denied = λ {x} {y} p. ap denied p ∙ denied-exact y;
+      both = λ {x} {x′} {y} {y′} p q. rw (p, q) (elim y [ true ↦ refl | false ↦ refl ]);
+      either = λ {x} {x′} {y} {y′} p q. rw (p, q) (elim y [ true ↦ refl | false ↦ refl ]);
+      denied = λ {x} {y} p. rw p (elim y [ true ↦ refl | false ↦ refl ]);
     }
 
 pub known-inj : {b b′ : Bool} → known b ≡ known b′ → b ≡ b′

@@ -7,7 +7,7 @@ use native.Mathlib.Omega.{arith}
 use lib.ListN.{length}
 use borrow.Author.Tests.{ltb-false, le-ltb, eqb-true, eq-eqb, not-false}
 use Rattle.model.specs.Answer.{Answer, answered}
-use Rattle.model.specs.Walk.{Kind, empty, carries, kindNumber, Look, closed, opened, Line}
+use Rattle.model.specs.Walk.{empty, carries, Look, closed, opened, Line}
 use Rattle.model.specs.CaseList.{claims, first, refuseAt, ends, fault, follow}
 use Rattle.model.specs.WellFormed.{LineHolds}
 use Rattle.model.proofs.Laws.Cover.{Follows}
@@ -27,13 +27,10 @@ unfolding ends
 ends-answered true i m e = (refl, cc)
 ends-answered false i m e = (cc, cc)
 
-kind-le : (κ : Kind) → kindNumber κ ≤ 1
-kind-le empty = omega arith
-kind-le carries = omega arith
-
 -- what is claimed is of a kind
 pub claimed-le : (d : ℕ) (l : Look) → claims d l ≡ true → d ≤ 1
-claimed-le d (closed κ) e = rw (eqb-true d (kindNumber κ) e) (kind-le κ)
+claimed-le d (closed empty) e = omega (arith, eqb-true d 0 e)
+claimed-le d (closed carries) e = omega (arith, eqb-true d 1 e)
 claimed-le d opened e = absurd (false≢true e)
 
 module _ (w : ℕ) (look : ℕ → ℕ → Look) (n : ℕ) where

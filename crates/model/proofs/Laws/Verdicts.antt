@@ -6,15 +6,16 @@ use mathlib.Core.Logic.{_≢_, _⊎_, inl, inr}
 use mathlib.Core.List.{List, [], append-nil}
 use Prim.Native.Nat.{ℕ, suc, _+_, _-_, _*_, _^_, _≤_, _<_, zero-le}
 use native.Mathlib.Omega.{arith}
-use lib.Dec.{leb, ltb}
+use native.Mathlib.Decide.{decLe}
+use lib.Dec.{ltb}
 use lib.ListN.{length}
-use borrow.Author.Tests.{lt-ltb, le-leb, leb-true, leb-false, ltb-true}
+use borrow.Author.Tests.{lt-ltb, le-leb, lt-leb, ltb-true}
 use Rattle.model.specs.Kleene.{Kleene, No, Unknown, Yes, isYes, known, two, three}
 use Rattle.model.specs.Formula.{Formula, eval}
 use Rattle.model.specs.Action.{Action}
 use Rattle.model.specs.Run.{Outcome, reached, missed, blocked, run}
 use Rattle.model.specs.Case.{bit, stateOf, caseOf, Task, runOf, initially, Right}
-use Rattle.model.specs.Walk.{Kind, closed, opened, Line, Walked, covered, failed, visits, lookOf, lookEnd, Verdict, right, wrong, undecided, initialAt, runAt, lookAt, walked, found, granted, judged}
+use Rattle.model.specs.Walk.{Kind, closed, opened, Line, Walked, covered, failed, visits, lookOf, lookEnd, Verdict, right, wrong, undecided, initialAt, runAt, lookAt, walked, found, judged}
 use Rattle.model.specs.Demands.{LowestFailing}
 use Rattle.model.proofs.Laws.Agreement.{Along, eval-keeps, tabulate-keeps, run-keeps, run-same, Refines, same, wider, refining, refines-yes, Exact, exact, yes-exact, known-inj, refines-known}
 use Rattle.model.proofs.Laws.Cover.{Block, agree, Closes, Traced, walk-traced, fails-at, covering, Follows, closes-follows, closes-visits, fewest, root-block, root-span, mod-of-block}
@@ -84,6 +85,10 @@ look-open Yes r e (inr p) = let z : _≡_ {A = ℕ} 0 1 = cc in omega arith
 not-no : (b : Bool) → (known b ≡ No → ⊥) → b ≡ true
 not-no true h = refl
 not-no false h = absurd (h refl)
+
+pub walk-ends : (r : Walked) → ((ls : List Line) × (a : ℕ) × (r ≡ covered ls a)) ⊎ ((s : ℕ) × (a : ℕ) × (r ≡ failed s a))
+walk-ends (covered ls a) = inl (ls, a, refl)
+walk-ends (failed s a) = inr (s, a, refl)
 
 module _ (T : Task) (n≤w : T .facts ≤ T .width) where
   -- what a closed case admits is closed
@@ -156,13 +161,20 @@ module _ (T : Task) (n≤w : T .facts ≤ T .width) where
       fewest (T .width) (lookAt T) (T .facts) n≤w (λ k v k′ v′ κ h h′ b l g c o. look-open (initialAt T k′ v′) (runAt T k′ v′) o (shut k v k′ v′ κ h h′ b l g c)) ms f
       (walk-meant (covered ls a) e)
 
-  pub larger-grant : (g g′ : ℕ) → g ≤ g′ → judged T g ≢ undecided g → judged T g′ ≡ judged T g
+  pub judged-out : (g : ℕ) → g < visits (walked T) → judged T g ≡ undecided g
   unfolding judged
-  larger-grant g g′ h d = by-cases (leb (visits (walked T)) g) refl
-    where
-      by-cases : (b : Bool) → leb (visits (walked T)) g ≡ b → granted T g′ (walked T) ≡ granted T g (walked T)
-      by-cases true e = rw (e, le-leb (visits (walked T)) g′ (omega (arith, leb-true (visits (walked T)) g e)))
-      by-cases false e = absurd (d (rw e))
+  judged-out g h = rw (lt-leb (visits (walked T)) g h)
+
+  pub judged-in : (g : ℕ) (r : Walked) → walked T ≡ r → visits (walked T) ≤ g → judged T g ≡ found T r
+  unfolding judged
+  judged-in g r e h = rw (le-leb (visits (walked T)) g h, e)
+
+  pub larger-grant : (g g′ : ℕ) → g ≤ g′ → judged T g ≢ undecided g → judged T g′ ≡ judged T g
+  larger-grant g g′ h d =
+      elim (decLe (visits (walked T)) g) [
+        | yes l ↦ rw (judged-in g (walked T) refl l, judged-in g′ (walked T) refl (omega arith))
+        | no l ↦ absurd (d (judged-out g (omega arith)))
+      ]
 
   -- what a verdict means
   abbrev pub Means : ℕ → Walked → Verdict (List Line) → Type 0
@@ -171,20 +183,20 @@ module _ (T : Task) (n≤w : T .facts ≤ T .width) where
   Means g r (undecided m) = (m ≡ g) × (g < visits r)
 
   pub judged-means : (g : ℕ) → Means g (walked T) (judged T g)
-  unfolding judged
-  judged-means g = by-cases (walked T) refl (leb (visits (walked T)) g) refl
-    where
-      by-cases : (r : Walked) → walked T ≡ r → (b : Bool) → leb (visits (walked T)) g ≡ b → Means g (walked T) (cond (leb (visits (walked T)) g) (found T (walked T)) (undecided g))
-      by-cases (covered ls a) e true f =
-          let l = leb-true (visits (walked T)) g f in
-          rw (f, e) (refl, walk-closes-right ls a e, walk-visits ls a e, rw e at l)
-      by-cases (failed s a) e true f = let l = leb-true (visits (walked T)) g f in rw (f, e) (refl, walk-fails-first s a e, refl, rw e at l)
-      by-cases r e false f = rw f (refl, leb-false (visits (walked T)) g f)
+  judged-means g =
+      elim (decLe (visits (walked T)) g) [
+        | yes l ↦
+            elim (walk-ends (walked T)) [
+              | inl (ls, a, e) ↦ rw (judged-in g (covered ls a) e l) (e, walk-closes-right ls a e, walk-visits ls a e, rw e at l)
+              | inr (s, a, e) ↦ rw (judged-in g (failed s a) e l) (e, walk-fails-first s a e, refl, rw e at l)
+            ]
+        | no l ↦ rw (judged-out g (omega arith)) (refl, omega arith)
+      ]
 
   -- the walk closes everything exactly where the plan is right
   pub right-closes : Right T → (ls : List Line) × (a : ℕ) × (walked T ≡ covered ls a)
-  right-closes r = by-cases (walked T) refl
-    where
-      by-cases : (x : Walked) → walked T ≡ x → (ls : List Line) × (a : ℕ) × (walked T ≡ covered ls a)
-      by-cases (covered ls a) e = (ls, a, e)
-      by-cases (failed s a) e = let f = walk-fails-first s a e in absurd (f .not-reached (r s (f .start)))
+  right-closes r =
+      elim (walk-ends (walked T)) [
+        | inl c ↦ c
+        | inr (s, a, e) ↦ let f = walk-fails-first s a e in absurd (f .not-reached (r s (f .start)))
+      ]
