@@ -1,6 +1,6 @@
 -- The walk as a tree of cases, and lists of lines as covers of all numbers: what is closed is covered, the walk's lines pass, and no
 -- list that passes has fewer. The width, the fact count and the look are parameters. Assumes nothing.
-use mathlib.Core.Path.{_≡_, refl, sym, ap, _∙_, subst}
+use mathlib.Core.Path.{_≡_, refl, sym, ap, _∙_}
 use mathlib.Core.Bool.{true, false≢true}
 use mathlib.Core.List.{List, [], _∷_, _++_, append-assoc}
 use Prim.Native.Nat.{ℕ, zero, suc, _+_, _-_, _*_, _/_, _%_, _^_, _≤_, _<_, zero-le}
@@ -87,106 +87,112 @@ pub claimed : (d : ℕ) (l : Look) → claims d l ≡ true → (κ : Kind) × (l
 claimed d (closed κ) e = (κ, refl)
 claimed d opened e = absurd (false≢true e)
 
--- ---- what the walk met, as a tree
+-- ---- lists of lines
 
-module _ (w : ℕ) (look : ℕ → ℕ → Look) where
-  pub data Closes : ℕ → ℕ → ℕ → List Line → ℕ → Type 0 where
-    leaf : {d k v : ℕ} {κ : Kind} → look k v ≡ closed κ → Closes d k v (line κ k v ∷ []) 1
-    node : {d k v a b : ℕ} {ls ms : List Line} → look k v ≡ opened → Closes d (suc k) v ls a → Closes d (suc k) (v + 2 ^ (w - suc k)) ms b
-        → Closes (suc d) k v (ls ++ ms) (suc (a + b))
-
-  pub data Fails : ℕ → ℕ → ℕ → ℕ → Type 0 where
-    here : {k v : ℕ} → look k v ≡ opened → Fails zero k v v
-    left : {d k v s : ℕ} → look k v ≡ opened → Fails d (suc k) v s → Fails (suc d) k v s
-    right : {d k v s a : ℕ} {ls : List Line} → look k v ≡ opened → Closes d (suc k) v ls a → Fails d (suc k) (v + 2 ^ (w - suc k)) s → Fails (suc d) k v s
-
-  abbrev pub Traced : ℕ → ℕ → ℕ → Walked → Type 0
-  Traced d k v (covered ls a) = Closes d k v ls a
-  Traced d k v (failed s a) = Fails d k v s
-
-  joined : (d k v : ℕ) → look k v ≡ opened → (r t : Walked) → Traced d (suc k) v r → Traced d (suc k) (v + 2 ^ (w - suc k)) t → Traced (suc d) k v (join r t)
-  joined d k v e (covered ls a) (covered ms b) x y = node e x y
-  joined d k v e (covered ls a) (failed s b) x y = right e x y
-  joined d k v e (failed s a) t x y = left e x
-
-  traced : (d : ℕ) (l : Look) (k v : ℕ) → look k v ≡ l → Traced d k v (walkFrom w look d l k v)
-  unfolding walkFrom
-  traced zero (closed κ) k v e = leaf e
-  traced zero opened k v e = here e
-  traced (suc d) (closed κ) k v e = leaf e
-  traced (suc d) opened k v e =
-      let m = v + 2 ^ (w - suc k) in
-      joined d k v e (walkFrom w look d (look (suc k) v) (suc k) v) (walkFrom w look d (look (suc k) m) (suc k) m) (traced d _ (suc k) v refl) (traced d _ (suc k) m refl)
-
-  pub walk-traced : (n : ℕ) → Traced n 0 0 (walk w look n)
-  unfolding walk
-  walk-traced n = traced n _ 0 0 refl
-
-  -- visits are twice the lines less one
-  pub closes-visits : {d k v a : ℕ} {ls : List Line} → Closes d k v ls a → suc a ≡ 2 * length ls
-  closes-visits (leaf e) = refl
-  closes-visits (node {ls} {ms} e x y) = rw (length-append ls ms) (omega (arith, closes-visits x, closes-visits y))
-
-  module _ (n : ℕ) (n≤w : n ≤ w) (Good : ℕ → Type 0)
-      (good : (k v s : ℕ) (κ : Kind) → k ≤ n → Block w k v → look k v ≡ closed κ → v ≤ s → s < v + 2 ^ (w - k) → Good s) where
-    pub closes-good : {d k v a : ℕ} {ls : List Line} → Closes d k v ls a → k + d ≡ n → Block w k v → (s : ℕ) → v ≤ s → s < v + 2 ^ (w - k) → Good s
-    closes-good {d} {k} {v} (leaf {κ} e) f b s l h = good k v s κ (omega arith) b e l h
-    closes-good (node {d} {k} {v} e x y) f b s l h =
-        elim (decLt s (v + 2 ^ (w - suc k))) [
-          | yes g ↦ closes-good x (omega arith) (rescale w k (suc k) v (omega arith) (omega arith) b) s l g
-          | no g ↦ closes-good y (omega arith) (next-block w (suc k) v (rescale w k (suc k) v (omega arith) (omega arith) b)) s (omega arith) (omega (arith, pow-half w k (omega arith)))
-        ]
-
-    pub record FailsAt (s : ℕ) : Type 0 where
-      pub is-open : look n s ≡ opened
-      pub block : Block w n s
-      pub high : s < 2 ^ w
-      pub before : (t : ℕ) → t < s → Good t
-
-    pub fails-at : {d k v s : ℕ} → Fails d k v s → k + d ≡ n → Block w k v → v + 2 ^ (w - k) ≤ 2 ^ w → ((t : ℕ) → t < v → Good t) → FailsAt s
-    fails-at (here {k} {v} e) f b h g =
-        let k≡n : k ≡ n = omega arith in
-        record { is-open = rw k≡n at e; block = rw k≡n at b; high = omega (arith, pow-pos (w - k)); before = g }
-    fails-at (left {d} {k} {v} e x) f b h g =
-        fails-at x (omega arith) (rescale w k (suc k) v (omega arith) (omega arith) b) (omega (arith, pow-half w k (omega arith))) g
-    fails-at (right {d} {k} {v} e x y) f b h g =
-        let c = rescale w k (suc k) v (omega arith) (omega arith) b in
-        fails-at y (omega arith) (next-block w (suc k) v c) (omega (arith, pow-half w k (omega arith))) λ t l.
-        elim (decLt t v) [ yes p ↦ g t p | no p ↦ closes-good x (omega arith) c t (omega arith) l ]
-
-  -- ---- lists of lines
-
+module _ (w : ℕ) (look : ℕ → ℕ → Look) (n : ℕ) where
   -- the lines follow one another from x to the end, and each holds
-  abbrev pub Follows : ℕ → List Line → ℕ → Type 0
-  Follows n ls x = Joined w ls x × Each (LineHolds w look n) ls
+  abbrev pub Follows : List Line → ℕ → Type 0
+  Follows ls x = Joined w ls x × Each (LineHolds w look n) ls
 
-  module _ (n : ℕ) where
-    pub data Starts (x : ℕ) : List Line → Type 0 where
-      first : {l : Line} {ls : List Line} → l .value ≡ x → Starts x (l ∷ ls)
-      later : {l : Line} {ls : List Line} → Starts x ls → Starts x (l ∷ ls)
+  pub data Starts (x : ℕ) : List Line → Type 0 where
+    first : {l : Line} {ls : List Line} → l .value ≡ x → Starts x (l ∷ ls)
+    later : {l : Line} {ls : List Line} → Starts x ls → Starts x (l ∷ ls)
 
-    -- each number from x on is covered by a line
-    pub covering :
-        {C : Type 0} (ls : List Line) (x : ℕ) → Follows n ls x → (s : ℕ) → x ≤ s → s < 2 ^ w →
-        ((k v : ℕ) (κ : Kind) → Starts v ls → k ≤ n → Block w k v → look k v ≡ closed κ → v ≤ s → s < v + 2 ^ (w - k) → C) → C
-    covering [] x f s l h c = absurd (omega arith)
-    covering (m ∷ ls) x f s l h c =
-        elim (decLt s (x + 2 ^ (w - m .k))) [
-          | yes g ↦
-              let (κ, e) = claimed (m .kind) _ (f .1 .0 .claim) in
-              c (m .k) (m .value) κ (first refl) (f .1 .0 .k-fits) (block-of-mod w _ _ (f .1 .0 .no-bits)) e (omega arith) (omega arith)
-          | no g ↦ covering ls (x + 2 ^ (w - m .k)) (f .0 .1, f .1 .1) s (omega arith) h (λ k v κ st. c k v κ (later st))
-        ]
+  -- each number from x on is covered by a line
+  pub covering :
+      {C : Type 0} (ls : List Line) (x : ℕ) → Follows ls x → (s : ℕ) → x ≤ s → s < 2 ^ w →
+      ((k v : ℕ) (κ : Kind) → Starts v ls → k ≤ n → Block w k v → look k v ≡ closed κ → v ≤ s → s < v + 2 ^ (w - k) → C) → C
+  covering [] x f s l h c = absurd (omega arith)
+  covering (m ∷ ls) x f s l h c =
+      elim (decLt s (x + 2 ^ (w - m .k))) [
+        | yes g ↦
+            let (κ, e) = claimed (m .kind) _ (f .1 .0 .claim) in
+            let b = block-of-mod w (m .k) (m .value) (f .1 .0 .no-bits) in
+            c (m .k) (m .value) κ (first refl) (f .1 .0 .k-fits) b e (omega arith) (omega arith)
+        | no g ↦ covering ls (x + 2 ^ (w - m .k)) (f .0 .1, f .1 .1) s (omega arith) h (λ k v κ st. c k v κ (later st))
+      ]
+
+  -- ---- what the walk met, as a tree
+
+  pub data Closes : ℕ → ℕ → List Line → ℕ → Type 0 where
+    leaf : {k v : ℕ} {κ : Kind} → k ≤ n → Block w k v → look k v ≡ closed κ → Closes k v (line κ k v ∷ []) 1
+    node : {k v a b : ℕ} {ls ms : List Line} → k < n → Block w k v → look k v ≡ opened → Closes (suc k) v ls a
+        → Closes (suc k) (v + 2 ^ (w - suc k)) ms b → Closes k v (ls ++ ms) (suc (a + b))
+
+  pub data Fails : ℕ → ℕ → ℕ → Type 0 where
+    here : {k v : ℕ} → k ≡ n → Block w k v → v < 2 ^ w → look k v ≡ opened → Fails k v v
+    left : {k v s : ℕ} → Fails (suc k) v s → Fails k v s
+    right : {k v s a : ℕ} {ls : List Line} → Closes (suc k) v ls a → Fails (suc k) (v + 2 ^ (w - suc k)) s → Fails k v s
+
+  abbrev pub Traced : ℕ → ℕ → Walked → Type 0
+  Traced k v (covered ls a) = Closes k v ls a
+  Traced k v (failed s a) = Fails k v s
+
+  joined :
+      (k v : ℕ) → k < n → Block w k v → look k v ≡ opened → (r t : Walked) → Traced (suc k) v r →
+      Traced (suc k) (v + 2 ^ (w - suc k)) t → Traced k v (join r t)
+  joined k v h b e (covered ls a) (covered ms c) x y = node h b e x y
+  joined k v h b e (covered ls a) (failed s c) x y = right x y
+  joined k v h b e (failed s a) t x y = left x
+
+  module _ (n≤w : n ≤ w) where
+    traced :
+        (d : ℕ) (l : Look) (k v : ℕ) → k + d ≡ n → Block w k v → v + 2 ^ (w - k) ≤ 2 ^ w → look k v ≡ l →
+        Traced k v (walkFrom w look d l k v)
+    unfolding walkFrom
+    traced zero (closed κ) k v f b h e = leaf {k = k} (omega arith) b e
+    traced zero opened k v f b h e = here {k = k} (omega arith) b (omega (arith, pow-pos (w - k))) e
+    traced (suc d) (closed κ) k v f b h e = leaf {k = k} (omega arith) b e
+    traced (suc d) opened k v f b h e =
+        let m = v + 2 ^ (w - suc k) in
+        let c = rescale w k (suc k) v (omega arith) (omega arith) b in
+        let p = pow-half w k (omega arith) in
+        joined k v (omega arith) b e (walkFrom w look d (look (suc k) v) (suc k) v) (walkFrom w look d (look (suc k) m) (suc k) m)
+        (traced d _ (suc k) v (omega arith) c (omega arith) refl)
+        (traced d _ (suc k) m (omega arith) (next-block w (suc k) v c) (omega arith) refl)
+
+    pub walk-traced : Traced 0 0 (walk w look n)
+    unfolding walk
+    walk-traced = traced n _ 0 0 (omega arith) (root-block w) (omega (arith, root-span w)) refl
+
+    -- visits are twice the lines less one
+    pub closes-visits : {k v a : ℕ} {ls : List Line} → Closes k v ls a → suc a ≡ 2 * length ls
+    closes-visits (leaf h b e) = refl
+    closes-visits (node {ls} {ms} h b e x y) = rw (length-append ls ms) (omega (arith, closes-visits x, closes-visits y))
 
     -- the walk's lines pass
-    pub closes-follows : n ≤ w → {d k v a : ℕ} {ls : List Line} → Closes d k v ls a → k + d ≡ n → Block w k v → (rest : List Line) → Follows n rest (v + 2 ^ (w - k))
-        → Follows n (ls ++ rest) v
-    closes-follows nw {d} {k} {v} (leaf {κ} e) f b rest g = ((refl, g .0), (record { k-fits = omega arith; no-bits = mod-of-block w k v b; claim = rw e (eq-eqb (kindNumber κ) (kindNumber κ) refl) }, g .1))
-    closes-follows nw (node {d} {k} {v} {ls} {ms} e x y) f b rest g =
-        let c = rescale w k (suc k) v (omega arith) (omega arith) b in
-        rw (append-assoc ls ms rest)
-        (closes-follows nw x (omega arith) c (ms ++ rest)
-        (closes-follows nw y (omega arith) (next-block w (suc k) v c) rest (subst (Follows n rest) (omega (arith, pow-half w k (omega arith))) g)))
+    pub closes-follows :
+        {k v a : ℕ} {ls : List Line} → Closes k v ls a → (rest : List Line) → Follows rest (v + 2 ^ (w - k)) → Follows (ls ++ rest) v
+    closes-follows (leaf {k} {v} {κ} h b e) rest g =
+        let l : LineHolds w look n (line κ k v) =
+        record { k-fits = h; no-bits = mod-of-block w k v b; claim = rw e (eq-eqb (kindNumber κ) (kindNumber κ) refl) }
+        in
+        ((refl, g .0), (l, g .1))
+    closes-follows (node {k} {v} {ls} {ms} h b e x y) rest g =
+        let i : v + 2 ^ (w - k) ≡ v + 2 ^ (w - suc k) + 2 ^ (w - suc k) = omega (arith, pow-half w k (omega arith)) in
+        rw (append-assoc ls ms rest) (closes-follows x (ms ++ rest) (closes-follows y rest (rw i at g)))
+
+    module _ (Good : ℕ → Type 0)
+        (good : (k v s : ℕ) (κ : Kind) → k ≤ n → Block w k v → look k v ≡ closed κ → v ≤ s → s < v + 2 ^ (w - k) → Good s) where
+      closes-good : {k v a : ℕ} {ls : List Line} → Closes k v ls a → (s : ℕ) → v ≤ s → s < v + 2 ^ (w - k) → Good s
+      closes-good (leaf {k} {v} {κ} h b e) s l g = good k v s κ h b e l g
+      closes-good (node {k} {v} h b e x y) s l g =
+          elim (decLt s (v + 2 ^ (w - suc k))) [
+            | yes p ↦ closes-good x s l p
+            | no p ↦ closes-good y s (omega arith) (omega (arith, pow-half w k (omega arith)))
+          ]
+
+      pub record FailsAt (s : ℕ) : Type 0 where
+        pub is-open : look n s ≡ opened
+        pub block : Block w n s
+        pub high : s < 2 ^ w
+        pub before : (t : ℕ) → t < s → Good t
+
+      pub fails-at : {k v s : ℕ} → Fails k v s → ((t : ℕ) → t < v → Good t) → FailsAt s
+      fails-at (here i b h e) g = record { is-open = rw i at e; block = rw i at b; high = h; before = g }
+      fails-at (left x) g = fails-at x g
+      fails-at (right {k} {v} x y) g =
+          fails-at y λ t l. elim (decLt t v) [ yes p ↦ g t p | no p ↦ closes-good x t (omega arith) l ]
 
     -- how many lines begin at x or later
     abbrev from : ℕ → List Line → ℕ
@@ -205,15 +211,16 @@ module _ (w : ℕ) (look : ℕ → ℕ → Look) where
     from-starts x y h (first {l} {ls} e) = omega (arith, from-le x y (omega arith) ls)
     from-starts x y h (later {l} {ls} t) = omega (arith, from-starts x y h t)
 
-    begins-at-0 : (ls : List Line) → Follows n ls 0 → Starts 0 ls
+    begins-at-0 : (ls : List Line) → Follows ls 0 → Starts 0 ls
     begins-at-0 [] f = absurd (omega (arith, pow-pos w))
     begins-at-0 (l ∷ ls) f = first (f .0 .0)
 
-    module _ (n≤w : n ≤ w)
-        (shut : (k v k′ v′ : ℕ) (κ : Kind) → k ≤ k′ → k′ ≤ n → Block w k v → v ≤ v′ → v′ < v + 2 ^ (w - k) → look k v ≡ closed κ → look k′ v′ ≡ opened → ⊥)
-        (all : List Line) (fol : Follows n all 0) where
+    module _ (all : List Line) (fol : Follows all 0)
+        (shut : (k v k′ v′ : ℕ) (κ : Kind) → k ≤ k′ → k′ ≤ n → Block w k v → v ≤ v′ → v′ < v + 2 ^ (w - k) →
+        look k v ≡ closed κ → look k′ v′ ≡ opened → ⊥) where
       -- a line that covers the middle of an open case begins there
-      mid-starts : (k v : ℕ) → k < n → Block w k v → look k v ≡ opened → v + 2 ^ (w - suc k) < 2 ^ w → Starts (v + 2 ^ (w - suc k)) all
+      mid-starts :
+          (k v : ℕ) → k < n → Block w k v → look k v ≡ opened → v + 2 ^ (w - suc k) < 2 ^ w → Starts (v + 2 ^ (w - suc k)) all
       mid-starts k v kn b e h =
           covering all 0 fol (v + 2 ^ (w - suc k)) zero-le h λ k′ v′ κ st k′n b′ e′ lo hi.
           elim (decLt v′ (v + 2 ^ (w - suc k))) [
@@ -224,17 +231,16 @@ module _ (w : ℕ) (look : ℕ → ℕ → Look) where
           ]
 
       -- no list has fewer lines
-      least : {d k v a : ℕ} {ls : List Line} → Closes d k v ls a → k + d ≡ n → Block w k v → v + 2 ^ (w - k) ≤ 2 ^ w → Starts v all
-          → length ls + from (v + 2 ^ (w - k)) all ≤ from v all
-      least {d} {k} {v} (leaf e) f b h st = omega (arith, from-starts v (v + 2 ^ (w - k)) (omega (arith, pow-pos (w - k))) st)
-      least (node {d} {k} {v} {ls} {ms} e x y) f b h st =
-          let c = rescale w k (suc k) v (omega arith) (omega arith) b in
+      least :
+          {k v a : ℕ} {ls : List Line} → Closes k v ls a → v + 2 ^ (w - k) ≤ 2 ^ w → Starts v all →
+          length ls + from (v + 2 ^ (w - k)) all ≤ from v all
+      least (leaf {k} {v} _ b e) h st = omega (arith, from-starts v (v + 2 ^ (w - k)) (omega (arith, pow-pos (w - k))) st)
+      least (node {k} {v} {ls} {ms} kn b e x y) h st =
           let p = pow-half w k (omega arith) in
-          let l1 = least x (omega arith) c (omega arith) st in
-          let l2 = least y (omega arith) (next-block w (suc k) v c) (omega arith) (mid-starts k v (omega arith) b e (omega (arith, pow-pos (w - suc k)))) in
+          let l1 = least x (omega arith) st in
+          let l2 = least y (omega arith) (mid-starts k v kn b e (omega (arith, pow-pos (w - suc k)))) in
           let q : v + 2 ^ (w - k) ≡ (v + 2 ^ (w - suc k)) + 2 ^ (w - suc k) = omega arith in
           rw (length-append ls ms, q) (omega (arith, l1, l2))
 
-      -- whole
-      pub fewest : {a : ℕ} {ls : List Line} → Closes n 0 0 ls a → length ls ≤ length all
-      fewest x = omega (arith, least x (omega arith) (root-block w) (omega (arith, root-span w)) (begins-at-0 all fol), from-length all)
+      pub fewest : {a : ℕ} {ls : List Line} → Closes 0 0 ls a → length ls ≤ length all
+      fewest x = omega (arith, least x (omega (arith, root-span w)) (begins-at-0 all fol), from-length all)
