@@ -10,7 +10,7 @@ use Rattle.model.specs.Answer as Answer
 use Rattle.model.specs.Answer.{answered}
 use Rattle.model.specs.Read.{answerOf}
 use Rattle.model.specs.ProblemBytes.{Problem, problem, problemOf, plan, planOf, encodeProblem, encodePlan}
-use Rattle.model.specs.Operations.{taskOf, readTask, listFor, writeList}
+use Rattle.model.specs.Operations.{readTask, listFor, writeList}
 use Rattle.model.specs.WellFormed.{ProblemOk, PlanOk, Sensible}
 use Rattle.model.specs.Demands.{Demand1, Demands}
 use Rattle.model.proofs.Laws.Reading.{answer-got}
@@ -29,14 +29,8 @@ module _ (F : Limits) (S : Sensible F) where
   unfolding planOf answerOf
   plan-accepted m steps k = ap answerOf (plan-ok (encodePlan steps) m steps k refl)
 
-  task-accepted :
-      (p : Problem) (steps : List ℕ) → ProblemOk F p → PlanOk (length (p .actions)) steps →
-      readTask F (encodeProblem F p) (encodePlan steps) ≡ answered (taskOf F p steps)
-  unfolding readTask Answer._>>=_
-  task-accepted p steps k l = rw (problem-accepted p k, Answer._>>=_, plan-accepted (length (p .actions)) steps l)
-
   reading : Demand1 F
-  unfolding problemOf planOf writeList
+  unfolding problemOf planOf writeList readTask Answer._>>=_
   reading =
       record {
         problem-sound = λ s b p e. let (q, h) = answer-got (problem F s 0) e in problem-gives F S s b .of p q h;
@@ -45,7 +39,7 @@ module _ (F : Limits) (S : Sensible F) where
         problem-accepted = problem-accepted;
         plan-accepted = plan-accepted;
         list-accepted = list-accepted F S;
-        task-accepted = task-accepted;
+        task-accepted = λ p steps k l. rw (problem-accepted p k, Answer._>>=_, plan-accepted (length (p .actions)) steps l);
         refused-unchanged =
             λ problem plan grant out n q e. refused-unchanged F out n q (listFor F problem plan grant (length out)) e;
         rest-unchanged = rest-unchanged F S;

@@ -7,7 +7,7 @@ use Prim.Native.Nat.{ℕ, zero, suc, _<_, suc-le-suc}
 use lib.ListN.{getD}
 use native.Mathlib.Omega.{arith}
 use Rattle.model.specs.Kleene.{Kleene, No, Unknown, Yes, both, either, denied, isYes, known, Logic, two, three}
-use Rattle.model.specs.Formula.{Literal, fact, denial, Formula, Formulas, lit, all, any, none, more, valueOf, eval, evalAll, evalAny}
+use Rattle.model.specs.Formula.{fact, denial, Formula, Formulas, lit, all, any, none, more, eval, evalAll, evalAny}
 use Rattle.model.specs.Action.{Action, conditionOf, tabulate, applicable, next, step}
 use Rattle.model.specs.Run.{Outcome, reached, Stop, atEnd, goesOn, run}
 
@@ -50,15 +50,12 @@ module _ {X Y : Type 0} (L : Logic X) (M : Logic Y) (R : X → Y → Type 0) (K 
   Along c s = (i : ℕ) → R (getD c i (L .never)) (getD s i (M .never))
 
   module _ (c : List X) (s : List Y) (along : Along c s) where
-    literal-keeps : (l : Literal) → R (valueOf L c l) (valueOf M s l)
-    literal-keeps (fact f) = along f
-    literal-keeps (denial f) = K .denied (along f)
-
     mutual
       unfolding eval
 
       pub eval-keeps : (φ : Formula) → R (eval L c φ) (eval M s φ)
-      eval-keeps (lit l) = literal-keeps l
+      eval-keeps (lit (fact f)) = along f
+      eval-keeps (lit (denial f)) = K .denied (along f)
       eval-keeps (all ms) = all-keeps ms
       eval-keeps (any ms) = any-keeps ms
 
@@ -70,13 +67,6 @@ module _ {X Y : Type 0} (L : Logic X) (M : Logic Y) (R : X → Y → Type 0) (K 
       any-keeps none = K .never
       any-keeps (more m ms) = K .either (eval-keeps m) (any-keeps ms)
 
-    pub next-keeps : (a : Action) (f : ℕ) → R (next L a c f) (next M a s f)
-    unfolding next
-    next-keeps a f =
-        K .either
-        (eval-keeps (conditionOf (fact f) (a .effects)))
-        (K .both (along f) (K .denied (eval-keeps (conditionOf (denial f) (a .effects)))))
-
   pub tabulate-keeps :
       (n : ℕ) (f : ℕ → X) (g : ℕ → Y) → ((i : ℕ) → i < n → R (f i) (g i)) → Along (tabulate n f) (tabulate n g)
   tabulate-keeps zero f g h i = K .never
@@ -84,8 +74,12 @@ module _ {X Y : Type 0} (L : Logic X) (M : Logic Y) (R : X → Y → Type 0) (K 
   tabulate-keeps (suc n) f g h (suc i) = tabulate-keeps n (λ j. f (suc j)) (λ j. g (suc j)) (λ j l. h (suc j) (suc-le-suc l)) i
 
   pub step-keeps : (n : ℕ) (a : Action) (c : List X) (s : List Y) → Along c s → Along (step L n a c) (step M n a s)
-  unfolding step
-  step-keeps n a c s h = tabulate-keeps n _ _ λ i l. next-keeps c s h a i
+  unfolding step next
+  step-keeps n a c s h =
+      tabulate-keeps n _ _ λ f l.
+      K .either
+      (eval-keeps c s h (conditionOf (fact f) (a .effects)))
+      (K .both (h f) (K .denied (eval-keeps c s h (conditionOf (denial f) (a .effects)))))
 
   -- where what holds on the left holds on the right, so does a run that is reached
   pub run-keeps :

@@ -59,10 +59,6 @@ module _ (B : Belief) (s : List Bool) (h : Alone B s) where
   entails-alone : (φ : Formula) → Entails B φ ↔ (eval two s φ ≡ true)
   entails-alone φ = ((λ e. e s (h .holds)), λ e t b. rw (h .one t b) e)
 
-  applicable-alone : (a : Action) → ApplicableIn B a ↔ (applicable two a s ≡ true)
-  unfolding applicable
-  applicable-alone a = entails-alone (a .precondition)
-
 module _ (n : ℕ) (goal : Formula) where
   image-alone : (a : Action) (B : Belief) (s : List Bool) → Alone B s → Alone (Image n a B) (step two n a s)
   image-alone a B s h =
@@ -95,7 +91,7 @@ module _ (n : ℕ) (goal : Formula) where
       )
 
   run-means : (plan : List Action) (i : ℕ) (B : Belief) (s : List Bool) → Alone B s → MeansFrom B plan i (run two n goal plan i s)
-  unfolding run goesOn
+  unfolding run goesOn applicable
   run-means [] i B s h = by-goal (eval two s goal) refl
     where
       by-goal : (b : Bool) → eval two s goal ≡ b → MeansFrom B [] i (atEnd b)
@@ -108,7 +104,7 @@ module _ (n : ℕ) (goal : Formula) where
       by-test :
           (o : Outcome) → MeansFrom (Image n a B) plan (suc i) o → (b : Bool) → applicable two a s ≡ b →
           MeansFrom B (a ∷ plan) i (goesOn b o (record { step = i }))
-      by-test o m true e = after-step a B plan i (applicable-alone B s h a .1 e) o m
+      by-test o m true e = after-step a B plan i (entails-alone B s h (a .precondition) .1 e) o m
       by-test o m false e = (
         0,
         omega arith,
@@ -119,7 +115,7 @@ module _ (n : ℕ) (goal : Formula) where
           parts = refl;
           at = refl;
           applicable = tt;
-          not-applicable = λ g. false≢true (sym e ∙ applicable-alone B s h a .0 g);
+          not-applicable = λ g. false≢true (sym e ∙ entails-alone B s h (a .precondition) .0 g);
         },
       )
 
@@ -132,10 +128,10 @@ module _ (n : ℕ) (goal : Formula) where
       (before rest : List Action) (i : ℕ) (B : Belief) (s : List Bool) → Alone B s → Applicable n B before → (o : Outcome) →
       ((t : List Bool) → Alone (after n B before) t → run two n goal rest (i + length before) t ≡ o) →
       run two n goal (before ++ rest) i s ≡ o
-  unfolding run goesOn
+  unfolding run goesOn applicable
   runs-on [] rest i B s h ap′ o k = subst (λ (x : ℕ). run two n goal rest x s ≡ o) (omega arith) (k s h)
   runs-on (a ∷ before) rest i B s h ap′ o k =
-      rw (applicable-alone B s h a .0 (ap′ .0))
+      rw (entails-alone B s h (a .precondition) .0 (ap′ .0))
       (runs-on before rest (suc i) (Image n a B) (step two n a s) (image-alone a B s h) (ap′ .1) o
       (λ t l. subst (λ (x : ℕ). run two n goal rest x t ≡ o) (omega arith) (k t l)))
 
@@ -145,12 +141,12 @@ module _ (n : ℕ) (goal : Formula) where
       rw append-nil at (runs-on plan [] 0 B s h ap′ missed (λ t l. ap atEnd (not-true (eval two t goal) (λ e. g (entails-alone (after n B plan) t l goal .1 e)))))
 
   stops : (plan : List Action) (i : ℕ) (B : Belief) (s : List Bool) → Alone B s → Blocks n B plan i → run two n goal plan 0 s ≡ blocked (record { step = i })
-  unfolding run goesOn
+  unfolding run goesOn applicable
   stops plan i B s h b =
       rw (b .parts)
       (runs-on (b .before) (b .action ∷ b .rest) 0 B s h (b .applicable) (blocked (record { step = i }))
       (λ t l.
-      rw (not-true (applicable two (b .action) t) (λ e. b .not-applicable (applicable-alone (after n B (b .before)) t l (b .action) .1 e)))
+      rw (not-true (applicable two (b .action) t) (λ e. b .not-applicable (entails-alone (after n B (b .before)) t l (b .action .precondition) .1 e)))
       (ap (λ x. blocked (record { step = x })) (omega (arith, b .at)))))
 
   pub outcome-means : (plan : List Action) (s : List Bool) (o : Outcome) → (run two n goal plan 0 s ≡ o) ↔ OutcomeMeans n s goal plan o

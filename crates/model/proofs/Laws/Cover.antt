@@ -49,10 +49,6 @@ root-block w = record { q = 0; is = omega arith }
 pub root-span : (w : ℕ) → 2 ^ (w - 0) ≡ 2 ^ w
 root-span w = ap (λ (x : ℕ). 2 ^ x) (omega arith)
 
--- of two multiples of a
-pub below : (p q a : ℕ) → p * a < q * a + a → p ≤ q
-below p q a h = omega (arith, lt-of-mul-lt-mul-right a {m = p} {n = suc q} (omega arith))
-
 -- the numbers from v on that a block covers agree with v in the first k facts
 pub agree : (w k v s i : ℕ) → k ≤ w → Block w k v → v ≤ s → s < v + 2 ^ (w - k) → i < k → bit w s i ≡ bit w v i
 unfolding bit
@@ -65,21 +61,23 @@ agree w k v s i l b h h′ j = ap (λ (x : ℕ). lib.Dec.eqb (x % 2) 1) (high s 
         let hi : t < (b .q + 1) * 2 ^ (w - k) = omega (arith, b .is) in
         rw (e, ← (shr-shr t (w - k) (k - suc i)), div-eq-of-lt-le {k = b .q} (2 ^ (w - k)) {m = t} lo hi)
 
--- a block around the middle of another, that does not begin there, holds all of the other
-around : (w k v k′ v′ : ℕ) → k < w → k′ ≤ w → Block w k v → Block w k′ v′ → v′ < v + 2 ^ (w - suc k) → v + 2 ^ (w - suc k) < v′ + 2 ^ (w - k′) → (k′ ≤ k) × (v′ ≤ v)
-around w k v k′ v′ h h′ b b′ lo hi = elim (decLe k′ k) [ yes l ↦ (l, outer l) | no g ↦ absurd (inner (omega arith)) ]
-  where
-    inner : k < k′ → ⊥
-    inner l =
-        let m = rescale w (suc k) k′ _ l h′ (next-block w (suc k) v (rescale w k (suc k) v (omega arith) h b)) in
-        let x = below (m .q) (b′ .q) (2 ^ (w - k′)) (omega (arith, m .is, b′ .is)) in
-        omega (arith, m .is, b′ .is, mul-le-mul-right (2 ^ (w - k′)) x)
+-- of two blocks of one size
+under : (w k v v′ : ℕ) → Block w k v → Block w k v′ → v′ < v + 2 ^ (w - k) → v′ ≤ v
+under w k v v′ b c h =
+    let x = lt-of-mul-lt-mul-right (2 ^ (w - k)) {m = c .q} {n = suc (b .q)} (omega (arith, b .is, c .is)) in
+    omega (arith, b .is, c .is, mul-le-mul-right (2 ^ (w - k)) x)
 
-    outer : k′ ≤ k → v′ ≤ v
-    outer l =
-        let c = rescale w k′ k v′ l (omega arith) b′ in
-        let x = below (c .q) (b .q) (2 ^ (w - k)) (omega (arith, c .is, b .is, pow-half w k h)) in
-        omega (arith, c .is, b .is, mul-le-mul-right (2 ^ (w - k)) x)
+-- a block around the middle of another, that does not begin there, holds all of the other
+around :
+    (w k v k′ v′ : ℕ) → k < w → k′ ≤ w → Block w k v → Block w k′ v′ → v′ < v + 2 ^ (w - suc k) →
+    v + 2 ^ (w - suc k) < v′ + 2 ^ (w - k′) → (k′ ≤ k) × (v′ ≤ v)
+around w k v k′ v′ h h′ b b′ lo hi =
+    elim (decLe k′ k) [
+      | yes l ↦ (l, under w k v v′ b (rescale w k′ k v′ l (omega arith) b′) (omega (arith, pow-half w k h)))
+      | no g ↦
+          let m = next-block w (suc k) v (rescale w k (suc k) v (omega arith) h b) in
+          absurd (omega (arith, under w k′ v′ _ b′ (rescale w (suc k) k′ _ (omega arith) h′ m) hi))
+    ]
 
 -- ---- a claim
 

@@ -1,16 +1,15 @@
 -- Demand 2 for the definitions of the judge and the run. Assumes nothing.
 use mathlib.Core.Path.{_≡_, sym, ap, _∙_, subst}
-use mathlib.Core.Logic.{_↔_, inl, inr}
+use mathlib.Core.Logic.{inl, inr}
 use mathlib.Core.List.{List}
 use Prim.Native.Nat.{ℕ, _≤_}
 use lib.ListN.{length}
 use Rattle.model.specs.declared.Limits.{Limits}
 use Rattle.model.specs.Answer.{answered}
-use Rattle.model.specs.Run.{Outcome}
-use Rattle.model.specs.Case.{stateOf, Task, runOf, IsState}
+use Rattle.model.specs.Case.{stateOf, Task, runOf}
 use Rattle.model.specs.Walk.{Line, covered, failed, Verdict, right, wrong, undecided, visits, walked, judged}
-use Rattle.model.specs.Operations.{readTask, runState, lineCount, judge}
-use Rattle.model.specs.Demands.{Says, OutcomeSays, Demand2}
+use Rattle.model.specs.Operations.{readTask, lineCount}
+use Rattle.model.specs.Demands.{Says, Demand2}
 use Rattle.model.proofs.Laws.Verdicts.{Means, judged-means, right-closes, larger-grant, walk-closes-right, walk-ends}
 pub use Rattle.model.proofs.Laws.Verdicts.{judged-in, judged-out}
 use Rattle.model.proofs.Laws.Beliefs.{outcome-means, solution-right}
@@ -25,25 +24,15 @@ module _ (T : Task) (n≤w : T .facts ≤ T .width) where
   counted g (undecided a) m = record { all-used = m .0; needs-more = m .1 }
 
   module _ (F : Limits) (problem plan : List ℕ) (given : readTask F problem plan ≡ answered T) where
-    judge-says : (g : ℕ) (v : Verdict ℕ) → judge F problem plan g ≡ answered v → Says T g v
-    judge-says g v e =
-        let k = judge-is F problem plan T given g in
-        let h : lineCount (judged T g) ≡ v = cc in
-        subst (Says T g) h (counted g (judged T g) (judged-means T n≤w g))
-
-    run-says : (s : ℕ) → IsState T s → (o : Outcome) → (runState F problem plan s ≡ answered o) ↔ OutcomeSays T s o
-    unfolding runOf
-    run-says s h o =
-        let m = outcome-means (T .facts) (T .goal) (T .plan) (stateOf (T .width) (T .facts) s) o in
-        let k = run-answers F problem plan T given s h in (
-          (λ e. let r : runOf T s ≡ o = cc in m .0 r),
-          λ x. k ∙ ap answered (m .1 x),
-        )
-
     pub verdicts : Demand2 F problem plan T
+    unfolding runOf
     verdicts =
         record {
-          judge-says = judge-says;
+          judge-says =
+              λ g v e.
+              let k = judge-is F problem plan T given g in
+              let h : lineCount (judged T g) ≡ v = cc in
+              subst (Says T g) h (counted g (judged T g) (judged-means T n≤w g));
           right-is-solution = (solution-right T n≤w .1, solution-right T n≤w .0);
           called-right =
               λ g h r. let (ls, a, e) = right-closes T n≤w r in (length ls, rw (judge-is F problem plan T given g, judged-in T n≤w g (covered ls a) e h, e));
@@ -62,6 +51,10 @@ module _ (T : Task) (n≤w : T .facts ≤ T .width) where
                 judge-is F problem plan T given g,
                 larger-grant T n≤w g g′ h (λ e. d (rw (judge-is F problem plan T given g, e))),
               );
-          run-says = run-says;
+          run-says =
+              λ s h o.
+              let m = outcome-means (T .facts) (T .goal) (T .plan) (stateOf (T .width) (T .facts) s) o in
+              let k = run-answers F problem plan T given s h in
+              ((λ e. let r : runOf T s ≡ o = cc in m .0 r), λ x. k ∙ ap answered (m .1 x));
           run-no-state = run-no-state F problem plan T given;
         }

@@ -99,16 +99,6 @@ module _ (F : Limits) (S : Sensible F) (T : Task) (fits : Fits F T) where
   chosen room grant ls (undecided a) m e = let z : _≡_ {A = ℕ} 0 1 = cc in absurd (omega arith)
 
   module _ (problem plan : List ℕ) (given : readTask F problem plan ≡ answered T) where
-    -- what was written, as the walk's lines
-    pub record Wrote (grant : ℕ) (out : List ℕ) (n : ℕ) : Type 0 where
-      pub lines : List Line
-      pub visited : ℕ
-      pub walks : walked T ≡ covered lines visited
-      pub few : length lines ≤ F .lines
-      pub fits-in : n ≤ length out
-      pub list : listWritten F problem plan grant out n ≡ encodeList F lines
-      pub rest : drop n (writeList F problem plan grant out .buffer) ≡ drop n out
-
     -- the buffer after lines were written
     buffer :
         (grant : ℕ) (out : List ℕ) (n : ℕ) (ls : List Line) → listFor F problem plan grant (length out) ≡ answered ls → n ≡ listBytes F (length ls) →
@@ -118,13 +108,18 @@ module _ (F : Limits) (S : Sensible F) (T : Task) (fits : Fits F T) where
         let k = length-encodeList F S ls in
         rw (e, l) (take-at (encodeList F ls) (drop (listBytes F (length ls)) out) _ k, drop-at (encodeList F ls) (drop (listBytes F (length ls)) out) _ k)
 
-    pub wrote : (grant : ℕ) (out : List ℕ) (n : ℕ) → writeList F problem plan grant out .answer ≡ answered n → Wrote grant out n
+    -- what was written, as the walk's lines
+    pub wrote :
+        (grant : ℕ) (out : List ℕ) (n : ℕ) → writeList F problem plan grant out .answer ≡ answered n →
+        (ls : List Line) × (a : ℕ) × (walked T ≡ covered ls a) × (length ls ≤ F .lines) × (n ≤ length out) ×
+        (listWritten F problem plan grant out n ≡ encodeList F ls) × (drop n (writeList F problem plan grant out .buffer) ≡ drop n out)
     unfolding writeList
     wrote grant out n e =
         let (ls, x, l) = written-answered F out n (listFor F problem plan grant (length out)) e in
-        let (a, w, few, room) = chosen (length out) grant ls (judged T grant) (judged-means T n≤w grant) (sym (list-for-is F problem plan T given grant (length out)) ∙ x) in
+        let y = sym (list-for-is F problem plan T given grant (length out)) ∙ x in
+        let (a, w, few, room) = chosen (length out) grant ls (judged T grant) (judged-means T n≤w grant) y in
         let (list, rest) = buffer grant out n ls x l in
-        record { lines = ls; visited = a; walks = w; few = few; fits-in = omega arith; list = list; rest = rest }
+        (ls, a, w, few, omega arith, list, rest)
 
     -- a list that passes, as its lines
     followed :
@@ -179,16 +174,16 @@ module _ (F : Limits) (S : Sensible F) (T : Task) (fits : Fits F T) where
               );
           written-passes =
               λ grant out n e.
-              let x = wrote grant out n e in
-              let (f, c) = follow-lines (x .lines) (x .few) (walk-passes T n≤w (x .lines) (x .visited) (x .walks)) in
-              rw (x .list, c) f;
+              let (ls, a, w, few, _, list, _) = wrote grant out n e in
+              let (f, c) = follow-lines ls few (walk-passes T n≤w ls a w) in
+              rw (list, c) f;
           written-least =
               λ grant out n e list m f.
-              let x = wrote grant out n e in
-              let c = follow-lines (x .lines) (x .few) (walk-passes T n≤w (x .lines) (x .visited) (x .walks)) .1 in
-              let (ls, r, p, _) = followed list m f in
-              let l = walk-fewest T n≤w (x .lines) (x .visited) (x .walks) ls p in
-              rw (x .list, c) (omega (arith, list-count F list ls r));
+              let (ls, a, w, few, _, written, _) = wrote grant out n e in
+              let c = follow-lines ls few (walk-passes T n≤w ls a w) .1 in
+              let (ms, r, p, _) = followed list m f in
+              let l = walk-fewest T n≤w ls a w ms p in
+              rw (written, c) (omega (arith, list-count F list ms r));
         }
 
 pub rest-unchanged :
@@ -198,5 +193,5 @@ pub rest-unchanged :
 unfolding writeList listFor
 rest-unchanged F S problem plan grant out n e =
     answer-then (written-answered F out n (listFor F problem plan grant (length out)) e .1) λ T given _.
-    let x = wrote F S T (task-fits F problem plan T given) problem plan given grant out n e in
-    (x .fits-in, x .rest)
+    let (_, _, _, _, size, _, rest) = wrote F S T (task-fits F problem plan T given) problem plan given grant out n e in
+    (size, rest)

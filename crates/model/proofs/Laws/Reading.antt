@@ -6,8 +6,8 @@ use Prim.Native.Nat.{ℕ, zero, suc, _+_, _-_, _*_, _/_, _%_, _^_, _≤_, _<_}
 use native.Mathlib.Nat.{pow-suc, div-div-eq-div-mul, div-lt-iff-lt-mul, one-le-pow, mod-eq-of-lt, zero-mul, one-mul, mul-comm, mul-assoc, add-mul, zero-add, add-assoc, mod-one}
 use native.Mathlib.Numerals.{add-one}
 use native.Mathlib.Omega.{arith}
-use lib.ListN.{length, getD, take, drop, length-append, length-drop}
-use lib.Seq.{drop-cons, getD-drop, take-all, length-take-le, take-length}
+use lib.ListN.{length, getD, take, drop, length-append}
+use lib.Seq.{drop-cons, take-all, take-length}
 use lib.Arith.{mod-mul}
 use lib.Dec.{ltb, leb, lit<}
 use borrow.Author.Tests.{ltb-true, leb-true, eqb-true, lt-ltb, le-leb, eq-eqb}
@@ -169,14 +169,10 @@ bigEndian-lt xs h =
     let e : bigEndian xs / 256 ^ length xs < 1 = omega (arith, from-div xs 0 h) in
     rw one-mul at (div-lt-iff-lt-mul {y = 1} (one-le-pow (length xs) 256 (lit< tt)) .0 e)
 
-pub bytes-drop : (n : ℕ) (xs : List ℕ) → Bytes xs → Bytes (drop n xs)
-bytes-drop n xs h i = rw getD-drop (h (n + i))
-
-pub bytes-take : (n : ℕ) (xs : List ℕ) → Bytes xs → Bytes (take n xs)
-bytes-take zero xs h i = omega arith
-bytes-take (suc n) [] h i = omega arith
-bytes-take (suc n) (x ∷ xs) h zero = h 0
-bytes-take (suc n) (x ∷ xs) h (suc i) = bytes-take n xs (λ i. h (suc i)) i
+span-bytes : {s xs : List ℕ} {end p q : ℕ} → Bytes s → Span s end p xs q → Bytes xs
+span-bytes sound (nothing e) i = omega arith
+span-bytes sound (next {p = p} l e h) zero = rw e at (sound p)
+span-bytes sound (next l e h) (suc i) = span-bytes sound h i
 
 -- a number that stands in s as k bytes from p up to q
 module _ (s : List ℕ) (k p q : ℕ) where
@@ -184,11 +180,10 @@ module _ (s : List ℕ) (k p q : ℕ) where
       Bytes s → p + k ≡ q → q ≤ length s →
       (bigEndian (take k (drop p s)) < 256 ^ k) × Span s (length s) p (bytesOf k (bigEndian (take k (drop p s)))) q
   number-got sound e l =
-      let n : length (take k (drop p s)) ≡ k = length-take-le k (drop p s) (rw length-drop (omega arith)) in
-      let b = bytes-take k (drop p s) (bytes-drop p s sound) in (
-        rw n at (bigEndian-lt (take k (drop p s)) b),
-        rw (rw n at (bytesOf-from (take k (drop p s)) 0 b)) (span-here k p q e l),
-      )
+      let r = span-here {s = s} k p q e l in
+      let n : length (take k (drop p s)) ≡ k = omega (arith, span-length r) in
+      let b = span-bytes sound r in
+      (rw n at (bigEndian-lt (take k (drop p s)) b), rw (rw n at (bytesOf-from (take k (drop p s)) 0 b)) r)
 
   pub number-ok : (n : ℕ) → n < 256 ^ k → Span s (length s) p (bytesOf k n) q → bigEndian (take k (drop p s)) ≡ n
   number-ok n l h = rw (rw length-bytesOf at (span-is h)) (bigEndian-bytesOf k n l)

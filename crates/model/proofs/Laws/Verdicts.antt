@@ -14,11 +14,11 @@ use Rattle.model.specs.Kleene.{Kleene, No, Unknown, Yes, isYes, known, t
 use Rattle.model.specs.Formula.{Formula, eval}
 use Rattle.model.specs.Action.{Action}
 use Rattle.model.specs.Run.{Outcome, reached, missed, blocked, run}
-use Rattle.model.specs.Case.{bit, stateOf, caseOf, Task, runOf, initially, Right}
+use Rattle.model.specs.Case.{bit, stateOf, caseOf, Task, runOf, initially, IsState, Right}
 use Rattle.model.specs.Walk.{Kind, closed, opened, Line, Walked, covered, failed, visits, lookOf, lookEnd, Verdict, right, wrong, undecided, initialAt, runAt, lookAt, walked, found, judged}
 use Rattle.model.specs.Demands.{LowestFailing}
 use Rattle.model.proofs.Laws.Agreement.{Along, eval-keeps, tabulate-keeps, run-keeps, run-same, Refines, same, wider, refining, refines-yes, Exact, exact, yes-exact, known-inj, refines-known}
-use Rattle.model.proofs.Laws.Cover.{Block, agree, Closes, Traced, walk-traced, fails-at, covering, Follows, closes-follows, closes-visits, fewest, root-span, mod-of-block}
+use Rattle.model.proofs.Laws.Cover.{Block, agree, Traced, walk-traced, fails-at, covering, Follows, closes-follows, closes-visits, fewest, root-span, mod-of-block}
 
 module _ (w n : ℕ) where
   -- the state s, or the case of v, has the first k values of v
@@ -121,37 +121,30 @@ module _ (T : Task) (n≤w : T .facts ≤ T .width) where
   passes-right ls f s st =
       covering (T .width) (lookAt T) (T .facts) ls 0 f s zero-le (st .state .in-width) (λ k v κ _. good k v s κ) (st .starts)
 
-  abbrev Meant : Walked → Type 0
-  Meant (covered ls a) = Closes (T .width) (lookAt T) (T .facts) 0 0 ls a
-  Meant (failed s a) = LowestFailing T s
+  traced : (r : Walked) → walked T ≡ r → Traced (T .width) (lookAt T) (T .facts) 0 0 r
+  unfolding walked
+  traced r e = subst (Traced (T .width) (lookAt T) (T .facts) 0 0) e (walk-traced (T .width) (lookAt T) (T .facts) n≤w)
 
-  meant : (r : Walked) → Traced (T .width) (lookAt T) (T .facts) 0 0 r → Meant r
+  pub walk-fails-first : (s a : ℕ) → walked T ≡ failed s a → LowestFailing T s
   unfolding lookAt runOf initially
-  meant (covered ls a) x = x
-  meant (failed s a) x =
-      let f = fails-at (T .width) (lookAt T) (T .facts) n≤w Good good x (λ t l. absurd (omega arith)) in
+  walk-fails-first s a e =
+      let f = fails-at (T .width) (lookAt T) (T .facts) n≤w Good good (traced (failed s a) e) (λ t l. absurd (omega arith)) in
       let o = look-open (initialAt T (T .facts) s) (runAt T (T .facts) s) (f .is-open) in
       let starts = not-no (initially T s) (λ p. o (inl (read-full (T .width) (T .facts) s (T .initial) ∙ p))) in
+      let state : IsState T s = record { in-width = f .high; no-bits = mod-of-block (T .width) (T .facts) s (f .block) } in
       record {
-        start = record { state = record { in-width = f .high; no-bits = mod-of-block (T .width) (T .facts) s (f .block) }; starts = starts };
+        start = record { state = state; starts = starts };
         not-reached = λ p. o (inr (run-full (T .width) (T .facts) (T .goal) (T .plan) s ∙ p));
         before = λ t st l. f .before t l (st .starts);
       }
 
-  walk-meant : (r : Walked) → walked T ≡ r → Meant r
-  unfolding walked
-  walk-meant r e = meant r (subst (Traced (T .width) (lookAt T) (T .facts) 0 0) e (walk-traced (T .width) (lookAt T) (T .facts) n≤w))
-
-  pub walk-fails-first : (s a : ℕ) → walked T ≡ failed s a → LowestFailing T s
-  walk-fails-first s a e = walk-meant (failed s a) e
-
   pub walk-visits : (ls : List Line) (a : ℕ) → walked T ≡ covered ls a → suc a ≡ 2 * length ls
-  walk-visits ls a e = closes-visits (T .width) (lookAt T) (T .facts) n≤w (walk-meant (covered ls a) e)
+  walk-visits ls a e = closes-visits (T .width) (lookAt T) (T .facts) n≤w (traced (covered ls a) e)
 
   pub walk-passes : (ls : List Line) (a : ℕ) → walked T ≡ covered ls a → Passes ls
   walk-passes ls a e =
       rw append-nil at
-      (closes-follows (T .width) (lookAt T) (T .facts) n≤w (walk-meant (covered ls a) e) [] (omega (arith, root-span (T .width))))
+      (closes-follows (T .width) (lookAt T) (T .facts) n≤w (traced (covered ls a) e) [] (omega (arith, root-span (T .width))))
 
   pub walk-closes-right : (ls : List Line) (a : ℕ) → walked T ≡ covered ls a → Right T
   walk-closes-right ls a e = passes-right ls (walk-passes ls a e)
@@ -160,7 +153,7 @@ module _ (T : Task) (n≤w : T .facts ≤ T .width) where
   unfolding lookAt
   walk-fewest ls a e ms f =
       fewest (T .width) (lookAt T) (T .facts) n≤w ms f
-      (λ k v k′ v′ κ h h′ b l g c o. look-open (initialAt T k′ v′) (runAt T k′ v′) o (shut k v k′ v′ κ h h′ b l g c)) (walk-meant (covered ls a) e)
+      (λ k v k′ v′ κ h h′ b l g c o. look-open (initialAt T k′ v′) (runAt T k′ v′) o (shut k v k′ v′ κ h h′ b l g c)) (traced (covered ls a) e)
 
   pub judged-out : (g : ℕ) → g < visits (walked T) → judged T g ≡ undecided g
   unfolding judged
