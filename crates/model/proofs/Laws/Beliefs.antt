@@ -55,9 +55,8 @@ record Alone (B : Belief) (s : List Bool) : Type 0 where
 only-alone : (s : List Bool) → Alone (only s) s
 only-alone s = record { holds = refl; one = λ t e. e }
 
-module _ (B : Belief) (s : List Bool) (h : Alone B s) where
-  entails-alone : (φ : Formula) → Entails B φ ↔ (eval two s φ ≡ true)
-  entails-alone φ = ((λ e. e s (h .holds)), λ e t b. rw (h .one t b) e)
+entails-alone : (B : Belief) (s : List Bool) → Alone B s → (φ : Formula) → Entails B φ ↔ (eval two s φ ≡ true)
+entails-alone B s h φ = ((λ e. e s (h .holds)), λ e t b. rw (h .one t b) e)
 
 module _ (n : ℕ) (goal : Formula) where
   image-alone : (a : Action) (B : Belief) (s : List Bool) → Alone B s → Alone (Image n a B) (step two n a s)
@@ -135,26 +134,26 @@ module _ (n : ℕ) (goal : Formula) where
       (runs-on before rest (suc i) (Image n a B) (step two n a s) (image-alone a B s h) (ap′ .1) o
       (λ t l. subst (λ (x : ℕ). run two n goal rest x t ≡ o) (omega arith) (k t l)))
 
-  misses : (plan : List Action) (B : Belief) (s : List Bool) → Alone B s → Applicable n B plan → (Entails (after n B plan) goal → ⊥) → run two n goal plan 0 s ≡ missed
-  unfolding run
-  misses plan B s h ap′ g =
-      rw append-nil at (runs-on plan [] 0 B s h ap′ missed (λ t l. ap atEnd (not-true (eval two t goal) (λ e. g (entails-alone (after n B plan) t l goal .1 e)))))
-
-  stops : (plan : List Action) (i : ℕ) (B : Belief) (s : List Bool) → Alone B s → Blocks n B plan i → run two n goal plan 0 s ≡ blocked (record { step = i })
-  unfolding run goesOn applicable
-  stops plan i B s h b =
-      rw (b .parts)
-      (runs-on (b .before) (b .action ∷ b .rest) 0 B s h (b .applicable) (blocked (record { step = i }))
-      (λ t l.
-      rw (not-true (applicable two (b .action) t) (λ e. b .not-applicable (entails-alone (after n B (b .before)) t l (b .action .precondition) .1 e)))
-      (ap (λ x. blocked (record { step = x })) (omega (arith, b .at)))))
-
   pub outcome-means : (plan : List Action) (s : List Bool) (o : Outcome) → (run two n goal plan 0 s ≡ o) ↔ OutcomeMeans n s goal plan o
-  outcome-means plan s reached = ((λ e. rw e at (run-means plan 0 (only s) s (only-alone s))), λ m. solution-runs n goal plan 0 (only s) m s refl)
-  outcome-means plan s missed = ((λ e. rw e at (run-means plan 0 (only s) s (only-alone s))), λ m. misses plan (only s) s (only-alone s) (m .0) (m .1))
+  unfolding run goesOn applicable
+  outcome-means plan s reached = (
+    (λ e. rw e at (run-means plan 0 (only s) s (only-alone s))),
+    λ m. solution-runs n goal plan 0 (only s) m s refl,
+  )
+  outcome-means plan s missed = (
+    (λ e. rw e at (run-means plan 0 (only s) s (only-alone s))),
+    λ m.
+        rw append-nil at
+        (runs-on plan [] 0 (only s) s (only-alone s) (m .0) missed λ t l.
+        ap atEnd (not-true (eval two t goal) (λ e. m .1 (entails-alone (after n (only s) plan) t l goal .1 e)))),
+  )
   outcome-means plan s (blocked p) = (
     (λ e. let (j, i, b) = rw e at (run-means plan 0 (only s) s (only-alone s)) in subst (Blocks n (only s) plan) (omega arith) b),
-    λ m. stops plan (p .step) (only s) s (only-alone s) m,
+    λ b.
+        rw (b .parts)
+        (runs-on (b .before) (b .action ∷ b .rest) 0 (only s) s (only-alone s) (b .applicable) (blocked p) λ t l.
+        rw (not-true (eval two t (b .action .precondition)) (λ e. b .not-applicable (entails-alone _ t l (b .action .precondition) .1 e)))
+        (ap (λ x. blocked (record { step = x })) (omega (arith, b .at)))),
   )
 
 -- ---- the number of a state

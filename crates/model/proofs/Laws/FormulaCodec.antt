@@ -4,7 +4,7 @@ use mathlib.Core.Bool.{Bool, true, false, cond, _||_, not}
 use mathlib.Core.List.{List, [], _∷_}
 use Prim.Native.Nat.{ℕ, zero, suc, _+_, _-_, _*_, _/_, _%_, _≤_, _<_}
 use native.Mathlib.Omega.{arith}
-use native.Mathlib.Decide.{decLt}
+use native.Mathlib.Decide.{decLt, ℕ-discrete}
 use lib.ListN.{length}
 use lib.Dec.{eqb, ltb, leb}
 use borrow.Author.Tests.{ltb-true, leb-true, eqb-true, eqb-false, not-true, lt-ltb, le-ltb, le-leb, ne-eqb}
@@ -42,23 +42,20 @@ module _ (facts : ℕ) (most : facts ≤ 64) where
         rw (le-ltb (f + 64) 64 (omega arith), e),
       )
 
-  pub mark-not-literal : (g : Group) → isLiteral facts (mark g) ≡ false
+  -- a group's mark is no literal's byte, and tells the group
+  mark-ok :
+      (g : Group) →
+      (isLiteral facts (mark g) ≡ false) × ((eqb (mark g) 0x80 || eqb (mark g) 0x81) ≡ true) × (cond (eqb (mark g) 0x80) conjunction disjunction ≡ g)
   unfolding isLiteral
-  mark-not-literal conjunction = rw (le-ltb 0x80 facts (omega arith), le-ltb 0x80 (64 + facts) (omega arith))
-  mark-not-literal disjunction = rw (le-ltb 0x81 facts (omega arith), le-ltb 0x81 (64 + facts) (omega arith))
+  mark-ok conjunction = (rw (le-ltb 0x80 facts (omega arith), le-ltb 0x80 (64 + facts) (omega arith)), refl, refl)
+  mark-ok disjunction = (rw (le-ltb 0x81 facts (omega arith), le-ltb 0x81 (64 + facts) (omega arith)), refl, refl)
 
--- marks
-pub mark-got : (b : ℕ) → (eqb b 0x80 || eqb b 0x81) ≡ true → mark (cond (eqb b 0x80) conjunction disjunction) ≡ b
-mark-got b h = go (eqb b 0x80) refl h
-  where
-    go : (t : Bool) → eqb b 0x80 ≡ t → (t || eqb b 0x81) ≡ true → mark (cond t conjunction disjunction) ≡ b
-    go true e h = sym (eqb-true b 0x80 e)
-    go false e h = sym (eqb-true b 0x81 h)
-
-pub mark-ok :
-    (g : Group) → ((eqb (mark g) 0x80 || eqb (mark g) 0x81) ≡ true) × (cond (eqb (mark g) 0x80) conjunction disjunction ≡ g)
-mark-ok conjunction = (refl, refl)
-mark-ok disjunction = (refl, refl)
+mark-got : (b : ℕ) → (eqb b 0x80 || eqb b 0x81) ≡ true → mark (cond (eqb b 0x80) conjunction disjunction) ≡ b
+mark-got b h =
+    elim (ℕ-discrete b 0x80) [
+      | yes e ↦ rw e
+      | no n ↦ let e = ne-eqb b 0x80 n in rw e (sym (eqb-true b 0x81 (rw e at h)))
+    ]
 
 -- what a head says
 abbrev pub headBytes : Head → List ℕ
@@ -97,11 +94,11 @@ module _ (s : List ℕ) (end facts : ℕ) (most : facts ≤ 64) where
       let (i, j) = literal-ok facts most l d in
       rw (byte-ok 20 r, i, j, empty (first r .2))
   head-ok left parent p (group g n) q (d, o, l) r =
-      let (i, j) = mark-ok g in
+      let (k, i, j) = mark-ok facts most g in
       let (_, _, v) = first r in
       rw (
         byte-ok 20 r,
-        mark-not-literal facts most g,
+        k,
         i,
         ne-eqb (mark g) parent (λ e. o (sym e)),
         lt-ltb 0 left d,

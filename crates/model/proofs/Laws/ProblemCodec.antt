@@ -122,18 +122,9 @@ module _ (F : Limits) (sense : Sensible F) (s : List ℕ) where
       let w = join rf (join v (join rs (join rg rn))) in
       let b : m₅ ≡ length s = omega (arith, leb-true (length s) m₅ t, span-end w (omega arith)) in
       let whole = law _ (rw (i, b) at w) in
-      gives (
-        record {
-          some-fact = f₀;
-          facts = f₁;
-          count = rw e a₁;
-          initial = ks;
-          goal = kg;
-          actions = kn;
-          short = subst (λ (xs : List ℕ). length xs ≤ maxProblemBytes) whole l;
-        },
-        whole,
-      )
+      let count : length acts ≤ maxActions = rw e a₁ in
+      let short = subst (λ (xs : List ℕ). length xs ≤ maxProblemBytes) whole l in
+      gives (search, whole)
 
   pub problem-ok : (x : Problem) → ProblemOk F x → s ≡ encodeProblem F x → problem F s 0 ≡ got x (length s)
   unfolding problem body parts ending _>>=_ _>>_ andThen position done encodeProblem require

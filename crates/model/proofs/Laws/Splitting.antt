@@ -1,18 +1,19 @@
 -- A case split on its next fact: the values of its two parts. Assumes nothing.
-use mathlib.Core.Path.{_≡_, sym, ap, _∙_}
+use mathlib.Core.Path.{_≡_, sym, ap, _∙_, subst}
 use mathlib.Core.Bool.{Bool, true, false, cond}
 use Prim.Native.Nat.{ℕ, suc, _+_, _-_, _*_, _/_, _%_, _^_, _≤_, _<_}
 use native.Mathlib.Nat.{mul-div-cancel}
 use native.Mathlib.Omega.{arith}
-use native.Mathlib.Decide.{decLt, ℕ-discrete}
-use lib.ListN.{length, getD, set, replicate, length-set, length-replicate, getD-replicate}
-use lib.Seq.{getD-set-same, getD-set-other, ext-getD}
+use native.Mathlib.Decide.{decLt}
+use lib.ListN.{length, getD, set, replicate, length-replicate, getD-replicate}
+use lib.Seq.{ext-getD}
 use lib.Pow.{pow-pos}
 use lib.Dec.{eqb, ltb}
 use borrow.Author.Tests.{lt-ltb, le-ltb}
 use Rattle.model.specs.Kleene.{Kleene, No, Unknown, Yes, known}
 use Rattle.model.specs.Case.{bit, caseOf}
-use Rattle.model.proofs.Laws.Tabulate.{length-tabulate, getD-tabulate, getD-tabulate-past}
+use Rattle.model.proofs.Laws.Tabulate.{length-tabulate, getD-tabulate, getD-tabulate-past, set-tabulate}
+use Rattle.model.specs.Action.{tabulate}
 use Rattle.model.proofs.Laws.Cover.{Block, pow-half, agree}
 
 -- the value of fact i in the case (k, v)
@@ -71,29 +72,21 @@ case-first w n =
     case-unknown w n 0 0 i (omega arith) h ∙ sym (getD-replicate n i Unknown No h))
 
 module _ (w n k v : ℕ) (k<n : k < n) (n≤w : n ≤ w) (b : Block w k v) where
-  part-value : (x : Bool) (i : ℕ) → i < n → getD (caseOf w n (suc k) (part w k v x)) i No ≡ getD (set (caseOf w n k v) k (known x)) i No
-  part-value x i l =
+  case-part : (x : Bool) → caseOf w n (suc k) (part w k v x) ≡ set (caseOf w n k v) k (known x)
+  unfolding caseOf
+  case-part x =
       let p = part w k v x in
       let (low, high) = part-in w k v (omega arith) b x in
-      elim (ℕ-discrete i k) [
-        | yes d ↦
-            rw (d, case-known w n (suc k) p k (omega arith) k<n, part-bit w k v (omega arith) b x)
-            (sym (getD-set-same (caseOf w n k v) k (known x) No (omega (arith, length-case w n k v))))
-        | no d ↦
-            rw (getD-set-other (caseOf w n k v) k i (known x) No d)
-            (elim (decLt i k) [
-              | yes h ↦
-                  rw (case-known w n (suc k) p i (omega arith) l, case-known w n k v i h l)
-                  (ap known (agree w k v p i (omega arith) b low (omega (arith, pow-pos (w - suc k))) h))
-              | no h ↦ rw (case-unknown w n (suc k) p i (omega arith) l, case-unknown w n k v i (omega arith) l)
-            ])
-      ]
-
-  case-part : (x : Bool) → caseOf w n (suc k) (part w k v x) ≡ set (caseOf w n k v) k (known x)
-  case-part x =
-      let e = length-case w n (suc k) (part w k v x) in
-      ext-getD No (caseOf w n (suc k) (part w k v x)) (set (caseOf w n k v) k (known x))
-      (e ∙ sym (length-set (caseOf w n k v) k (known x) ∙ length-case w n k v)) (λ i l. part-value x i (omega arith))
+      let e : valueAt w (suc k) p k ≡ known x = rw (lt-ltb k (suc k) (omega arith)) (ap known (part-bit w k v (omega arith) b x)) in
+      subst (λ y. tabulate n (valueAt w (suc k) p) ≡ set (tabulate n (valueAt w k v)) k y) e
+      (sym
+      (set-tabulate n (valueAt w k v) (valueAt w (suc k) p) k k<n λ i l d.
+      elim (decLt i k) [
+        | yes h ↦
+            rw (lt-ltb i k h, lt-ltb i (suc k) (omega arith))
+            (ap known (sym (agree w k v p i (omega arith) b low (omega (arith, pow-pos (w - suc k))) h)))
+        | no h ↦ rw (le-ltb i k (omega arith), le-ltb i (suc k) (omega arith))
+      ]))
 
   pub case-no : caseOf w n (suc k) v ≡ set (caseOf w n k v) k No
   case-no = case-part false
