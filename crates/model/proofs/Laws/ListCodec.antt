@@ -9,7 +9,7 @@ use borrow.Author.Tests.{eqb-true}
 use Rattle.model.specs.declared.Limits.{Limits}
 use Rattle.model.specs.Answer.{answered}
 use Rattle.model.specs.Walk.{Line}
-use Rattle.model.specs.Read.{got, andThen, _>>_, done, require, answerOf, bytesOf}
+use Rattle.model.specs.Read.{andThen, _>>_, done, require, answerOf, bytesOf}
 use Rattle.model.specs.ListBytes.{lineAt, linesFrom, caseList, listOf, lineBytes, linesBytes, encodeList}
 use Rattle.model.specs.WellFormed.{Bytes, Each, LineOk, ListOk, Sensible}
 use Rattle.model.specs.Stands.{Span, nothing, next}
@@ -46,16 +46,21 @@ module _ (F : Limits) (sense : Sensible F) (s : List ℕ) where
   length-line l = rw length-bytesOf (omega (arith, sense .line))
 
   -- lines
-  pub lines-got :
+  pub length-linesFrom : (n p : ℕ) → length (linesFrom F s n p) ≡ n
+  unfolding linesFrom
+  length-linesFrom zero p = refl
+  length-linesFrom (suc n) p = ap suc (length-linesFrom n (p + F .line))
+
+  lines-got :
       (n p q : ℕ) → Bytes s → p + n * F .line ≡ q → q ≤ length s →
-      Each (LineOk F) (linesFrom F s n p) × Span s (length s) p (linesBytes F (linesFrom F s n p)) q × (length (linesFrom F s n p) ≡ n)
+      Each (LineOk F) (linesFrom F s n p) × Span s (length s) p (linesBytes F (linesFrom F s n p)) q
   unfolding linesFrom linesBytes
-  lines-got zero p q sound e l = let i : p ≡ q = omega (arith, zero-mul (F .line)) in (tt, nothing i, refl)
+  lines-got zero p q sound e l = let i : p ≡ q = omega (arith, zero-mul (F .line)) in (tt, nothing i)
   lines-got (suc n) p q sound e l =
       let i : p + F .line + n * F .line ≡ q = omega (arith, suc-mul n (F .line)) in
-      let (a, b, c) = lines-got n (p + F .line) q sound i l in
+      let (a, b) = lines-got n (p + F .line) q sound i l in
       let (d, r) = line-got p (p + F .line) sound refl (omega arith) in
-      ((d, a), join r b, ap suc c)
+      ((d, a), join r b)
 
   pub lines-ok :
       (ls : List Line) (p q : ℕ) → Each (LineOk F) ls → Span s (length s) p (linesBytes F ls) q → linesFrom F s (length ls) p ≡ ls
@@ -79,20 +84,21 @@ module _ (F : Limits) (sense : Sensible F) (s : List ℕ) where
       tests _ _ _ _ _ λ t.
       let n = (length s - 5) / F .line in
       let e : n * F .line ≡ length s - 5 = omega (arith, div-add-mod' (length s - 5) (F .line), eqb-true ((length s - 5) % F .line) 0 t) in
-      let (a, b, c) = lines-got n 5 (length s) sound (omega arith) (omega arith) in
-      gives (record { count = rw c (div-le-of-le-mul (F .line) (omega arith)); lines = a }, law _ b)
+      let (a, b) = lines-got n 5 (length s) sound (omega arith) (omega arith) in
+      gives (record { count = rw (length-linesFrom n 5) (div-le-of-le-mul (F .line) (omega arith)); lines = a }, law _ b)
 
-  list-ok : (ls : List Line) → ListOk F ls → s ≡ encodeList F ls → caseList F s 0 ≡ got ls 5
-  unfolding caseList _>>_ done encodeList andThen require
+  pub list-sound : Bytes s → (ls : List Line) → listOf F s ≡ answered ls → ListOk F ls × (s ≡ encodeList F ls)
+  unfolding listOf
+  list-sound sound ls e = let (q, h) = answer-got (caseList F s 0) e in list-gives sound .of ls q h
+
+  pub list-ok : (ls : List Line) → ListOk F ls → s ≡ encodeList F ls → listOf F s ≡ answered ls
+  unfolding listOf answerOf caseList _>>_ done encodeList andThen require
   list-ok ls k e =
-      let i : length s ≡ 5 + length ls * F .line =
-      ap length e ∙ length-block (F .version) (linesBytes F ls) ∙ rw (length-lines ls)
-      in
-      let j : length s - 5 ≡ length ls * F .line = omega arith in
-      let (h, w) =
-      header-ok s 60 (5 + F .line * F .lines) (F .version) 0 (linesBytes F ls) e
-      (omega (arith, mul-le-mul-right (F .line) (k .count), mul-comm (F .lines) (F .line))) (omega (arith, sense .lines))
-      in
+      let i = ap length e ∙ length-block (F .version) (linesBytes F ls) in
+      let j : length s - 5 ≡ length ls * F .line = omega (arith, length-lines ls) in
+      let m = mul-le-mul-right (F .line) (k .count) in
+      let l : length s ≤ 5 + F .line * F .lines = omega (arith, length-lines ls, mul-comm (F .lines) (F .line)) in
+      let (h, w) = header-ok s 60 (5 + F .line * F .lines) (F .version) 0 (linesBytes F ls) e l (omega (arith, sense .lines)) in
       rw (
         h,
         j,
@@ -100,13 +106,3 @@ module _ (F : Limits) (sense : Sensible F) (s : List ℕ) where
         mul-div-cancel (length ls) {n = F .line} (omega (arith, sense .line)),
         lines-ok ls 5 (length s) (k .lines) w,
       )
-
--- a list block as its answer
-module _ (F : Limits) (sense : Sensible F) where
-  pub list-sound : (s : List ℕ) → Bytes s → (ls : List Line) → listOf F s ≡ answered ls → ListOk F ls × (s ≡ encodeList F ls)
-  unfolding listOf
-  list-sound s sound ls e = let (q, h) = answer-got (caseList F s 0) e in list-gives F sense s sound .of ls q h
-
-  pub list-accepted : (ls : List Line) → ListOk F ls → listOf F (encodeList F ls) ≡ answered ls
-  unfolding listOf answerOf
-  list-accepted ls k = ap answerOf (list-ok F sense (encodeList F ls) ls k refl)

@@ -2,7 +2,7 @@
 use mathlib.Core.Path.{_≡_, refl, sym, ap, _∙_}
 use mathlib.Core.Bool.{Bool, true, false, cond}
 use mathlib.Core.List.{List, [], _∷_}
-use Prim.Native.Nat.{ℕ, zero, suc, _+_, _-_, _^_, _≤_}
+use Prim.Native.Nat.{ℕ, _+_, _-_, _^_, _≤_}
 use native.Mathlib.Omega.{arith}
 use lib.ListN.{length, drop}
 use lib.Seq.{take-at, drop-at}
@@ -15,7 +15,7 @@ use Rattle.model.specs.Answer.{Answer, refused, answered}
 use Rattle.model.specs.Case.{Task}
 use Rattle.model.specs.Walk.{Look, Line, covered, Verdict, right, wrong, undecided, visits, lookAt, walked, judged}
 use Rattle.model.specs.Read.{headBytes, _>>=_, _>>_, done}
-use Rattle.model.specs.ListBytes.{linesFrom, caseList, listOf, linesBytes, encodeList}
+use Rattle.model.specs.ListBytes.{caseList, listOf, linesBytes, encodeList}
 use Rattle.model.specs.Operations.{readTask, listBytes, linesFor, written, listFor, writeList, followList}
 use Rattle.model.specs.WellFormed.{Each, LineOk, Sensible}
 use Rattle.model.specs.Demands.{linesIn, listWritten, Demand3}
@@ -23,24 +23,19 @@ use Rattle.model.proofs.Laws.Cover.{Follows}
 use Rattle.model.proofs.Laws.Verdicts.{Passes, Means, judged-means, passes-right, right-closes, walk-passes, walk-fewest}
 use Rattle.model.proofs.Laws.Following.{claimed-le, follow-passes, passes-follow}
 use Rattle.model.proofs.Laws.Reading.{then-got, got-inj, answer-got, length-block}
-use Rattle.model.proofs.Laws.ListCodec.{length-lines, list-sound, list-accepted}
+use Rattle.model.proofs.Laws.ListCodec.{length-lines, length-linesFrom, list-sound, list-ok}
 use Rattle.model.proofs.Laws.Tasks.{answer-then, list-for-is, follow-is, Fits, task-fits}
 use Rattle.model.proofs.Laws.Judging.{judged-in}
 
 -- ---- lengths
 
-length-linesFrom : (F : Limits) (s : List ℕ) (n p : ℕ) → length (linesFrom F s n p) ≡ n
-unfolding linesFrom
-length-linesFrom F s zero p = refl
-length-linesFrom F s (suc n) p = ap suc (length-linesFrom F s n (p + F .line))
-
 -- the lines that are read are those that stand in the bytes
-list-count : (F : Limits) (s : List ℕ) (ls : List Line) → listOf F s ≡ answered ls → length ls ≡ linesIn F s
+list-count : (F : Limits) → Sensible F → (s : List ℕ) (ls : List Line) → listOf F s ≡ answered ls → length ls ≡ linesIn F s
 unfolding listOf caseList _>>=_ _>>_ done
-list-count F s ls h =
+list-count F S s ls h =
     then-got (answer-got _ h .1) λ u p e h₁.
     then-got h₁ λ u₂ p₂ e₂ h₂.
-    ap length (sym (got-inj h₂ .0)) ∙ length-linesFrom F s (linesIn F s) headBytes
+    ap length (sym (got-inj h₂ .0)) ∙ length-linesFrom F S s (linesIn F s) headBytes
 
 pub length-encodeList : (F : Limits) → Sensible F → (ls : List Line) → length (encodeList F ls) ≡ listBytes F (length ls)
 unfolding encodeList listBytes
@@ -136,10 +131,10 @@ module _ (F : Limits) (S : Sensible F) (T : Task) (fits : Fits F T) where
     unfolding Answer._>>=_
     follow-lines ls few p =
         let ok = follows-ok F S (T .width) (lookAt T) (T .facts) (omega (arith, fits .facts, S .facts)) (fits .width) ls 0 p in
-        let r = list-accepted F S ls (record { count = few; lines = ok .1 }) in (
+        let r = list-ok F S (encodeList F ls) ls (record { count = few; lines = ok .1 }) refl in (
           follow-is F problem plan T given (encodeList F ls) ∙
               rw r (passes-follow (T .width) (lookAt T) (T .facts) ls 0 0 p ∙ ap answered (omega arith)),
-          sym (list-count F (encodeList F ls) ls r),
+          sym (list-count F S (encodeList F ls) ls r),
         )
 
     pub lists : Demand3 F problem plan T
@@ -149,7 +144,7 @@ module _ (F : Limits) (S : Sensible F) (T : Task) (fits : Fits F T) where
           passes-only-right =
               λ list m e.
               let (ls, r, p, c) = followed list m e in
-              (passes-right T n≤w ls p, c ∙ list-count F list ls r);
+              (passes-right T n≤w ls p, c ∙ list-count F S list ls r);
           passes-exactly =
               λ list b m. (
                 (λ e.
@@ -183,7 +178,7 @@ module _ (F : Limits) (S : Sensible F) (T : Task) (fits : Fits F T) where
               let c = follow-lines ls few (walk-passes T n≤w ls a w) .1 in
               let (ms, r, p, _) = followed list m f in
               let l = walk-fewest T n≤w ls a w ms p in
-              rw (written, c) (omega (arith, list-count F list ms r));
+              rw (written, c) (omega (arith, list-count F S list ms r));
         }
 
 pub rest-unchanged :

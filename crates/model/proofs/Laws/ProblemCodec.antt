@@ -7,10 +7,11 @@ use lib.ListN.{length, getD}
 use borrow.Author.Tests.{ltb-true, leb-true, lt-ltb, le-leb}
 use Rattle.model.specs.declared.Limits.{Limits}
 use Rattle.model.specs.Limits.{maxActions, maxSteps, maxProblemBytes}
+use Rattle.model.specs.Answer.{answered}
 use Rattle.model.specs.Action.{Effect, Action}
-use Rattle.model.specs.Read.{got, andThen, _>>=_, _>>_, done, position, require, counted}
+use Rattle.model.specs.Read.{got, andThen, _>>=_, _>>_, done, position, require, counted, answerOf}
 use Rattle.model.specs.FormulaBytes.{literalByte, encodeFormula}
-use Rattle.model.specs.ProblemBytes.{Problem, effect, effects, effectList, action, actions, ending, parts, body, problem, steps, plan, effectsBytes, actionBytes, actionsBytes, encodeProblem, encodePlan}
+use Rattle.model.specs.ProblemBytes.{Problem, effect, effects, effectList, action, actions, ending, parts, body, problem, problemOf, steps, plan, planOf, effectsBytes, actionBytes, actionsBytes, encodeProblem, encodePlan}
 use Rattle.model.specs.WellFormed.{Bytes, Each, Declared, FormulaOk, EffectsOk, ActionOk, ProblemOk, PlanOk, Sensible}
 use Rattle.model.specs.Stands.{Span, nothing, next}
 use Rattle.model.proofs.Laws.Reading.{Gives, gives, reads, ends, tests, empty, first, join, split, span-length, span-end, byte-gives, byte-ok, length-block, header-gives, header-ok, count-gives, count-ok}
@@ -66,7 +67,8 @@ module _ (F : Limits) (s : List ℕ) (facts : ℕ) (most : facts ≤ 64) where
       reads (formula-gives s facts most sound p) λ f m (a, b).
       reads
       {P = λ es q. (length es ≤ F .effects) × EffectsOk facts 0 es × Span s (length s) m (length es ∷ effectsBytes es) q}
-      (reads (count-gives s 22 0 (F .effects) m) λ n o (_, c, d). ends (effects-give s facts most sound n 0 o) λ es v (e, k, i). (rw i c, e, rw i (join d k)))
+      (reads (count-gives s 22 0 (F .effects) m) λ n o (_, c, d).
+      ends (effects-give s facts most sound n 0 o) λ es v (e, k, i). (rw i c, e, rw i (join d k)))
       λ es v (c, e, k).
       gives (record { precondition = a; count = c; effects = e }, join b k)
 
@@ -126,14 +128,12 @@ module _ (F : Limits) (sense : Sensible F) (s : List ℕ) where
       let short = subst (λ (xs : List ℕ). length xs ≤ maxProblemBytes) whole l in
       gives (search, whole)
 
-  pub problem-ok : (x : Problem) → ProblemOk F x → s ≡ encodeProblem F x → problem F s 0 ≡ got x (length s)
-  unfolding problem body parts ending _>>=_ _>>_ andThen position done encodeProblem require
+  pub problem-ok : (x : Problem) → ProblemOk F x → s ≡ encodeProblem F x → problemOf F s ≡ answered x
+  unfolding problemOf answerOf problem body parts ending _>>=_ _>>_ andThen position done encodeProblem require
   problem-ok x k e =
       let most : x .facts ≤ 64 = omega (arith, k .facts, sense .facts) in
-      let (h, w) =
-      header-ok s 10 maxProblemBytes (F .version) 0 _ e (subst (λ (xs : List ℕ). length xs ≤ maxProblemBytes) (sym e) (k .short))
-      (omega arith)
-      in
+      let l : length s ≤ maxProblemBytes = subst (λ (xs : List ℕ). length xs ≤ maxProblemBytes) (sym e) (k .short) in
+      let (h, w) = header-ok s 10 maxProblemBytes (F .version) 0 _ e l (omega arith) in
       let (_, _, w₁) = first w in
       let (_, _, w₂) = first w₁ in
       split (encodeFormula (x .initial)) w₂ λ m a r.
@@ -177,12 +177,10 @@ module _ (s : List ℕ) where
       let e : q ≡ length s = omega arith in
       (record { count = omega (arith, span-length b); actions = a }, law bs (rw (i, e) at b))
 
-  pub plan-ok : (m : ℕ) (bs : List ℕ) → PlanOk m bs → s ≡ encodePlan bs → plan s m 0 ≡ got bs (length s)
-  unfolding plan _>>_ encodePlan andThen
+  pub plan-ok : (m : ℕ) (bs : List ℕ) → PlanOk m bs → s ≡ encodePlan bs → planOf s m ≡ answered bs
+  unfolding planOf answerOf plan _>>_ encodePlan andThen
   plan-ok m bs k e =
-      let (h, w) =
-      header-ok s 30 (5 + maxSteps) 1 0 bs e (omega (arith, ap length e ∙ length-block 1 bs, k .count))
-      (omega arith)
-      in
+      let l = ap length e ∙ length-block 1 bs in
+      let (h, w) = header-ok s 30 (5 + maxSteps) 1 0 bs e (omega (arith, k .count)) (omega arith) in
       let n : length s - 5 ≡ length bs = omega (arith, span-length w) in
       rw (h, n, steps-ok m bs 5 (length s) (k .actions) w)

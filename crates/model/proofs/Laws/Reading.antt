@@ -57,7 +57,8 @@ module _ {B : Type 0} {Q : B → ℕ → Type 0} where
   pub ends : {P : B → ℕ → Type 0} {x : Read B} → Gives x P → ((a : B) (q : ℕ) → P a q → Q a q) → Gives x Q
   ends f g = record { of = λ a q e. g a q (f .of a q e) }
 
-  pub tests : (t : Bool) (n o p : ℕ) (k : Unit {0} → Reader B) → (t ≡ true → Gives (k tt p) Q) → Gives (andThen (require t n o p) k) Q
+  pub tests :
+      (t : Bool) (n o p : ℕ) (k : Unit {0} → Reader B) → (t ≡ true → Gives (k tt p) Q) → Gives (andThen (require t n o p) k) Q
   tests t n o p k f = record { of = λ b q e. needed t n o p k e λ i e₁. f i .of b q e₁ }
 
 pub answer-got : {A : Type 0} {a : A} (x : Read A) → answerOf x ≡ answered a → (q : ℕ) × (x ≡ got a q)
@@ -94,10 +95,7 @@ module _ {s : List ℕ} {end : ℕ} where
 
   pub span-within : {xs : List ℕ} {p q : ℕ} (other : ℕ) → Span s end p xs q → q ≤ other → Span s other p xs q
   span-within other (nothing e) l = nothing e
-  span-within other (next {p = p} m e h) l =
-      let i = span-length h in
-      let b : p < other = omega arith in
-      next b e (span-within other h l)
+  span-within other (next {p = p} m e h) l = next {p = p} (omega (arith, span-length h)) e (span-within other h l)
 
   -- one byte
   pub byte-got : {b p q : ℕ} (number : ℕ) → byte s end number p ≡ got b q → Span s end p (b ∷ []) q
@@ -206,14 +204,13 @@ module _ (s : List ℕ) (number most version p : ℕ) where
       tests _ _ _ _ _ λ t₄.
       let l = leb-true 5 (length s) t₂ in
       let o : 0 < length s = omega arith in
+      let f = eqb-true (bigEndian (take 4 (drop 1 s))) (length s - 5) t₄ in
       gives (
         refl,
         leb-true (length s) most t₁,
         l,
         λ body k.
-            let e : bigEndian (take 4 (drop 1 s)) ≡ length body =
-            omega (arith, eqb-true (bigEndian (take 4 (drop 1 s))) (length s - 5) t₄, span-length k)
-            in
+            let e : bigEndian (take 4 (drop 1 s)) ≡ length body = omega (arith, span-length k) in
             whole-is (next o (eqb-true _ _ t₃) (join (rw e at (number-got s 4 1 5 sound (omega arith) l .1)) k)),
       )
 

@@ -1,15 +1,14 @@
 -- What a verdict means: Kleene soundness and exactness for cases, and what the walk's two endings say of the start states.
 -- Assumes nothing.
 use mathlib.Core.Path.{_≡_, refl, sym, ap, _∙_, subst}
-use mathlib.Core.Bool.{Bool, true, false, cond}
+use mathlib.Core.Bool.{Bool, true, false}
 use mathlib.Core.Logic.{_≢_, _⊎_, inl, inr}
 use mathlib.Core.List.{List, [], append-nil}
 use Prim.Native.Nat.{ℕ, suc, _+_, _-_, _*_, _^_, _≤_, _<_, zero-le}
 use native.Mathlib.Omega.{arith}
-use native.Mathlib.Decide.{decLe}
-use lib.Dec.{ltb}
+use native.Mathlib.Decide.{decLe, decLt}
 use lib.ListN.{length}
-use borrow.Author.Tests.{lt-ltb, le-leb, lt-leb, ltb-true}
+use borrow.Author.Tests.{lt-ltb, le-ltb, le-leb, lt-leb}
 use Rattle.model.specs.Kleene.{Kleene, No, Unknown, Yes, isYes, known, two, three}
 use Rattle.model.specs.Formula.{Formula, eval}
 use Rattle.model.specs.Action.{Action}
@@ -27,11 +26,12 @@ module _ (w n : ℕ) where
 
   case-refines : (k v k′ v′ : ℕ) → k ≤ k′ → Admits k v v′ → Along three three Refines refining (caseOf w n k v) (caseOf w n k′ v′)
   unfolding caseOf
-  case-refines k v k′ v′ h ad = tabulate-keeps three three Refines refining n _ _ λ i l. by-cases i (ltb i k) refl
-    where
-      by-cases : (i : ℕ) (b : Bool) → ltb i k ≡ b → Refines (cond b (known (bit w v i)) Unknown) (cond (ltb i k′) (known (bit w v′ i)) Unknown)
-      by-cases i true e = rw (lt-ltb i k′ (omega (arith, ltb-true i k e)), ad i (ltb-true i k e)) same
-      by-cases i false e = wider
+  case-refines k v k′ v′ h ad =
+      tabulate-keeps three three Refines refining n _ _ λ i l.
+      elim (decLt i k) [
+        | yes g ↦ rw (lt-ltb i k g, lt-ltb i k′ (omega arith), ad i g) same
+        | no g ↦ rw (le-ltb i k (omega arith)) wider
+      ]
 
   case-exact : (s : ℕ) → Along three two Exact exact (caseOf w n n s) (stateOf w n s)
   unfolding caseOf stateOf
