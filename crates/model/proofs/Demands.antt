@@ -13,13 +13,13 @@ use Rattle.model.specs.Demands.{Demand1, Demands}
 use Rattle.model.proofs.Laws.Reading.{answer-got}
 use Rattle.model.proofs.Laws.ProblemCodec.{problem-gives, problem-ok, plan-gives, plan-ok}
 use Rattle.model.proofs.Laws.ListCodec.{list-sound, list-ok}
-use Rattle.model.proofs.Laws.Tasks.{task-fits}
+use Rattle.model.proofs.Laws.Tasks.{answer-then, task-fits}
 use Rattle.model.proofs.Laws.Judging.{verdicts}
-use Rattle.model.proofs.Laws.Lists.{refused-unchanged, rest-unchanged, lists, n≤w}
+use Rattle.model.proofs.Laws.Lists.{written-answered, refused-unchanged, wrote, lists, n≤w}
 
 module _ (F : Limits) (S : Sensible F) where
   reading : Demand1 F
-  unfolding problemOf planOf writeList readTask Answer._>>=_
+  unfolding problemOf planOf writeList listFor readTask Answer._>>=_
   reading =
       record {
         problem-sound = λ s b p e. let (q, h) = answer-got (problem F s 0) e in problem-gives F S s b .of p q h;
@@ -33,7 +33,11 @@ module _ (F : Limits) (S : Sensible F) where
             rw (problem-ok F S (encodeProblem F p) p k refl, Answer._>>=_, plan-ok (encodePlan steps) (length (p .actions)) steps l refl);
         refused-unchanged =
             λ problem plan grant out n q e. refused-unchanged F out n q (listFor F problem plan grant (length out)) e;
-        rest-unchanged = rest-unchanged F S;
+        rest-unchanged =
+            λ problem plan grant out n e.
+            answer-then (written-answered F out n (listFor F problem plan grant (length out)) e .1) λ T given _.
+            let (_, _, _, _, size, _, rest) = wrote F S T (task-fits F problem plan T given) problem plan given grant out n e in
+            (size, rest);
       }
 
   pub demands-hold : Demands F

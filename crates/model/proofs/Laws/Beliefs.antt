@@ -67,7 +67,7 @@ module _ (n : ℕ) (goal : Formula) where
   abbrev MeansFrom : Belief → List Action → ℕ → Outcome → Type 0
   MeansFrom B plan i reached = Solution n B goal plan
   MeansFrom B plan i missed = Applicable n B plan × (Entails (after n B plan) goal → ⊥)
-  MeansFrom B plan i (blocked p) = (j : ℕ) × (p .step ≡ i + j) × Blocks n B plan j
+  MeansFrom B plan i (blocked p) = (i ≤ p .step) × Blocks n B plan (p .step - i)
 
   after-step :
       (a : Action) (B : Belief) (plan : List Action) (i : ℕ) → ApplicableIn B a → (o : Outcome) →
@@ -75,15 +75,14 @@ module _ (n : ℕ) (goal : Formula) where
   after-step a B plan i h reached m = ((h, m .0), m .1)
   after-step a B plan i h missed m = ((h, m .0), m .1)
   after-step a B plan i h (blocked p) m =
-      let (j, e, b) = m in (
-        suc j,
-        omega (arith, e),
+      let (l, b) = m in (
+        omega arith,
         record {
           before = a ∷ b .before;
           action = b .action;
           rest = b .rest;
           parts = ap (λ l. a ∷ l) (b .parts);
-          at = ap suc (b .at);
+          at = omega (arith, b .at);
           applicable = (h, b .applicable);
           not-applicable = b .not-applicable;
         },
@@ -105,14 +104,13 @@ module _ (n : ℕ) (goal : Formula) where
           MeansFrom B (a ∷ plan) i (goesOn b o (record { step = i }))
       by-test o m true e = after-step a B plan i (entails-alone B s h (a .precondition) .1 e) o m
       by-test o m false e = (
-        0,
         omega arith,
         record {
           before = [];
           action = a;
           rest = plan;
           parts = refl;
-          at = refl;
+          at = omega arith;
           applicable = tt;
           not-applicable = λ g. false≢true (sym e ∙ entails-alone B s h (a .precondition) .0 g);
         },
@@ -148,7 +146,7 @@ module _ (n : ℕ) (goal : Formula) where
         ap atEnd (not-true (eval two t goal) (λ e. m .1 (entails-alone (after n (only s) plan) t l goal .1 e)))),
   )
   outcome-means plan s (blocked p) = (
-    (λ e. let (j, i, b) = rw e at (run-means plan 0 (only s) s (only-alone s)) in subst (Blocks n (only s) plan) (omega arith) b),
+    (λ e. subst (Blocks n (only s) plan) (omega arith) ((rw e at (run-means plan 0 (only s) s (only-alone s))) .1)),
     λ b.
         rw (b .parts)
         (runs-on (b .before) (b .action ∷ b .rest) 0 (only s) s (only-alone s) (b .applicable) (blocked p) λ t l.
@@ -192,6 +190,7 @@ module _ (T : Task) (n≤w : T .facts ≤ T .width) where
         (length-tabulate (T .facts) _, st .starts)),
     λ r.
         runs-solution (T .facts) (T .goal) (T .plan) 0 (initialBelief (T .facts) (T .initial)) λ c b.
-        let (s, st, e) = numbered c (b .0) (T .facts) 0 0 (omega arith) (root-block (T .width)) (omega (arith, root-span (T .width))) (λ i l. absurd (omega arith)) in
+        let root = root-span (T .width) in
+        let (s, st, e) = numbered c (b .0) (T .facts) 0 0 (omega arith) (root-block (T .width)) (omega arith) (λ i l. absurd (omega arith)) in
         rw e at (r s (record { state = st; starts = rw e (b .1) })),
   )

@@ -45,7 +45,8 @@ module _ (facts : ℕ) (most : facts ≤ 64) where
   -- a group's mark is no literal's byte, and tells the group
   mark-ok :
       (g : Group) →
-      (isLiteral facts (mark g) ≡ false) × ((eqb (mark g) 0x80 || eqb (mark g) 0x81) ≡ true) × (cond (eqb (mark g) 0x80) conjunction disjunction ≡ g)
+      (isLiteral facts (mark g) ≡ false) × ((eqb (mark g) 0x80 || eqb (mark g) 0x81) ≡ true) ×
+      (cond (eqb (mark g) 0x80) conjunction disjunction ≡ g)
   unfolding isLiteral
   mark-ok conjunction = (rw (le-ltb 0x80 facts (omega arith), le-ltb 0x80 (64 + facts) (omega arith)), refl, refl)
   mark-ok disjunction = (rw (le-ltb 0x81 facts (omega arith), le-ltb 0x81 (64 + facts) (omega arith)), refl, refl)
@@ -114,7 +115,8 @@ module _ (s : List ℕ) (end facts : ℕ) (most : facts ≤ 64) where
   -- members, by the law of one member
   members-give :
       (left parent : ℕ) (one : Reader Formula) → ((p : ℕ) → Gives (one p) (ItemAt left parent p)) → (n p : ℕ) →
-      Gives (members s end facts one n p) (λ ms q. FormedAll facts left parent ms × Span s end p (memberBytes ms) q × (memberCount ms ≡ n))
+      Gives (members s end facts one n p) λ ms q.
+      FormedAll facts left parent ms × Span s end p (memberBytes ms) q × (memberCount ms ≡ n)
   unfolding members _>>=_ andThen done formulaBytes Formed
   members-give left parent one law zero p = gives (tt, nothing refl, refl)
   members-give left parent one law (suc n) p =
@@ -129,16 +131,19 @@ module _ (s : List ℕ) (end facts : ℕ) (most : facts ≤ 64) where
   unfolding whole _>>=_ andThen done formulaBytes Formed
   whole-gives left parent p inner law (leaf l) m (d, r) = gives (d, r)
   whole-gives left parent p inner law (group conjunction n) m ((d, o, l), r) =
-      reads (members-give (left - 1) 0x80 (inner 0x80) (law d conjunction) n m) λ ms v (a, b, i). gives ((d, o, rw i l, a), rw i (join r b))
+      reads (members-give (left - 1) 0x80 (inner 0x80) (law d conjunction) n m) λ ms v (a, b, i).
+      gives ((d, o, rw i l, a), rw i (join r b))
   whole-gives left parent p inner law (group disjunction n) m ((d, o, l), r) =
-      reads (members-give (left - 1) 0x81 (inner 0x81) (law d disjunction) n m) λ ms v (a, b, i). gives ((d, o, rw i l, a), rw i (join r b))
+      reads (members-give (left - 1) 0x81 (inner 0x81) (law d disjunction) n m) λ ms v (a, b, i).
+      gives ((d, o, rw i l, a), rw i (join r b))
 
   item-gives : Bytes s → (left parent p : ℕ) → Gives (item s end facts left parent p) (ItemAt left parent p)
   unfolding item _>>=_
   item-gives sound zero parent p = reads (head-gives sound 0 parent p) (whole-gives 0 parent p _ (λ l. absurd (omega arith)))
   item-gives sound (suc left) parent p =
       let i : suc left - 1 ≡ left = omega arith in
-      reads (head-gives sound (suc left) parent p) (whole-gives (suc left) parent p _ (λ l g p. rw i (item-gives sound left (mark g) p)))
+      reads (head-gives sound (suc left) parent p)
+      (whole-gives (suc left) parent p _ (λ l g p. rw i (item-gives sound left (mark g) p)))
 
   -- a group, by its head and its members
   group-ok :
@@ -200,7 +205,8 @@ module _ (s : List ℕ) where
       rw (byte-ok 14 r, byte-ok 14 v, i, le-leb 1 n l, le-leb n maxFormulaBytes u, empty (first v .2), le-leb (q + n) (length s) b)
 
   pub formula-gives :
-      (facts : ℕ) → facts ≤ 64 → Bytes s → (p : ℕ) → Gives (formula s facts p) (λ f q. FormulaOk facts f × Span s (length s) p (encodeFormula f) q)
+      (facts : ℕ) → facts ≤ 64 → Bytes s → (p : ℕ) →
+      Gives (formula s facts p) (λ f q. FormulaOk facts f × Span s (length s) p (encodeFormula f) q)
   unfolding formula _>>=_ _>>_ andThen position done encodeFormula
   formula-gives facts most sound p =
       reads (stated-gives sound p) λ e m (n, u, r, i, b).

@@ -35,7 +35,9 @@ module _ (T : Task) (n≤w : T .facts ≤ T .width) where
               subst (Says T g) h (counted g (judged T g) (judged-means T n≤w g));
           right-is-solution = (solution-right T n≤w .1, solution-right T n≤w .0);
           called-right =
-              λ g h r. let (ls, a, e) = right-closes T n≤w r in (length ls, rw (judge-is F problem plan T given g, judged-in T n≤w g (covered ls a) e h, e));
+              λ g h r.
+              let (ls, a, e) = right-closes T n≤w r in
+              (length ls, rw (judge-is F problem plan T given g, judged-in T n≤w g (covered ls a) e h, e));
           called-wrong =
               λ g h nr.
               elim (walk-ends (walked T)) [

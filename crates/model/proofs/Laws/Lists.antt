@@ -24,7 +24,7 @@ use Rattle.model.proofs.Laws.Verdicts.{Passes, Means, judged-means, pas
 use Rattle.model.proofs.Laws.Following.{claimed-le, follow-passes, passes-follow}
 use Rattle.model.proofs.Laws.Reading.{then-got, got-inj, answer-got, length-block}
 use Rattle.model.proofs.Laws.ListCodec.{length-lines, length-linesFrom, list-sound, list-ok}
-use Rattle.model.proofs.Laws.Tasks.{answer-then, list-for-is, follow-is, Fits, task-fits}
+use Rattle.model.proofs.Laws.Tasks.{answer-then, list-for-is, follow-is, Fits}
 use Rattle.model.proofs.Laws.Judging.{judged-in}
 
 -- ---- lengths
@@ -96,12 +96,14 @@ module _ (F : Limits) (S : Sensible F) (T : Task) (fits : Fits F T) where
   module _ (problem plan : List ℕ) (given : readTask F problem plan ≡ answered T) where
     -- the buffer after lines were written
     buffer :
-        (grant : ℕ) (out : List ℕ) (n : ℕ) (ls : List Line) → listFor F problem plan grant (length out) ≡ answered ls → n ≡ listBytes F (length ls) →
+        (grant : ℕ) (out : List ℕ) (n : ℕ) (ls : List Line) → listFor F problem plan grant (length out) ≡ answered ls →
+        n ≡ listBytes F (length ls) →
         (listWritten F problem plan grant out n ≡ encodeList F ls) × (drop n (writeList F problem plan grant out .buffer) ≡ drop n out)
     unfolding writeList written
     buffer grant out n ls e l =
         let k = length-encodeList F S ls in
-        rw (e, l) (take-at (encodeList F ls) (drop (listBytes F (length ls)) out) _ k, drop-at (encodeList F ls) (drop (listBytes F (length ls)) out) _ k)
+        let after = drop (listBytes F (length ls)) out in
+        rw (e, l) (take-at (encodeList F ls) after _ k, drop-at (encodeList F ls) after _ k)
 
     -- what was written, as the walk's lines
     pub wrote :
@@ -180,13 +182,3 @@ module _ (F : Limits) (S : Sensible F) (T : Task) (fits : Fits F T) where
               let l = walk-fewest T n≤w ls a w ms p in
               rw (written, c) (omega (arith, list-count F S list ms r));
         }
-
-pub rest-unchanged :
-    (F : Limits) → Sensible F → (problem plan : List ℕ) (grant : ℕ) (out : List ℕ) (n : ℕ) →
-    writeList F problem plan grant out .answer ≡ answered n →
-    (n ≤ length out) × (drop n (writeList F problem plan grant out .buffer) ≡ drop n out)
-unfolding writeList listFor
-rest-unchanged F S problem plan grant out n e =
-    answer-then (written-answered F out n (listFor F problem plan grant (length out)) e .1) λ T given _.
-    let (_, _, _, _, size, _, rest) = wrote F S T (task-fits F problem plan T given) problem plan given grant out n e in
-    (size, rest)

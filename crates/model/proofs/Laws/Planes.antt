@@ -47,10 +47,7 @@ bit-zero j = ap (λ (x : ℕ). x % 2) (zero-div (2 ^ j))
 
 pub bit-flip : (j x : ℕ) → j < 64 → laneBit j (bitXor ones x) ≡ 1 - laneBit j x
 unfolding laneBit
-bit-flip j x h =
-    ap (λ (y : ℕ). y % 2) (xor-shr ones x j ∙ xor-step (ones / 2 ^ j) (x / 2 ^ j)) ∙
-    ap (λ (y : ℕ). (bitXor (ones / 2 ^ j / 2) (x / 2 ^ j / 2) * 2 + differ y (laneBit j x)) % 2) (bit-ones j h) ∙
-    flipped _ (laneBit j x) (bit-small j x)
+bit-flip j x h = rw (xor-shr ones x j, xor-step (ones / 2 ^ j) (x / 2 ^ j), bit-ones j h) (flipped _ (laneBit j x) (bit-small j x))
   where
     flipped : (q x : ℕ) → x < 2 → (q * 2 + differ 1 x) % 2 ≡ 1 - x
     flipped q zero h = omega arith
@@ -64,15 +61,19 @@ module _ (j : ℕ) {some sure : ℕ} {x : Kleene} (h : InLane j some sure x) whe
     pub lane-both : InLane j (bitAnd some some′) (bitAnd sure sure′) (both x y)
     lane-both =
         record {
-          is-some = bit-and j some some′ ∙ rw (h .is-some, k .is-some) (by-table (λ x y. min (someBit x) (someBit y)) (λ x y. someBit (both x y)) refl x y);
-          is-sure = bit-and j sure sure′ ∙ rw (h .is-sure, k .is-sure) (by-table (λ x y. min (sureBit x) (sureBit y)) (λ x y. sureBit (both x y)) refl x y);
+          is-some =
+              rw (bit-and j some some′, h .is-some, k .is-some) (by-table (λ x y. min (someBit x) (someBit y)) (λ x y. someBit (both x y)) refl x y);
+          is-sure =
+              rw (bit-and j sure sure′, h .is-sure, k .is-sure) (by-table (λ x y. min (sureBit x) (sureBit y)) (λ x y. sureBit (both x y)) refl x y);
         }
 
     pub lane-either : InLane j (bitOr some some′) (bitOr sure sure′) (either x y)
     lane-either =
         record {
-          is-some = bit-or j some some′ ∙ rw (h .is-some, k .is-some) (by-table (λ x y. max (someBit x) (someBit y)) (λ x y. someBit (either x y)) refl x y);
-          is-sure = bit-or j sure sure′ ∙ rw (h .is-sure, k .is-sure) (by-table (λ x y. max (sureBit x) (sureBit y)) (λ x y. sureBit (either x y)) refl x y);
+          is-some =
+              rw (bit-or j some some′, h .is-some, k .is-some) (by-table (λ x y. max (someBit x) (someBit y)) (λ x y. someBit (either x y)) refl x y);
+          is-sure =
+              rw (bit-or j sure sure′, h .is-sure, k .is-sure) (by-table (λ x y. max (sureBit x) (sureBit y)) (λ x y. sureBit (either x y)) refl x y);
         }
 
   pub lane-denied : j < 64 → InLane j (bitXor ones sure) (bitXor ones some) (denied x)
@@ -111,7 +112,9 @@ pub other-literal : (case : List Kleene) (l m : ℕ) → l < 128 → m ≡ (l + 
 other-literal case l m small other =
     elim (decLt l 64) [
       | yes h ↦ let e : m - 64 ≡ l = omega arith in rw (literal-fact l h, literal-denial m (omega arith), e)
-      | no h ↦ let e : m ≡ l - 64 = omega arith in rw (literal-denial l (omega arith), literal-fact m (omega arith), e) (by-row (λ x. x) (λ x. denied (denied x)) refl _)
+      | no h ↦
+          let e : m ≡ l - 64 = omega arith in
+          rw (literal-denial l (omega arith), literal-fact m (omega arith), e) (by-row (λ x. x) (λ x. denied (denied x)) refl _)
     ]
 
 -- a literal's value is known by its fact's
