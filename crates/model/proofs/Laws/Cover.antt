@@ -92,9 +92,21 @@ module _ (w : ℕ) (look : ℕ → ℕ → Look) (n : ℕ) where
   abbrev pub Follows : List Line → ℕ → Type 0
   Follows ls x = Joined w ls x × Each (LineHolds w look n) ls
 
-  pub data Starts (x : ℕ) : List Line → Type 0 where
-    first : {l : Line} {ls : List Line} → l .value ≡ x → Starts x (l ∷ ls)
-    later : {l : Line} {ls : List Line} → Starts x ls → Starts x (l ∷ ls)
+  -- how many lines begin at x or later, and that one begins at x
+  abbrev pub from : ℕ → List Line → ℕ
+  from x [] = 0
+  from x (l ∷ ls) = (1 - (x - l .value)) + from x ls
+
+  abbrev pub Starts : ℕ → List Line → Type 0
+  Starts x ls = from (suc x) ls < from x ls
+
+  from-le : (x y : ℕ) → x ≤ y → (ls : List Line) → from y ls ≤ from x ls
+  from-le x y h [] = omega arith
+  from-le x y h (l ∷ ls) = omega (arith, from-le x y h ls)
+
+  from-length : (ls : List Line) → from 0 ls ≤ length ls
+  from-length [] = zero-le
+  from-length (l ∷ ls) = omega (arith, from-length ls)
 
   -- each number from x on is covered by a line
   pub covering :
@@ -104,10 +116,11 @@ module _ (w : ℕ) (look : ℕ → ℕ → Look) (n : ℕ) where
   covering (m ∷ ls) x f s l h c =
       elim (decLt s (x + 2 ^ (w - m .k))) [
         | yes g ↦
-            let (κ, e) = claimed (m .kind) _ (f .1 .0 .claim) in
+            let (κ, e) = claimed (m .kind) (look (m .k) (m .value)) (f .1 .0 .claim) in
             let b = block-of-mod w (m .k) (m .value) (f .1 .0 .no-bits) in
-            c (m .k) (m .value) κ (first refl) (f .1 .0 .k-fits) b e (omega arith) (omega arith)
-        | no g ↦ covering ls (x + 2 ^ (w - m .k)) (f .0 .1, f .1 .1) s (omega arith) h (λ k v κ st. c k v κ (later st))
+            let st : Starts (m .value) (m ∷ ls) = omega (arith, from-le (m .value) (suc (m .value)) (omega arith) ls) in
+            c (m .k) (m .value) κ st (f .1 .0 .k-fits) b e (omega arith) (omega arith)
+        | no g ↦ covering ls (x + 2 ^ (w - m .k)) (f .0 .1, f .1 .1) s (omega arith) h (λ k v κ st. c k v κ (omega (arith, st)))
       ]
 
   -- ---- what the walk met, as a tree
@@ -180,38 +193,17 @@ module _ (w : ℕ) (look : ℕ → ℕ → Look) (n : ℕ) where
             | no p ↦ closes-good y s (omega arith) (omega (arith, pow-half w k (omega arith)))
           ]
 
-      pub record FailsAt (s : ℕ) : Type 0 where
-        pub is-open : look n s ≡ opened
-        pub block : Block w n s
-        pub high : s < 2 ^ w
-        pub before : (t : ℕ) → t < s → Good t
-
-      pub fails-at : {k v s : ℕ} → Fails k v s → ((t : ℕ) → t < v → Good t) → FailsAt s
-      fails-at (here i b h e) g = record { is-open = rw i at e; block = rw i at b; high = h; before = g }
+      pub fails-at :
+          {k v s : ℕ} → Fails k v s → ((t : ℕ) → t < v → Good t) →
+          (look n s ≡ opened) × Block w n s × (s < 2 ^ w) × ((t : ℕ) → t < s → Good t)
+      fails-at (here i b h e) g = (rw i at e, rw i at b, h, g)
       fails-at (left x) g = fails-at x g
       fails-at (right {k} {v} x y) g =
           fails-at y λ t l. elim (decLt t v) [ yes p ↦ g t p | no p ↦ closes-good x t (omega arith) l ]
 
-    -- how many lines begin at x or later
-    abbrev from : ℕ → List Line → ℕ
-    from x [] = 0
-    from x (l ∷ ls) = (1 - (x - l .value)) + from x ls
-
-    from-le : (x y : ℕ) → x ≤ y → (ls : List Line) → from y ls ≤ from x ls
-    from-le x y h [] = omega arith
-    from-le x y h (l ∷ ls) = omega (arith, from-le x y h ls)
-
-    from-length : (ls : List Line) → from 0 ls ≤ length ls
-    from-length [] = zero-le
-    from-length (l ∷ ls) = omega (arith, from-length ls)
-
-    from-starts : (x y : ℕ) → x < y → {ls : List Line} → Starts x ls → suc (from y ls) ≤ from x ls
-    from-starts x y h (first {l} {ls} e) = omega (arith, from-le x y (omega arith) ls)
-    from-starts x y h (later {l} {ls} t) = omega (arith, from-starts x y h t)
-
     begins-at-0 : (ls : List Line) → Follows ls 0 → Starts 0 ls
     begins-at-0 [] f = absurd (omega (arith, pow-pos w))
-    begins-at-0 (l ∷ ls) f = first (f .0 .0)
+    begins-at-0 (l ∷ ls) f = omega (arith, f .0 .0, from-le 0 1 (omega arith) ls)
 
     module _ (all : List Line) (fol : Follows all 0)
         (shut : (k v k′ v′ : ℕ) (κ : Kind) → k ≤ k′ → k′ ≤ n → Block w k v → v ≤ v′ → v′ < v + 2 ^ (w - k) →
@@ -232,7 +224,7 @@ module _ (w : ℕ) (look : ℕ → ℕ → Look) (n : ℕ) where
       least :
           {k v a : ℕ} {ls : List Line} → Closes k v ls a → v + 2 ^ (w - k) ≤ 2 ^ w → Starts v all →
           length ls + from (v + 2 ^ (w - k)) all ≤ from v all
-      least (leaf {k} {v} _ b e) h st = omega (arith, from-starts v (v + 2 ^ (w - k)) (omega (arith, pow-pos (w - k))) st)
+      least (leaf {k} {v} _ b e) h st = omega (arith, from-le (suc v) (v + 2 ^ (w - k)) (omega (arith, pow-pos (w - k))) all)
       least (node {k} {v} {ls} {ms} kn b e x y) h st =
           let p = pow-half w k (omega arith) in
           let l1 = least x (omega arith) st in

@@ -29,8 +29,7 @@ got-inj h = (cc, cc)
 
 pub both-true : (a b : Bool) → (a && b) ≡ true → (a ≡ true) × (b ≡ true)
 both-true true b h = (refl, h)
-both-true false true h = (h, refl)
-both-true false false h = (h, h)
+both-true false b h = (h, cc)
 
 -- a test that a reader asks for
 pub needed :

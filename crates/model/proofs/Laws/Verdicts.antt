@@ -43,7 +43,8 @@ module _ (w n : ℕ) where
   eval-refines : (k v k′ v′ : ℕ) → k ≤ k′ → Admits k v v′ → (φ : Formula) → Refines (eval three (caseOf w n k v) φ) (eval three (caseOf w n k′ v′) φ)
   eval-refines k v k′ v′ h ad φ = eval-keeps three three Refines refining (caseOf w n k v) (caseOf w n k′ v′) (case-refines k v k′ v′ h ad) φ
 
-  kleene : (k v s : ℕ) → k ≤ n → Admits k v s → (φ : Formula) (b : Bool) → eval three (caseOf w n k v) φ ≡ known b → eval two (stateOf w n s) φ ≡ b
+  kleene :
+      (k v s : ℕ) → k ≤ n → Admits k v s → (φ : Formula) (b : Bool) → eval three (caseOf w n k v) φ ≡ known b → eval two (stateOf w n s) φ ≡ b
   kleene k v s h ad φ b e = known-inj (sym (read-full s φ) ∙ refines-known b (eval-refines k v n s h ad φ) e)
 
   pub kleene-yes : (k v s : ℕ) → k ≤ n → Admits k v s → (φ : Formula) → eval three (caseOf w n k v) φ ≡ Yes → eval two (stateOf w n s) φ ≡ true
@@ -128,14 +129,15 @@ module _ (T : Task) (n≤w : T .facts ≤ T .width) where
   pub walk-fails-first : (s a : ℕ) → walked T ≡ failed s a → LowestFailing T s
   unfolding lookAt runOf initially
   walk-fails-first s a e =
-      let f = fails-at (T .width) (lookAt T) (T .facts) n≤w Good good (traced (failed s a) e) (λ t l. absurd (omega arith)) in
-      let o = look-open (initialAt T (T .facts) s) (runAt T (T .facts) s) (f .is-open) in
+      let none : (t : ℕ) → t < 0 → Good t = λ t l. absurd (omega arith) in
+      let (at, block, high, before) = fails-at (T .width) (lookAt T) (T .facts) n≤w Good good (traced (failed s a) e) none in
+      let o = look-open (initialAt T (T .facts) s) (runAt T (T .facts) s) at in
       let starts = not-no (initially T s) (λ p. o (inl (read-full (T .width) (T .facts) s (T .initial) ∙ p))) in
-      let state : IsState T s = record { in-width = f .high; no-bits = mod-of-block (T .width) (T .facts) s (f .block) } in
+      let state : IsState T s = record { in-width = high; no-bits = mod-of-block (T .width) (T .facts) s block } in
       record {
         start = record { state = state; starts = starts };
         not-reached = λ p. o (inr (run-full (T .width) (T .facts) (T .goal) (T .plan) s ∙ p));
-        before = λ t st l. f .before t l (st .starts);
+        before = λ t st l. before t l (st .starts);
       }
 
   pub walk-visits : (ls : List Line) (a : ℕ) → walked T ≡ covered ls a → suc a ≡ 2 * length ls
