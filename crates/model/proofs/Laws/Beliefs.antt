@@ -15,7 +15,7 @@ use Rattle.model.specs.Formula.{Formula, eval}
 use Rattle.model.specs.Action.{Action, tabulate, applicable, next, step}
 use Rattle.model.specs.Run.{Outcome, reached, missed, blocked, atEnd, goesOn, run}
 use Rattle.model.specs.Case.{bit, stateOf, Task, runOf, initially, IsState, Right}
-use Rattle.model.specs.Belief.{Belief, Entails, ApplicableIn, only, Image, after, Applicable, Solution, initialBelief, Blocks, OutcomeMeans}
+use Rattle.model.specs.Belief.{Belief, Entails, only, Image, after, Applicable, Solution, initialBelief, Blocks, OutcomeMeans}
 use Rattle.model.proofs.Laws.Tabulate.{length-tabulate, getD-tabulate}
 use Rattle.model.proofs.Laws.Agreement.{goes-on-reached, at-end-reached}
 use Rattle.model.proofs.Laws.Cover.{Block, mod-of-block, root-block, root-span, agree}
@@ -69,25 +69,6 @@ module _ (n : ℕ) (goal : Formula) where
   MeansFrom B plan i missed = Applicable n B plan × (Entails (after n B plan) goal → ⊥)
   MeansFrom B plan i (blocked p) = (i ≤ p .step) × Blocks n B plan (p .step - i)
 
-  after-step :
-      (a : Action) (B : Belief) (plan : List Action) (i : ℕ) → ApplicableIn B a → (o : Outcome) →
-      MeansFrom (Image n a B) plan (suc i) o → MeansFrom B (a ∷ plan) i o
-  after-step a B plan i h reached m = ((h, m .0), m .1)
-  after-step a B plan i h missed m = ((h, m .0), m .1)
-  after-step a B plan i h (blocked p) m =
-      let (l, b) = m in (
-        omega arith,
-        record {
-          before = a ∷ b .before;
-          action = b .action;
-          rest = b .rest;
-          parts = ap (λ l. a ∷ l) (b .parts);
-          at = omega (arith, b .at);
-          applicable = (h, b .applicable);
-          not-applicable = b .not-applicable;
-        },
-      )
-
   run-means : (plan : List Action) (i : ℕ) (B : Belief) (s : List Bool) → Alone B s → MeansFrom B plan i (run two n goal plan i s)
   unfolding run goesOn applicable
   run-means [] i B s h = by-goal (eval two s goal) refl
@@ -96,14 +77,27 @@ module _ (n : ℕ) (goal : Formula) where
       by-goal true e = (tt, entails-alone B s h goal .1 e)
       by-goal false e = (tt, λ g. false≢true (sym e ∙ entails-alone B s h goal .0 g))
   run-means (a ∷ plan) i B s h =
-      by-test (run two n goal plan (suc i) (step two n a s)) (run-means plan (suc i) (Image n a B) (step two n a s) (image-alone a B s h))
-      (applicable two a s) refl
+      by-test (applicable two a s) refl (run two n goal plan (suc i) (step two n a s))
+      (run-means plan (suc i) (Image n a B) (step two n a s) (image-alone a B s h))
     where
       by-test :
-          (o : Outcome) → MeansFrom (Image n a B) plan (suc i) o → (b : Bool) → applicable two a s ≡ b →
+          (b : Bool) → applicable two a s ≡ b → (o : Outcome) → MeansFrom (Image n a B) plan (suc i) o →
           MeansFrom B (a ∷ plan) i (goesOn b o (record { step = i }))
-      by-test o m true e = after-step a B plan i (entails-alone B s h (a .precondition) .1 e) o m
-      by-test o m false e = (
+      by-test true e reached m = ((entails-alone B s h (a .precondition) .1 e, m .0), m .1)
+      by-test true e missed m = ((entails-alone B s h (a .precondition) .1 e, m .0), m .1)
+      by-test true e (blocked p) (l, b) = (
+        omega arith,
+        record {
+          before = a ∷ b .before;
+          action = b .action;
+          rest = b .rest;
+          parts = ap (λ l. a ∷ l) (b .parts);
+          at = omega (arith, b .at);
+          applicable = (entails-alone B s h (a .precondition) .1 e, b .applicable);
+          not-applicable = b .not-applicable;
+        },
+      )
+      by-test false e o m = (
         omega arith,
         record {
           before = [];

@@ -11,7 +11,7 @@ use borrow.Author.Tests.{ltb-true, leb-true, eqb-true, eqb-false, not-true, lt-l
 use Rattle.model.specs.Limits.{maxFormulaBytes, maxDepth}
 use Rattle.model.specs.Formula.{Literal, fact, denial, Formula, Formulas, lit, all, any, none, more}
 use Rattle.model.specs.Read.{got, Reader, andThen, _>>=_, _>>_, done, position, require, bytesOf}
-use Rattle.model.specs.FormulaBytes.{isLiteral, literalOf, literalByte, Group, conjunction, disjunction, mark, grouped, Head, leaf, group, groupHead, headFrom, head, members, whole, item, stated, formula, memberCount, formulaBytes, memberBytes, encodeFormula}
+use Rattle.model.specs.FormulaBytes.{isLiteral, literalOf, literalByte, Group, conjunction, disjunction, mark, Head, leaf, group, groupHead, headFrom, head, members, whole, item, stated, formula, memberCount, formulaBytes, memberBytes, encodeFormula}
 use Rattle.model.specs.WellFormed.{Bytes, Declared, Formed, FormedAll, FormulaOk}
 use Rattle.model.specs.Stands.{Span, nothing}
 use Rattle.model.proofs.Laws.Reading.{both-true, Gives, gives, reads, tests, empty, first, join, split, span-length, span-end, span-within, byte-gives, small-byte, byte-ok}
@@ -145,14 +145,6 @@ module _ (s : List ℕ) (end facts : ℕ) (most : facts ≤ 64) where
       reads (head-gives sound (suc left) parent p)
       (whole-gives (suc left) parent p _ (λ l g p. rw i (item-gives sound left (mark g) p)))
 
-  -- a group, by its head and its members
-  group-ok :
-      (g : Group) (ms : Formulas) (left parent p m q : ℕ) → HeadAt (suc left) parent p (group g (memberCount ms)) m →
-      members s end facts (item s end facts left (mark g)) (memberCount ms) m ≡ got ms q →
-      item s end facts (suc left) parent p ≡ got (grouped g ms) q
-  unfolding item whole _>>=_ andThen done
-  group-ok g ms left parent p m q (d, r) e = rw (head-ok (suc left) parent p (group g (memberCount ms)) m d r, e)
-
   mutual
     unfolding item members whole _>>=_ andThen done formulaBytes Formed
 
@@ -165,12 +157,12 @@ module _ (s : List ℕ) (end facts : ℕ) (most : facts ≤ 64) where
     item-ok (all ms) (suc left) parent p q (d, o, l, a) r =
         let i : suc left - 1 ≡ left = omega arith in
         split (0x80 ∷ memberCount ms ∷ []) r λ m b c.
-        group-ok conjunction ms left parent p m q ((d, o, l), b) (members-ok ms left 0x80 m q (rw i at a) c)
+        rw (head-ok (suc left) parent p (group conjunction (memberCount ms)) m (d, o, l) b, members-ok ms left 0x80 m q (rw i at a) c)
     item-ok (any ms) zero parent p q d r = absurd (omega arith)
     item-ok (any ms) (suc left) parent p q (d, o, l, a) r =
         let i : suc left - 1 ≡ left = omega arith in
         split (0x81 ∷ memberCount ms ∷ []) r λ m b c.
-        group-ok disjunction ms left parent p m q ((d, o, l), b) (members-ok ms left 0x81 m q (rw i at a) c)
+        rw (head-ok (suc left) parent p (group disjunction (memberCount ms)) m (d, o, l) b, members-ok ms left 0x81 m q (rw i at a) c)
 
     members-ok :
         (ms : Formulas) (left parent p q : ℕ) → FormedAll facts left parent ms → Span s end p (memberBytes ms) q →

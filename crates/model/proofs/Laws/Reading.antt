@@ -1,16 +1,17 @@
 -- The laws of readers: what a reader that succeeds has found, and when one succeeds; numbers in bytes; headers. Assumes nothing.
 use mathlib.Core.Path.{_≡_, refl, sym, ap, subst, subst₂, _∙_}
-use mathlib.Core.Bool.{Bool, true, false, cond, _&&_}
+use mathlib.Core.Bool.{Bool, true, false, _&&_}
 use mathlib.Core.List.{List, [], _∷_, _++_}
 use Prim.Native.Nat.{ℕ, zero, suc, _+_, _-_, _*_, _/_, _%_, _^_, _≤_, _<_}
 use native.Mathlib.Nat.{pow-suc, div-div-eq-div-mul, div-lt-iff-lt-mul, one-le-pow, mod-eq-of-lt, zero-mul, one-mul, mul-comm, mul-assoc, add-mul, zero-add, add-assoc, mod-one}
 use native.Mathlib.Numerals.{add-one}
 use native.Mathlib.Omega.{arith}
+use native.Mathlib.Decide.{decLt}
 use lib.ListN.{length, getD, take, drop, length-append}
 use lib.Seq.{drop-cons, take-all, take-length}
 use lib.Arith.{mod-mul}
-use lib.Dec.{ltb, leb, lit<}
-use borrow.Author.Tests.{ltb-true, leb-true, eqb-true, lt-ltb, le-leb, eq-eqb}
+use lib.Dec.{leb, lit<}
+use borrow.Author.Tests.{leb-true, eqb-true, lt-ltb, le-ltb, le-leb, eq-eqb}
 use Rattle.model.specs.Answer.{answered}
 use Rattle.model.specs.Read.{Read, reject, got, Reader, andThen, _>>=_, _>>_, done, position, require, answerOf, bigEndianFrom, bigEndian, bytesOf, block, byte, header, count}
 use Rattle.model.specs.WellFormed.{Bytes}
@@ -99,11 +100,11 @@ module _ {s : List ℕ} {end : ℕ} where
   -- one byte
   pub byte-got : {b p q : ℕ} (number : ℕ) → byte s end number p ≡ got b q → Span s end p (b ∷ []) q
   unfolding byte
-  byte-got {b} {p} {q} number h = go (ltb p end) refl h
-    where
-      go : (t : Bool) → ltb p end ≡ t → cond t (got (getD s p 0) (p + 1)) (reject number end) ≡ got b q → Span s end p (b ∷ []) q
-      go true e h = next (ltb-true p end e) (got-inj h .0) (nothing (got-inj h .1))
-      go false e h = let z : _≡_ {A = ℕ} 0 1 = cc in absurd (omega arith)
+  byte-got {b} {p} {q} number h =
+      elim (decLt p end) [
+        | yes l ↦ let (i, j) = got-inj (rw (lt-ltb p end l) at h) in next l i (nothing j)
+        | no l ↦ let e = le-ltb p end (omega arith) in let z : _≡_ {A = ℕ} 0 1 = cc in absurd (omega arith)
+      ]
 
   pub byte-gives : (number p : ℕ) → Gives (byte s end number p) (λ b q. Span s end p (b ∷ []) q)
   byte-gives number p = record { of = λ b q e. byte-got number e }
@@ -221,12 +222,11 @@ module _ (s : List ℕ) (number most version p : ℕ) where
       let (o, v, r) = first (subst (λ (xs : List ℕ). Span s (length s) 0 xs (length s)) e is-whole) in
       split (bytesOf 4 (length body)) r λ m a c.
       let i : m ≡ 5 = omega (arith, span-length a, length-bytesOf 4 (length body)) in
-      let n : bigEndian (take 4 (drop 1 s)) ≡ length s - 5 =
-      number-ok s 4 1 m (length body) (omega (arith, span-length c)) a ∙ omega (arith, span-length c)
-      in (
+      let j = span-length c in
+      let n : bigEndian (take 4 (drop 1 s)) ≡ length s - 5 = number-ok s 4 1 m (length body) (omega arith) a ∙ omega arith in (
         rw (
           le-leb (length s) most l,
-          le-leb 5 (length s) (omega (arith, span-length c)),
+          le-leb 5 (length s) (omega arith),
           eq-eqb (getD s 0 0) version v,
           eq-eqb (bigEndian (take 4 (drop 1 s))) (length s - 5) n,
         ),
