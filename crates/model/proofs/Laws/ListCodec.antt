@@ -23,13 +23,11 @@ module _ (F : Limits) (sense : Sensible F) (s : List ℕ) where
   unfolding lineAt lineBytes
   line-got p q sound e l =
       let k : 2 < F .line = sense .line in
-      let a : p < length s = omega arith in
-      let b : p + 1 < length s = omega arith in
       let i : p + 2 ≡ p + 1 + 1 = omega arith in
       let (v, r) = number-got s (F .line - 2) (p + 2) q sound (omega arith) l in (
         record { kind = sound p; k = sound (p + 1); value = v },
-        next a refl
-            (next b refl (subst (λ (m : ℕ). Span s (length s) m (bytesOf (F .line - 2) (lineAt F s p .value)) q) i r)),
+        next {p = p} (omega arith) refl
+            (next {p = p + 1} (omega arith) refl (subst (λ (m : ℕ). Span s (length s) m (bytesOf (F .line - 2) (lineAt F s p .value)) q) i r)),
       )
 
   pub line-ok : (l : Line) (p q : ℕ) → LineOk F l → Span s (length s) p (lineBytes F l) q → lineAt F s p ≡ l
