@@ -21,7 +21,7 @@ use Rattle.model.proofs.Laws.Agreement.{goes-on-reached, at-end-reached
 use Rattle.model.proofs.Laws.Cover.{Block, mod-of-block, root-block, root-span, agree}
 use Rattle.model.proofs.Laws.Splitting.{part, part-in, part-block, part-bit}
 
-module _ (n : ℕ) where
+module _ (n : ℕ) (goal : Formula) where
   step-image : (a : Action) (B : Belief) (s : List Bool) → B s → Image n a B (step two n a s)
   unfolding step
   step-image a B s b = record { size = length-tabulate n _; before = s; held = b; moves = λ f h. getD-tabulate n (next two a s) f false h }
@@ -32,36 +32,34 @@ module _ (n : ℕ) where
       ext-getD false t (tabulate n (next two a (m .before))) (m .size ∙ sym (length-tabulate n _))
       (λ i h. m .moves i (subst (λ (x : ℕ). i < x) (m .size) h) ∙ sym (getD-tabulate n (next two a (m .before)) i false (subst (λ (x : ℕ). i < x) (m .size) h)))
 
-  module _ (goal : Formula) where
-    solution-runs : (plan : List Action) (i : ℕ) (B : Belief) → Solution n B goal plan → (s : List Bool) → B s → run two n goal plan i s ≡ reached
-    unfolding run goesOn applicable
-    solution-runs [] i B h s b = ap atEnd (h .1 s b)
-    solution-runs (a ∷ plan) i B h s b = rw (h .0 .0 s b) (solution-runs plan (suc i) (Image n a B) (h .0 .1, h .1) (step two n a s) (step-image a B s b))
+  solution-runs : (plan : List Action) (i : ℕ) (B : Belief) → Solution n B goal plan → (s : List Bool) → B s → run two n goal plan i s ≡ reached
+  unfolding run goesOn applicable
+  solution-runs [] i B h s b = ap atEnd (h .1 s b)
+  solution-runs (a ∷ plan) i B h s b = rw (h .0 .0 s b) (solution-runs plan (suc i) (Image n a B) (h .0 .1, h .1) (step two n a s) (step-image a B s b))
 
-    runs-solution : (plan : List Action) (i : ℕ) (B : Belief) → ((s : List Bool) → B s → run two n goal plan i s ≡ reached) → Solution n B goal plan
-    unfolding run applicable
-    runs-solution [] i B h = (tt, λ s b. at-end-reached _ (h s b))
-    runs-solution (a ∷ plan) i B h =
-        let r = runs-solution plan (suc i) (Image n a B) (λ t m. rw (image-step a B t m) (goes-on-reached _ _ _ (h (m .before) (m .held)) .1)) in
-        ((λ s b. goes-on-reached _ _ _ (h s b) .0, r .0), r .1)
+  runs-solution : (plan : List Action) (i : ℕ) (B : Belief) → ((s : List Bool) → B s → run two n goal plan i s ≡ reached) → Solution n B goal plan
+  unfolding run applicable
+  runs-solution [] i B h = (tt, λ s b. at-end-reached _ (h s b))
+  runs-solution (a ∷ plan) i B h =
+      let r = runs-solution plan (suc i) (Image n a B) (λ t m. rw (image-step a B t m) (goes-on-reached _ _ _ (h (m .before) (m .held)) .1)) in
+      ((λ s b. goes-on-reached _ _ _ (h s b) .0, r .0), r .1)
 
--- ---- the run of one state
+  -- ---- the run of one state
 
--- B holds s alone
-record Alone (B : Belief) (s : List Bool) : Type 0 where
-  pub holds : B s
-  pub one : (t : List Bool) → B t → t ≡ s
+  -- B holds s alone
+  record Alone (B : Belief) (s : List Bool) : Type 0 where
+    pub holds : B s
+    pub one : (t : List Bool) → B t → t ≡ s
 
-only-alone : (s : List Bool) → Alone (only s) s
-only-alone s = record { holds = refl; one = λ t e. e }
+  only-alone : (s : List Bool) → Alone (only s) s
+  only-alone s = record { holds = refl; one = λ t e. e }
 
-entails-alone : (B : Belief) (s : List Bool) → Alone B s → (φ : Formula) → Entails B φ ↔ (eval two s φ ≡ true)
-entails-alone B s h φ = ((λ e. e s (h .holds)), λ e t b. rw (h .one t b) e)
+  entails-alone : (B : Belief) (s : List Bool) → Alone B s → (φ : Formula) → Entails B φ ↔ (eval two s φ ≡ true)
+  entails-alone B s h φ = ((λ e. e s (h .holds)), λ e t b. rw (h .one t b) e)
 
-module _ (n : ℕ) (goal : Formula) where
   image-alone : (a : Action) (B : Belief) (s : List Bool) → Alone B s → Alone (Image n a B) (step two n a s)
   image-alone a B s h =
-      record { holds = step-image n a B s (h .holds); one = λ t m. image-step n a B t m ∙ ap (step two n a) (h .one (m .before) (m .held)) }
+      record { holds = step-image a B s (h .holds); one = λ t m. image-step a B t m ∙ ap (step two n a) (h .one (m .before) (m .held)) }
 
   -- what an outcome says of a plan whose first step is numbered i
   abbrev MeansFrom : Belief → List Action → ℕ → Outcome → Type 0
@@ -130,7 +128,7 @@ module _ (n : ℕ) (goal : Formula) where
   unfolding run goesOn applicable
   outcome-means plan s reached = (
     (λ e. rw e at (run-means plan 0 (only s) s (only-alone s))),
-    λ m. solution-runs n goal plan 0 (only s) m s refl,
+    λ m. solution-runs plan 0 (only s) m s refl,
   )
   outcome-means plan s missed = (
     (λ e. rw e at (run-means plan 0 (only s) s (only-alone s))),

@@ -9,10 +9,10 @@ use native.Mathlib.Omega.{arith}
 use native.Mathlib.Decide.{decLe, decLt}
 use lib.ListN.{length, length-append}
 use lib.Dec.{eqb}
-use borrow.Author.Tests.{eq-eqb}
+use borrow.Author.Tests.{eqb-true, eq-eqb}
 use lib.Pow.{pow-add, pow-pos, shr-shr}
 use Rattle.model.specs.Case.{bit}
-use Rattle.model.specs.Walk.{Kind, kindNumber, Look, closed, opened, Line, Walked, covered, failed, line, join, walkFrom, walk}
+use Rattle.model.specs.Walk.{Kind, empty, carries, kindNumber, Look, closed, opened, Line, Walked, covered, failed, line, join, walkFrom, walk}
 use Rattle.model.specs.CaseList.{claims}
 use Rattle.model.specs.WellFormed.{Each, LineHolds, Joined}
 
@@ -79,10 +79,10 @@ around w k v k′ v′ h h′ b b′ lo hi =
           absurd (omega (arith, under w k′ v′ _ b′ (rescale w (suc k) k′ _ (omega arith) h′ m) hi))
     ]
 
--- ---- a claim
-
-pub claimed : (d : ℕ) (l : Look) → claims d l ≡ true → (κ : Kind) × (l ≡ closed κ)
-claimed d (closed κ) e = (κ, refl)
+-- what is claimed is of a kind
+pub claimed : (d : ℕ) (l : Look) → claims d l ≡ true → (κ : Kind) × (l ≡ closed κ) × (d ≤ 1)
+claimed d (closed empty) e = (empty, refl, omega (arith, eqb-true d 0 e))
+claimed d (closed carries) e = (carries, refl, omega (arith, eqb-true d 1 e))
 claimed d opened e = absurd (false≢true e)
 
 -- ---- lists of lines
@@ -116,7 +116,7 @@ module _ (w : ℕ) (look : ℕ → ℕ → Look) (n : ℕ) where
   covering (m ∷ ls) x f s l h c =
       elim (decLt s (x + 2 ^ (w - m .k))) [
         | yes g ↦
-            let (κ, e) = claimed (m .kind) (look (m .k) (m .value)) (f .1 .0 .claim) in
+            let (κ, e, _) = claimed (m .kind) (look (m .k) (m .value)) (f .1 .0 .claim) in
             let b = block-of-mod w (m .k) (m .value) (f .1 .0 .no-bits) in
             let st : Starts (m .value) (m ∷ ls) = omega (arith, from-le (m .value) (suc (m .value)) (omega arith) ls) in
             c (m .k) (m .value) κ st (f .1 .0 .k-fits) b e (omega arith) (omega arith)

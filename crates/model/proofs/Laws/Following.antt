@@ -1,16 +1,16 @@
 -- Following a list: it is answered exactly where its lines hold, one after the other, over all numbers. Assumes nothing.
 use mathlib.Core.Path.{_≡_, refl, ap, _∙_}
-use mathlib.Core.Bool.{Bool, true, false, not, false≢true}
+use mathlib.Core.Bool.{Bool, true, false, not}
 use mathlib.Core.List.{List, [], _∷_}
-use Prim.Native.Nat.{ℕ, zero, suc, _+_, _-_, _%_, _^_, _≤_}
+use Prim.Native.Nat.{ℕ, zero, suc, _+_, _-_, _%_, _^_}
 use native.Mathlib.Omega.{arith}
 use lib.ListN.{length}
 use borrow.Author.Tests.{ltb-false, le-ltb, eqb-true, eq-eqb, not-false}
 use Rattle.model.specs.Answer.{Answer, answered}
-use Rattle.model.specs.Walk.{empty, carries, Look, closed, opened, Line}
-use Rattle.model.specs.CaseList.{claims, first, refuseAt, ends, fault, follow}
+use Rattle.model.specs.Walk.{Look, Line}
+use Rattle.model.specs.CaseList.{first, refuseAt, ends, fault, follow}
 use Rattle.model.specs.WellFormed.{LineHolds}
-use Rattle.model.proofs.Laws.Cover.{Follows}
+use Rattle.model.proofs.Laws.Cover.{claimed, Follows}
 
 first-zero : (b : Bool) (c r : ℕ) → first b (suc c) r ≡ 0 → (b ≡ false) × (r ≡ 0)
 unfolding first
@@ -27,18 +27,12 @@ unfolding ends
 ends-answered true i m e = (refl, cc)
 ends-answered false i m e = (cc, cc)
 
--- what is claimed is of a kind
-pub claimed-le : (d : ℕ) (l : Look) → claims d l ≡ true → d ≤ 1
-claimed-le d (closed empty) e = omega (arith, eqb-true d 0 e)
-claimed-le d (closed carries) e = omega (arith, eqb-true d 1 e)
-claimed-le d opened e = absurd (false≢true e)
-
 module _ (w : ℕ) (look : ℕ → ℕ → Look) (n : ℕ) where
   fault-ok : (l : Line) (x : ℕ) → l .value ≡ x → LineHolds w look n l → fault w look n l x ≡ 0
   unfolding fault first
   fault-ok l x e f =
       rw (
-        le-ltb 1 (l .kind) (claimed-le (l .kind) (look (l .k) (l .value)) (f .claim)),
+        le-ltb 1 (l .kind) (claimed (l .kind) (look (l .k) (l .value)) (f .claim) .2),
         le-ltb n (l .k) (f .k-fits),
         eq-eqb (l .value % 2 ^ (w - l .k)) 0 (f .no-bits),
         eq-eqb (l .value) x e,

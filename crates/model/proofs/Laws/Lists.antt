@@ -19,9 +19,9 @@ use Rattle.model.specs.ListBytes.{caseList, listOf, linesBytes, encodeLi
 use Rattle.model.specs.Operations.{readTask, listBytes, linesFor, written, listFor, writeList, followList}
 use Rattle.model.specs.WellFormed.{Each, LineOk, Sensible}
 use Rattle.model.specs.Demands.{linesIn, listWritten, Demand3}
-use Rattle.model.proofs.Laws.Cover.{Follows}
+use Rattle.model.proofs.Laws.Cover.{claimed, Follows}
 use Rattle.model.proofs.Laws.Verdicts.{Passes, Means, judged-means, passes-right, right-closes, walk-passes, walk-fewest}
-use Rattle.model.proofs.Laws.Following.{claimed-le, follow-passes, passes-follow}
+use Rattle.model.proofs.Laws.Following.{follow-passes, passes-follow}
 use Rattle.model.proofs.Laws.Reading.{then-got, got-inj, answer-got, length-block}
 use Rattle.model.proofs.Laws.ListCodec.{length-lines, length-linesFrom, list-sound, list-ok}
 use Rattle.model.proofs.Laws.Tasks.{answer-then, list-for-is, follow-is, Fits}
@@ -49,7 +49,7 @@ module _ (F : Limits) (S : Sensible F) (w : ℕ) (look : ℕ → ℕ → Look) (
   follows-ok (l ∷ ls) x f =
       let (r, rs) = follows-ok ls (x + 2 ^ (w - l .k)) (f .0 .1, f .1 .1) in
       let p = pow-pos (w - l .k) in
-      let c = claimed-le (l .kind) (look (l .k) (l .value)) (f .1 .0 .claim) in
+      let (_, _, c) = claimed (l .kind) (look (l .k) (l .value)) (f .1 .0 .claim) in
       let e : 2 ^ w ≡ 256 ^ (F .line - 2) = ap (λ (x : ℕ). 2 ^ x) w-fits ∙ S .value in
       (omega arith, (omega (arith, f .0 .0, f .1 .0 .k-fits), rs))
 
