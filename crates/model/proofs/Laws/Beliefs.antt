@@ -1,7 +1,7 @@
 -- Document 004's solutions are the right plans: belief states and runs of single states agree, and every list of n values is a
 -- state. A run of one state ends as that section says of the belief that holds it alone. Assumes nothing.
 use mathlib.Core.Path.{_≡_, refl, sym, ap, _∙_, subst}
-use mathlib.Core.Bool.{Bool, true, false, false≢true}
+use mathlib.Core.Bool.{Bool, true, false, false≢true, not-eq-not}
 use mathlib.Core.Logic.{_↔_}
 use mathlib.Core.List.{List, [], _∷_, _++_, append-nil}
 use Prim.Native.Nat.{ℕ, zero, suc, _+_, _-_, _^_, _≤_, _<_}
@@ -108,10 +108,6 @@ module _ (n : ℕ) (goal : Formula) where
         },
       )
 
-  not-true : (b : Bool) → (b ≡ true → ⊥) → b ≡ false
-  not-true true h = absurd (h refl)
-  not-true false h = refl
-
   -- a plan whose actions are applicable runs to its end
   runs-on :
       (before rest : List Action) (i : ℕ) (B : Belief) (s : List Bool) → Alone B s → Applicable n B before → (o : Outcome) →
@@ -135,14 +131,14 @@ module _ (n : ℕ) (goal : Formula) where
     λ m.
         rw append-nil at
         (runs-on plan [] 0 (only s) s (only-alone s) (m .0) missed λ t l.
-        ap atEnd (not-true (eval two t goal) (λ e. m .1 (entails-alone (after n (only s) plan) t l goal .1 e)))),
+        ap atEnd (not-eq-not {a = eval two t goal} {b = false} .0 (λ e. m .1 (entails-alone (after n (only s) plan) t l goal .1 e)))),
   )
   outcome-means plan s (blocked p) = (
     (λ e. subst (Blocks n (only s) plan) (omega arith) ((rw e at (run-means plan 0 (only s) s (only-alone s))) .1)),
     λ b.
         rw (b .parts)
         (runs-on (b .before) (b .action ∷ b .rest) 0 (only s) s (only-alone s) (b .applicable) (blocked p) λ t l.
-        rw (not-true (eval two t (b .action .precondition)) (λ e. b .not-applicable (entails-alone _ t l (b .action .precondition) .1 e)))
+        rw (not-eq-not {a = eval two t (b .action .precondition)} {b = false} .0 (λ e. b .not-applicable (entails-alone _ t l (b .action .precondition) .1 e)))
         (ap (λ x. blocked (record { step = x })) (omega (arith, b .at)))),
   )
 

@@ -147,9 +147,6 @@ from-bytesOf zero n a = omega (arith, mod-one n)
 from-bytesOf (suc k) n a =
     rw (from-bytesOf k n (a * 256 + (n / 256 ^ k) % 256), pow-suc 256 k, mul-comm (256 ^ k) 256, mod-mul n {m = 256} {c = 256 ^ k} (lit< tt) (one-le-pow k 256 (lit< tt)), add-mul, mul-assoc, add-assoc)
 
-pub bigEndian-bytesOf : (k n : ℕ) → n < 256 ^ k → bigEndian (bytesOf k n) ≡ n
-bigEndian-bytesOf k n h = from-bytesOf k n 0 ∙ rw (mod-eq-of-lt h, zero-mul, zero-add)
-
 from-div : (xs : List ℕ) (a : ℕ) → Bytes xs → bigEndianFrom a xs / 256 ^ length xs ≡ a
 unfolding bigEndianFrom
 from-div [] a h = omega arith
@@ -161,11 +158,6 @@ bytesOf-from [] a h = refl
 bytesOf-from (x ∷ xs) a h =
     let e : (a * 256 + x) % 256 ≡ x = omega (arith, h 0) in
     rw (from-div xs (a * 256 + x) (λ i. h (suc i)), bytesOf-from xs (a * 256 + x) (λ i. h (suc i)), e)
-
-pub bigEndian-lt : (xs : List ℕ) → Bytes xs → bigEndian xs < 256 ^ length xs
-bigEndian-lt xs h =
-    let e : bigEndian xs / 256 ^ length xs < 1 = omega (arith, from-div xs 0 h) in
-    rw one-mul at (div-lt-iff-lt-mul {y = 1} (one-le-pow (length xs) 256 (lit< tt)) .0 e)
 
 span-bytes : {s xs : List ℕ} {end p q : ℕ} → Bytes s → Span s end p xs q → Bytes xs
 span-bytes sound (nothing e) i = omega arith
@@ -181,10 +173,13 @@ module _ (s : List ℕ) (k p q : ℕ) where
       let r = span-here {s = s} k p q e l in
       let n : length (take k (drop p s)) ≡ k = omega (arith, span-length r) in
       let b = span-bytes sound r in
-      (rw n at (bigEndian-lt (take k (drop p s)) b), rw (rw n at (bytesOf-from (take k (drop p s)) 0 b)) r)
+      let f : bigEndian (take k (drop p s)) / 256 ^ k < 1 = omega (arith, rw n at (from-div (take k (drop p s)) 0 b)) in (
+        rw one-mul at (div-lt-iff-lt-mul {y = 1} (one-le-pow k 256 (lit< tt)) .0 f),
+        rw (rw n at (bytesOf-from (take k (drop p s)) 0 b)) r,
+      )
 
   pub number-ok : (n : ℕ) → n < 256 ^ k → Span s (length s) p (bytesOf k n) q → bigEndian (take k (drop p s)) ≡ n
-  number-ok n l h = rw (rw length-bytesOf at (span-is h)) (bigEndian-bytesOf k n l)
+  number-ok n l h = rw (rw length-bytesOf at (span-is h)) (from-bytesOf k n 0 ∙ rw (mod-eq-of-lt l, zero-mul, zero-add))
 
 -- headers
 pub length-block : (version : ℕ) (body : List ℕ) → length (block version body) ≡ 5 + length body

@@ -20,10 +20,6 @@ use Rattle.model.proofs.Laws.Cover.{Block, pow-half, agree}
 abbrev valueAt : ℕ → ℕ → ℕ → ℕ → Kleene
 valueAt w k v i = cond (ltb i k) (known (bit w v i)) Unknown
 
-case-value : (w n k v i : ℕ) → i < n → getD (caseOf w n k v) i No ≡ valueAt w k v i
-unfolding caseOf
-case-value w n k v i h = getD-tabulate n (valueAt w k v) i No h
-
 pub case-past : (w n k v i : ℕ) → n ≤ i → getD (caseOf w n k v) i No ≡ No
 unfolding caseOf
 case-past w n k v i h = getD-tabulate-past n (valueAt w k v) i No h
@@ -57,11 +53,13 @@ length-case w n k v = length-tabulate n (valueAt w k v)
 
 -- a fact that a case does not fix
 pub case-unknown : (w n k v f : ℕ) → k ≤ f → f < n → getD (caseOf w n k v) f No ≡ Unknown
-case-unknown w n k v f h l = case-value w n k v f l ∙ rw (le-ltb f k h)
+unfolding caseOf
+case-unknown w n k v f h l = getD-tabulate n (valueAt w k v) f No l ∙ rw (le-ltb f k h)
 
 -- and one that it fixes
 pub case-known : (w n k v f : ℕ) → f < k → f < n → getD (caseOf w n k v) f No ≡ known (bit w v f)
-case-known w n k v f h l = case-value w n k v f l ∙ rw (lt-ltb f k h)
+unfolding caseOf
+case-known w n k v f h l = getD-tabulate n (valueAt w k v) f No l ∙ rw (lt-ltb f k h)
 
 -- the case that fixes no fact
 pub case-first : (w n : ℕ) → caseOf w n 0 0 ≡ replicate n Unknown

@@ -1,7 +1,7 @@
 -- What a verdict means: Kleene soundness and exactness for cases, and what the walk's two endings say of the start states.
 -- Assumes nothing.
 use mathlib.Core.Path.{_≡_, refl, sym, ap, _∙_, subst}
-use mathlib.Core.Bool.{Bool, true, false}
+use mathlib.Core.Bool.{Bool, true, false, not-eq-not}
 use mathlib.Core.Logic.{_≢_, _⊎_, inl, inr}
 use mathlib.Core.List.{List, [], append-nil}
 use Prim.Native.Nat.{ℕ, suc, _+_, _-_, _*_, _^_, _≤_, _<_, zero-le}
@@ -83,10 +83,6 @@ look-open No r e (inr p) = let z : _≡_ {A = ℕ} 0 1 = cc in omega arith
 look-open Unknown r e (inr p) = let z : _≡_ {A = ℕ} 0 1 = cc in omega arith
 look-open Yes r e (inr p) = let z : _≡_ {A = ℕ} 0 1 = cc in omega arith
 
-not-no : (b : Bool) → (known b ≡ No → ⊥) → b ≡ true
-not-no true h = refl
-not-no false h = absurd (h refl)
-
 pub walk-ends : (r : Walked) → ((ls : List Line) × (a : ℕ) × (r ≡ covered ls a)) ⊎ ((s : ℕ) × (a : ℕ) × (r ≡ failed s a))
 walk-ends (covered ls a) = inl (ls, a, refl)
 walk-ends (failed s a) = inr (s, a, refl)
@@ -132,7 +128,7 @@ module _ (T : Task) (n≤w : T .facts ≤ T .width) where
       let none : (t : ℕ) → t < 0 → Good t = λ t l. absurd (omega arith) in
       let (at, block, high, before) = fails-at (T .width) (lookAt T) (T .facts) n≤w Good good (traced (failed s a) e) none in
       let o = look-open (initialAt T (T .facts) s) (runAt T (T .facts) s) at in
-      let starts = not-no (initially T s) (λ p. o (inl (read-full (T .width) (T .facts) s (T .initial) ∙ p))) in
+      let starts = not-eq-not {a = initially T s} {b = true} .0 (λ p. o (inl (read-full (T .width) (T .facts) s (T .initial) ∙ ap known p))) in
       let state : IsState T s = record { in-width = high; no-bits = mod-of-block (T .width) (T .facts) s block } in
       record {
         start = record { state = state; starts = starts };
