@@ -1,7 +1,7 @@
 -- What a verdict means: Kleene soundness and exactness for cases, and what the walk's two endings say of the start states.
 -- Assumes nothing.
 use mathlib.Core.Path.{_≡_, refl, sym, ap, _∙_, subst}
-use mathlib.Core.Bool.{Bool, true, false, not-eq-not}
+use mathlib.Core.Bool.{true, false, not-eq-not}
 use mathlib.Core.Logic.{_≢_, _⊎_, inl, inr}
 use mathlib.Core.List.{List, [], append-nil}
 use Prim.Native.Nat.{ℕ, suc, _+_, _-_, _*_, _^_, _≤_, _<_, zero-le}
@@ -43,15 +43,11 @@ module _ (w n : ℕ) where
   eval-refines : (k v k′ v′ : ℕ) → k ≤ k′ → Admits k v v′ → (φ : Formula) → Refines (eval three (caseOf w n k v) φ) (eval three (caseOf w n k′ v′) φ)
   eval-refines k v k′ v′ h ad φ = eval-keeps three three Refines refining (caseOf w n k v) (caseOf w n k′ v′) (case-refines k v k′ v′ h ad) φ
 
-  kleene :
-      (k v s : ℕ) → k ≤ n → Admits k v s → (φ : Formula) (b : Bool) → eval three (caseOf w n k v) φ ≡ known b → eval two (stateOf w n s) φ ≡ b
-  kleene k v s h ad φ b e = known-inj (sym (read-full s φ) ∙ refines-known b (eval-refines k v n s h ad φ) e)
-
   pub kleene-yes : (k v s : ℕ) → k ≤ n → Admits k v s → (φ : Formula) → eval three (caseOf w n k v) φ ≡ Yes → eval two (stateOf w n s) φ ≡ true
-  kleene-yes k v s h ad φ = kleene k v s h ad φ true
+  kleene-yes k v s h ad φ e = known-inj {b′ = true} (sym (read-full s φ) ∙ refines-known true (eval-refines k v n s h ad φ) e)
 
   pub kleene-no : (k v s : ℕ) → k ≤ n → Admits k v s → (φ : Formula) → eval three (caseOf w n k v) φ ≡ No → eval two (stateOf w n s) φ ≡ false
-  kleene-no k v s h ad φ = kleene k v s h ad φ false
+  kleene-no k v s h ad φ e = known-inj {b′ = false} (sym (read-full s φ) ∙ refines-known false (eval-refines k v n s h ad φ) e)
 
   -- the run at a case and at what it admits
   pub run-full : (goal : Formula) (plan : List Action) (s : ℕ) → run three n goal plan 0 (caseOf w n n s) ≡ run two n goal plan 0 (stateOf w n s)
