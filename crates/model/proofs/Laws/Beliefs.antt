@@ -47,19 +47,18 @@ module _ (n : ℕ) (goal : Formula) where
   -- ---- the run of one state
 
   -- B holds s alone
-  record Alone (B : Belief) (s : List Bool) : Type 0 where
-    pub holds : B s
-    pub one : (t : List Bool) → B t → t ≡ s
+  abbrev Alone : Belief → List Bool → Type 0
+  Alone B s = B s × ((t : List Bool) → B t → t ≡ s)
 
   only-alone : (s : List Bool) → Alone (only s) s
-  only-alone s = record { holds = refl; one = λ t e. e }
+  only-alone s = (refl, λ t e. e)
 
   entails-alone : (B : Belief) (s : List Bool) → Alone B s → (φ : Formula) → Entails B φ ↔ (eval two s φ ≡ true)
-  entails-alone B s h φ = ((λ e. e s (h .holds)), λ e t b. rw (h .one t b) e)
+  entails-alone B s h φ = ((λ e. e s (h .0)), λ e t b. rw (h .1 t b) e)
 
   image-alone : (a : Action) (B : Belief) (s : List Bool) → Alone B s → Alone (Image n a B) (step two n a s)
   image-alone a B s h =
-      record { holds = step-image a B s (h .holds); one = λ t m. image-step a B t m ∙ ap (step two n a) (h .one (m .before) (m .held)) }
+      (step-image a B s (h .0), λ t m. image-step a B t m ∙ ap (step two n a) (h .1 (m .before) (m .held)))
 
   -- what an outcome says of a plan whose first step is numbered i
   abbrev MeansFrom : Belief → List Action → ℕ → Outcome → Type 0

@@ -67,18 +67,6 @@ under w k v v′ b c h =
     let x = lt-of-mul-lt-mul-right (2 ^ (w - k)) {m = c .q} {n = suc (b .q)} (omega (arith, b .is, c .is)) in
     omega (arith, b .is, c .is, mul-le-mul-right (2 ^ (w - k)) x)
 
--- a block around the middle of another, that does not begin there, holds all of the other
-around :
-    (w k v k′ v′ : ℕ) → k < w → k′ ≤ w → Block w k v → Block w k′ v′ → v′ < v + 2 ^ (w - suc k) →
-    v + 2 ^ (w - suc k) < v′ + 2 ^ (w - k′) → (k′ ≤ k) × (v′ ≤ v)
-around w k v k′ v′ h h′ b b′ lo hi =
-    elim (decLe k′ k) [
-      | yes l ↦ (l, under w k v v′ b (rescale w k′ k v′ l (omega arith) b′) (omega (arith, pow-half w k h)))
-      | no g ↦
-          let m = next-block w (suc k) v (rescale w k (suc k) v (omega arith) h b) in
-          absurd (omega (arith, under w k′ v′ _ b′ (rescale w (suc k) k′ _ (omega arith) h′ m) hi))
-    ]
-
 -- what is claimed is of a kind
 pub claimed : (d : ℕ) (l : Look) → claims d l ≡ true → (κ : Kind) × (l ≡ closed κ) × (d ≤ 1)
 claimed d (closed empty) e = (empty, refl, omega (arith, eqb-true d 0 e))
@@ -215,8 +203,15 @@ module _ (w : ℕ) (look : ℕ → ℕ → Look) (n : ℕ) where
           covering all 0 fol (v + 2 ^ (w - suc k)) zero-le h λ k′ v′ κ st k′n b′ e′ lo hi.
           elim (decLt v′ (v + 2 ^ (w - suc k))) [
             | yes g ↦
-                let (p, q) = around w k v k′ v′ (omega arith) (omega arith) b b′ g hi in
-                absurd (shut k′ v′ k v κ p (omega arith) b′ q (omega arith) e′ e)
+                -- a block around the middle holds all of the case
+                elim (decLe k′ k) [
+                  | yes l ↦
+                      let u = under w k v v′ b (rescale w k′ k v′ l (omega arith) b′) (omega (arith, pow-half w k (omega arith))) in
+                      absurd (shut k′ v′ k v κ l (omega arith) b′ u (omega arith) e′ e)
+                  | no l ↦
+                      let m = next-block w (suc k) v (rescale w k (suc k) v (omega arith) (omega arith) b) in
+                      absurd (omega (arith, under w k′ v′ _ b′ (rescale w (suc k) k′ _ (omega arith) (omega arith) m) hi))
+                ]
             | no g ↦ let i : v′ ≡ v + 2 ^ (w - suc k) = omega arith in rw i at st
           ]
 

@@ -16,29 +16,6 @@ use Rattle.model.specs.Stands.{Span, nothing, next}
 use Rattle.model.proofs.Laws.Reading.{answer-got, Gives, gives, reads, tests, first, join, split, span-length, length-bytesOf, number-got, number-ok, length-block, header-gives, header-ok}
 
 module _ (F : Limits) (sense : Sensible F) (s : List ℕ) where
-  -- one line
-  pub line-got :
-      (p q : ℕ) → Bytes s → p + F .line ≡ q → q ≤ length s →
-      LineOk F (lineAt F s p) × Span s (length s) p (lineBytes F (lineAt F s p)) q
-  unfolding lineAt lineBytes
-  line-got p q sound e l =
-      let k : 2 < F .line = sense .line in
-      let i : p + 2 ≡ p + 1 + 1 = omega arith in
-      let (v, r) = number-got s (F .line - 2) (p + 2) q sound (omega arith) l in (
-        record { kind = sound p; k = sound (p + 1); value = v },
-        next {p = p} (omega arith) refl
-            (next {p = p + 1} (omega arith) refl (subst (λ (m : ℕ). Span s (length s) m (bytesOf (F .line - 2) (lineAt F s p .value)) q) i r)),
-      )
-
-  pub line-ok : (l : Line) (p q : ℕ) → LineOk F l → Span s (length s) p (lineBytes F l) q → lineAt F s p ≡ l
-  unfolding lineAt lineBytes
-  line-ok l p q k r =
-      let (_, a, v) = first r in
-      let (_, b, w) = first v in
-      let i : p + 1 + 1 ≡ p + 2 = omega arith in
-      let c = number-ok s (F .line - 2) (p + 2) q (l .value) (k .value) (rw i at w) in
-      λ i. record { kind = a i; k = b i; value = c i }
-
   pub length-line : (l : Line) → length (lineBytes F l) ≡ F .line
   unfolding lineBytes
   length-line l = rw length-bytesOf (omega (arith, sense .line))
@@ -52,22 +29,32 @@ module _ (F : Limits) (sense : Sensible F) (s : List ℕ) where
   lines-got :
       (n p q : ℕ) → Bytes s → p + n * F .line ≡ q → q ≤ length s →
       Each (LineOk F) (linesFrom F s n p) × Span s (length s) p (linesBytes F (linesFrom F s n p)) q
-  unfolding linesFrom linesBytes
+  unfolding linesFrom linesBytes lineAt lineBytes
   lines-got zero p q sound e l = let i : p ≡ q = omega (arith, zero-mul (F .line)) in (tt, nothing i)
   lines-got (suc n) p q sound e l =
+      let k : 2 < F .line = sense .line in
       let i : p + F .line + n * F .line ≡ q = omega (arith, suc-mul n (F .line)) in
-      let (a, b) = lines-got n (p + F .line) q sound i l in
-      let (d, r) = line-got p (p + F .line) sound refl (omega arith) in
-      ((d, a), join r b)
+      let (ks, rs) = lines-got n (p + F .line) q sound i l in
+      let (v, r) = number-got s (F .line - 2) (p + 2) (p + F .line) sound (omega arith) (omega arith) in
+      let j : p + 2 ≡ p + 1 + 1 = omega arith in
+      let r′ = subst (λ (m : ℕ). Span s (length s) m (bytesOf (F .line - 2) (lineAt F s p .value)) (p + F .line)) j r in (
+        (record { kind = sound p; k = sound (p + 1); value = v }, ks),
+        next {p = p} (omega arith) refl (next {p = p + 1} (omega arith) refl (join r′ rs)),
+      )
 
   pub lines-ok :
       (ls : List Line) (p q : ℕ) → Each (LineOk F) ls → Span s (length s) p (linesBytes F ls) q → linesFrom F s (length ls) p ≡ ls
-  unfolding linesFrom linesBytes
+  unfolding linesFrom linesBytes lineAt lineBytes
   lines-ok [] p q k r = refl
   lines-ok (l ∷ ls) p q (k, ks) r =
-      split (lineBytes F l) r λ m a b.
-      let i : p + F .line ≡ m = omega (arith, span-length a, length-line l) in
-      rw (line-ok l p m k a, i, lines-ok ls m q ks b)
+      let (_, a, v) = first r in
+      let (_, b, w) = first v in
+      split (bytesOf (F .line - 2) (l .value)) w λ m x y.
+      let i : p + 1 + 1 ≡ p + 2 = omega arith in
+      let j : m ≡ p + F .line = omega (arith, span-length x, length-bytesOf (F .line - 2) (l .value), sense .line) in
+      let c = number-ok s (F .line - 2) (p + 2) m (l .value) (k .value) (rw i at x) in
+      let rest = lines-ok ls (p + F .line) q ks (rw j at y) in
+      λ i. record { kind = a i; k = b i; value = c i } ∷ rest i
 
   pub length-lines : (ls : List Line) → length (linesBytes F ls) ≡ length ls * F .line
   unfolding linesBytes
