@@ -15,7 +15,7 @@ use Rattle.model.specs.Formula.{Formula, eval}
 use Rattle.model.specs.Action.{Action, tabulate, applicable, next, step}
 use Rattle.model.specs.Run.{Outcome, reached, missed, blocked, atEnd, goesOn, run}
 use Rattle.model.specs.Case.{bit, stateOf, Task, runOf, initially, IsState, Right}
-use Rattle.model.specs.Belief.{Belief, Entails, only, Image, after, Applicable, Solution, initialBelief, Blocks, OutcomeMeans}
+use Rattle.model.specs.Belief.{Belief, Entails, ApplicableIn, only, Image, after, Applicable, Solution, initialBelief, Blocks, OutcomeMeans}
 use Rattle.model.proofs.Laws.Tabulate.{length-tabulate, getD-tabulate}
 use Rattle.model.proofs.Laws.Agreement.{goes-on-reached, at-end-reached}
 use Rattle.model.proofs.Laws.Cover.{Block, mod-of-block, root-block, root-span, agree}
@@ -66,6 +66,12 @@ module _ (n : ℕ) (goal : Formula) where
   MeansFrom B plan i missed = Applicable n B plan × (Entails (after n B plan) goal → ⊥)
   MeansFrom B plan i (blocked p) = (i ≤ p .step) × Blocks n B plan (p .step - i)
 
+  blocks :
+      (B : Belief) (before : List Action) (a : Action) (rest : List Action) (j : ℕ) → length before ≡ j → Applicable n B before →
+      (ApplicableIn (after n B before) a → ⊥) → Blocks n B (before ++ (a ∷ rest)) j
+  blocks B before a rest j e ok stop =
+      record { before = before; action = a; rest = rest; parts = refl; at = e; applicable = ok; not-applicable = stop }
+
   run-means : (plan : List Action) (i : ℕ) (B : Belief) (s : List Bool) → Alone B s → MeansFrom B plan i (run two n goal plan i s)
   unfolding run goesOn applicable
   run-means [] i B s h = by-goal (eval two s goal) refl
@@ -82,30 +88,13 @@ module _ (n : ℕ) (goal : Formula) where
           MeansFrom B (a ∷ plan) i (goesOn b o (record { step = i }))
       by-test true e reached m = ((entails-alone B s h (a .precondition) .1 e, m .0), m .1)
       by-test true e missed m = ((entails-alone B s h (a .precondition) .1 e, m .0), m .1)
-      by-test true e (blocked p) (l, b) = (
-        omega arith,
-        record {
-          before = a ∷ b .before;
-          action = b .action;
-          rest = b .rest;
-          parts = ap (λ l. a ∷ l) (b .parts);
-          at = omega (arith, b .at);
-          applicable = (entails-alone B s h (a .precondition) .1 e, b .applicable);
-          not-applicable = b .not-applicable;
-        },
-      )
-      by-test false e o m = (
-        omega arith,
-        record {
-          before = [];
-          action = a;
-          rest = plan;
-          parts = refl;
-          at = omega arith;
-          applicable = tt;
-          not-applicable = λ g. false≢true (sym e ∙ entails-alone B s h (a .precondition) .0 g);
-        },
-      )
+      by-test true e (blocked p) (l, b) =
+          let ok : Applicable n B (a ∷ b .before) = (entails-alone B s h (a .precondition) .1 e, b .applicable) in (
+            omega arith,
+            rw (b .parts) (blocks B (a ∷ b .before) (b .action) (b .rest) (p .step - i) (omega (arith, b .at)) ok (b .not-applicable)),
+          )
+      by-test false e o m =
+          (omega arith, blocks B [] a plan (i - i) (omega arith) tt (λ g. false≢true (sym e ∙ entails-alone B s h (a .precondition) .0 g)))
 
   -- a plan whose actions are applicable runs to its end
   runs-on :

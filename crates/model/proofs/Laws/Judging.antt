@@ -27,32 +27,27 @@ module _ (T : Task) (n≤w : T .facts ≤ T .width) where
     pub verdicts : Demand2 F problem plan T
     unfolding runOf
     verdicts =
+        let is = judge-is F problem plan T given in
         record {
           judge-says =
               λ g v e.
-              let k = judge-is F problem plan T given g in
+              let k = is g in
               let h : lineCount (judged T g) ≡ v = cc in
               subst (Says T g) h (counted g (judged T g) (judged-means T n≤w g));
           right-is-solution = (solution-right T n≤w .1, solution-right T n≤w .0);
           called-right =
               λ g h r.
               let (ls, a, e) = right-closes T n≤w r in
-              (length ls, rw (judge-is F problem plan T given g, judged-in T n≤w g (covered ls a) e h, e));
+              (length ls, rw (is g, judged-in T n≤w g (covered ls a) e h, e));
           called-wrong =
               λ g h nr.
               elim (walk-ends (walked T)) [
                 | inl (ls, a, e) ↦ absurd (nr (walk-closes-right T n≤w ls a e))
-                | inr (s, a, e) ↦ (s, runOf T s, rw (judge-is F problem plan T given g, judged-in T n≤w g (failed s a) e h, e))
+                | inr (s, a, e) ↦ (s, runOf T s, rw (is g, judged-in T n≤w g (failed s a) e h, e))
               ];
-          called-undecided = λ g h. rw (judge-is F problem plan T given g, judged-out T n≤w g h);
+          called-undecided = λ g h. rw (is g, judged-out T n≤w g h);
           no-start = λ h s st. absurd (h s st);
-          larger-grant =
-              λ g g′ h d.
-              rw (
-                judge-is F problem plan T given g′,
-                judge-is F problem plan T given g,
-                larger-grant T n≤w g g′ h (λ e. d (rw (judge-is F problem plan T given g, e))),
-              );
+          larger-grant = λ g g′ h d. rw (is g′, is g, larger-grant T n≤w g g′ h (λ e. d (rw (is g, e))));
           run-says =
               λ s h o.
               let m = outcome-means (T .facts) (T .goal) (T .plan) (stateOf (T .width) (T .facts) s) o in
