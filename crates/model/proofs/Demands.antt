@@ -30,7 +30,8 @@ module _ (F : Limits) (S : Sensible F) where
         list-accepted = λ ls k. list-ok F S (encodeList F ls) ls k refl;
         task-accepted =
             λ p steps k l.
-            rw (problem-ok F S (encodeProblem F p) p k refl, Answer._>>=_, plan-ok (encodePlan steps) (length (p .actions)) steps l refl);
+            let plan = plan-ok (encodePlan steps) (length (p .actions)) steps l refl in
+            rw (problem-ok F S (encodeProblem F p) p k refl, Answer._>>=_, plan);
         refused-unchanged =
             λ problem plan grant out n q e. refused-unchanged F out n q (listFor F problem plan grant (length out)) e;
         rest-unchanged =

@@ -98,15 +98,13 @@ module _ (n : ℕ) (goal : Formula) where
 
   -- a plan whose actions are applicable runs to its end
   runs-on :
-      (before rest : List Action) (i : ℕ) (B : Belief) (s : List Bool) → Alone B s → Applicable n B before → (o : Outcome) →
-      ((t : List Bool) → Alone (after n B before) t → run two n goal rest (i + length before) t ≡ o) →
-      run two n goal (before ++ rest) i s ≡ o
+      (before rest : List Action) (i j : ℕ) (B : Belief) (s : List Bool) → j ≡ i + length before → Alone B s → Applicable n B before →
+      (o : Outcome) → ((t : List Bool) → Alone (after n B before) t → run two n goal rest j t ≡ o) → run two n goal (before ++ rest) i s ≡ o
   unfolding run goesOn applicable
-  runs-on [] rest i B s h ap′ o k = subst (λ (x : ℕ). run two n goal rest x s ≡ o) (omega arith) (k s h)
-  runs-on (a ∷ before) rest i B s h ap′ o k =
+  runs-on [] rest i j B s e h ap′ o k = let f : j ≡ i = omega arith in rw f at (k s h)
+  runs-on (a ∷ before) rest i j B s e h ap′ o k =
       rw (entails-alone B s h (a .precondition) .0 (ap′ .0))
-      (runs-on before rest (suc i) (Image n a B) (step two n a s) (image-alone a B s h) (ap′ .1) o
-      (λ t l. subst (λ (x : ℕ). run two n goal rest x t ≡ o) (omega arith) (k t l)))
+      (runs-on before rest (suc i) j (Image n a B) (step two n a s) (omega arith) (image-alone a B s h) (ap′ .1) o k)
 
   pub outcome-means : (plan : List Action) (s : List Bool) (o : Outcome) → (run two n goal plan 0 s ≡ o) ↔ OutcomeMeans n s goal plan o
   unfolding run goesOn applicable
@@ -118,16 +116,16 @@ module _ (n : ℕ) (goal : Formula) where
     (λ e. rw e at (run-means plan 0 (only s) s (only-alone s))),
     λ m.
         rw append-nil at
-        (runs-on plan [] 0 (only s) s (only-alone s) (m .0) missed λ t l.
+        (runs-on plan [] 0 _ (only s) s refl (only-alone s) (m .0) missed λ t l.
         ap atEnd (not-eq-not {a = eval two t goal} {b = false} .0 (λ e. m .1 (entails-alone (after n (only s) plan) t l goal .1 e)))),
   )
   outcome-means plan s (blocked p) = (
     (λ e. subst (Blocks n (only s) plan) (omega arith) ((rw e at (run-means plan 0 (only s) s (only-alone s))) .1)),
     λ b.
+        let φ = b .action .precondition in
         rw (b .parts)
-        (runs-on (b .before) (b .action ∷ b .rest) 0 (only s) s (only-alone s) (b .applicable) (blocked p) λ t l.
-        rw (not-eq-not {a = eval two t (b .action .precondition)} {b = false} .0 (λ e. b .not-applicable (entails-alone _ t l (b .action .precondition) .1 e)))
-        (ap (λ x. blocked (record { step = x })) (omega (arith, b .at)))),
+        (runs-on (b .before) (b .action ∷ b .rest) 0 (p .step) (only s) s (omega (arith, b .at)) (only-alone s) (b .applicable)
+        (blocked p) λ t l. rw (not-eq-not {a = eval two t φ} {b = false} .0 (λ e. b .not-applicable (entails-alone _ t l φ .1 e)))),
   )
 
 -- ---- the number of a state

@@ -145,9 +145,6 @@ words-other c l some sure b n h = rw (past (2 * b) (λ e. omega arith), past (2 
         getD-set-other c (2 * l) i some 0 (λ e. omega arith)
 
 module _ (c : List ℕ) (l some sure : ℕ) (size : length c ≡ 256) (small : l < 128) where
-  length-words : length (withWords c l some sure) ≡ 256
-  length-words = rw (length-set, length-set) size
-
   words-same : {j : ℕ} {t : Kleene} → InLane j some sure t → Stands (withWords c l some sure) l j t
   words-same h =
       rw (
@@ -165,11 +162,8 @@ module _ (c : List ℕ) (l m some sure : ℕ) (size : length c ≡ 256) (small :
   abbrev first : List ℕ
   first = withWords c l some sure
 
-  size-1 : length first ≡ 256
-  size-1 = length-words c l some sure size small
-
   pub length-withLiteral : length (withLiteral c l m some sure) ≡ 256
-  length-withLiteral = length-words first m _ _ size-1 (omega arith)
+  length-withLiteral = simp length-set size
 
   module _ (case case′ : ℕ → List Kleene) (t : ℕ → Kleene) (old : Table c case) (new : InLanes some sure t)
       (same : (j g : ℕ) → (g ≡ l → ⊥) → (g + 64 ≡ l → ⊥) → getD (case′ j) g No ≡ getD (case j) g No)
@@ -182,7 +176,7 @@ module _ (c : List ℕ) (l m some sure : ℕ) (size : length c ≡ 256) (small :
               elim (ℕ-discrete b m) [
                 | yes e ↦
                     rw (e, other-literal (case′ j) l m small other, at j i)
-                    (words-same first m _ _ size-1 (omega arith) (lane-denied j (new .lane j i) i))
+                    (words-same first m _ _ (simp length-set size) (omega arith) (lane-denied j (new .lane j i) i))
                 | no n′ ↦
                     rw (value-same (case j) (case′ j) b k (same j (b % 64) (λ e. omega arith) (λ e. omega arith)))
                     (words-other first m _ _ b n′ (words-other c l some sure b n (old .literal b k .lane j i)))

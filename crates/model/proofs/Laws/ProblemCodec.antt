@@ -92,7 +92,8 @@ module _ (F : Limits) (s : List ℕ) (facts : ℕ) (most : facts ≤ 64) where
 
   actions-give :
       Bytes s → (n p : ℕ) →
-      Gives (actions F s facts n p) (λ as′ q. Each (ActionOk F facts) as′ × Span s (length s) p (actionsBytes as′) q × (length as′ ≡ n))
+      Gives (actions F s facts n p) λ as′ q.
+      Each (ActionOk F facts) as′ × Span s (length s) p (actionsBytes as′) q × (length as′ ≡ n)
   unfolding actions _>>=_ andThen done actionsBytes
   actions-give sound zero p = gives (tt, nothing refl, refl)
   actions-give sound (suc n) p =

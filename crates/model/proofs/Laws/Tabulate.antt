@@ -28,8 +28,9 @@ pub set-tabulate :
 set-tabulate zero f g k h e = absurd (not-suc-le-zero h)
 set-tabulate (suc n) f g zero h e = ap (λ l. g zero ∷ l) (tabulate-below n _ _ λ i l. e (suc i) (omega arith) (λ p. omega arith))
 set-tabulate (suc n) f g (suc k) h e =
-    let r = set-tabulate n (λ i. f (suc i)) (λ i. g (suc i)) k (omega arith) (λ i l d. e (suc i) (omega arith) (λ p. d (omega arith))) in
-    λ j. e zero (omega arith) (λ p. omega arith) j ∷ r j
+    λ j.
+    e zero (omega arith) (λ p. omega arith) j ∷
+    set-tabulate n (λ i. f (suc i)) (λ i. g (suc i)) k (omega arith) (λ i l d. e (suc i) (omega arith) (λ p. d (omega arith))) j
 
 -- past the end
 pub getD-tabulate-past : {X : Type 0} (n : ℕ) (f : ℕ → X) (i : ℕ) (d : X) → n ≤ i → getD (tabulate n f) i d ≡ d
