@@ -79,6 +79,7 @@ look-open No r e (inr p) = let z : _≡_ {A = ℕ} 0 1 = cc in omega arith
 look-open Unknown r e (inr p) = let z : _≡_ {A = ℕ} 0 1 = cc in omega arith
 look-open Yes r e (inr p) = let z : _≡_ {A = ℕ} 0 1 = cc in omega arith
 
+-- how a walk ended
 pub walk-ends : (r : Walked) → ((ls : List Line) × (a : ℕ) × (r ≡ covered ls a)) ⊎ ((s : ℕ) × (a : ℕ) × (r ≡ failed s a))
 walk-ends (covered ls a) = inl (ls, a, refl)
 walk-ends (failed s a) = inr (s, a, refl)
