@@ -1,54 +1,44 @@
 -- The three demands hold of every version whose numbers are sensible, and so of version 1. Assumes nothing.
-use mathlib.Core.Path.{_≡_, refl, ap}
-use mathlib.Core.List.{List}
-use Prim.Native.Nat.{ℕ, _≤_}
+use mathlib.Core.Path.{refl}
 use native.Mathlib.Omega.{arith}
 use lib.ListN.{length}
 use Rattle.model.specs.declared.Limits.{Limits}
 use Rattle.model.specs.Limits.{version1}
 use Rattle.model.specs.Answer as Answer
-use Rattle.model.specs.Answer.{answered}
-use Rattle.model.specs.Read.{answerOf}
-use Rattle.model.specs.ProblemBytes.{Problem, problem, problemOf, plan, planOf, encodeProblem, encodePlan}
-use Rattle.model.specs.Operations.{taskOf, readTask, listFor, writeList}
-use Rattle.model.specs.WellFormed.{ProblemOk, PlanOk, Sensible}
+use Rattle.model.specs.ProblemBytes.{problem, problemOf, plan, planOf, encodeProblem, encodePlan}
+use Rattle.model.specs.ListBytes.{encodeList}
+use Rattle.model.specs.Operations.{readTask, listFor, writeList}
+use Rattle.model.specs.WellFormed.{Sensible}
 use Rattle.model.specs.Demands.{Demand1, Demands}
 use Rattle.model.proofs.Laws.Reading.{answer-got}
-use Rattle.model.proofs.Laws.ProblemCodec.{problem-got, problem-ok, plan-got, plan-ok}
-use Rattle.model.proofs.Laws.ListCodec.{list-sound, list-accepted}
-use Rattle.model.proofs.Laws.Tasks.{task-fits}
+use Rattle.model.proofs.Laws.ProblemCodec.{problem-gives, problem-ok, plan-gives, plan-ok}
+use Rattle.model.proofs.Laws.ListCodec.{list-sound, list-ok}
+use Rattle.model.proofs.Laws.Tasks.{answer-then, task-fits}
 use Rattle.model.proofs.Laws.Judging.{verdicts}
-use Rattle.model.proofs.Laws.Lists.{refused-unchanged, rest-unchanged, lists, n≤w}
+use Rattle.model.proofs.Laws.Lists.{written-answered, refused-unchanged, wrote, lists, n≤w}
 
 module _ (F : Limits) (S : Sensible F) where
-  problem-accepted : (p : Problem) → ProblemOk F p → problemOf F (encodeProblem F p) ≡ answered p
-  unfolding problemOf answerOf
-  problem-accepted p k = ap answerOf (problem-ok F S (encodeProblem F p) p k refl)
-
-  plan-accepted : (m : ℕ) (steps : List ℕ) → PlanOk m steps → planOf (encodePlan steps) m ≡ answered steps
-  unfolding planOf answerOf
-  plan-accepted m steps k = ap answerOf (plan-ok (encodePlan steps) m steps k refl)
-
-  task-accepted :
-      (p : Problem) (steps : List ℕ) → ProblemOk F p → PlanOk (length (p .actions)) steps →
-      readTask F (encodeProblem F p) (encodePlan steps) ≡ answered (taskOf F p steps)
-  unfolding readTask Answer._>>=_
-  task-accepted p steps k l = rw (problem-accepted p k, Answer._>>=_, plan-accepted (length (p .actions)) steps l)
-
   reading : Demand1 F
-  unfolding problemOf planOf writeList
+  unfolding problemOf planOf writeList listFor readTask Answer._>>=_
   reading =
       record {
-        problem-sound = λ s b p e. let (q, h) = answer-got (problem F s 0) e in problem-got F S s p q b h;
-        plan-sound = λ s b m steps e. let (q, h) = answer-got (plan s m 0) e in plan-got s m steps q b h;
+        problem-sound = λ s b p e. let (q, h) = answer-got (problem F s 0) e in problem-gives F S s b .of p q h;
+        plan-sound = λ s b m steps e. let (q, h) = answer-got (plan s m 0) e in plan-gives s m b .of steps q h;
         list-sound = list-sound F S;
-        problem-accepted = problem-accepted;
-        plan-accepted = plan-accepted;
-        list-accepted = list-accepted F S;
-        task-accepted = task-accepted;
+        problem-accepted = λ p k. problem-ok F S (encodeProblem F p) p k refl;
+        plan-accepted = λ m steps k. plan-ok (encodePlan steps) m steps k refl;
+        list-accepted = λ ls k. list-ok F S (encodeList F ls) ls k refl;
+        task-accepted =
+            λ p steps k l.
+            let plan = plan-ok (encodePlan steps) (length (p .actions)) steps l refl in
+            rw (problem-ok F S (encodeProblem F p) p k refl, Answer._>>=_, plan);
         refused-unchanged =
             λ problem plan grant out n q e. refused-unchanged F out n q (listFor F problem plan grant (length out)) e;
-        rest-unchanged = rest-unchanged F S;
+        rest-unchanged =
+            λ problem plan grant out n e.
+            answer-then (written-answered F out n (listFor F problem plan grant (length out)) e .1) λ T given _.
+            let (_, _, _, _, size, _, rest) = wrote F S T (task-fits F problem plan T given) problem plan given grant out n e in
+            (size, rest);
       }
 
   pub demands-hold : Demands F

@@ -1,15 +1,28 @@
 -- A relation between two logics that every connective keeps is kept by every reading, step and run. Two instances: a case that says
 -- more (`refining`), and a case with every fact fixed (`exact`). Assumes nothing.
 use mathlib.Core.Path.{_≡_, refl, sym, ap, ap₂, _∙_}
-use mathlib.Core.Bool.{Bool, true, false, _&&_, _||_, not}
+use mathlib.Core.Bool.{Bool, true, false}
 use mathlib.Core.List.{List, [], _∷_}
 use Prim.Native.Nat.{ℕ, zero, suc, _<_, suc-le-suc}
 use lib.ListN.{getD}
 use native.Mathlib.Omega.{arith}
 use Rattle.model.specs.Kleene.{Kleene, No, Unknown, Yes, both, either, denied, isYes, known, Logic, two, three}
-use Rattle.model.specs.Formula.{Literal, fact, denial, Formula, Formulas, lit, all, any, none, more, valueOf, eval, evalAll, evalAny}
+use Rattle.model.specs.Formula.{fact, denial, Formula, Formulas, lit, all, any, none, more, eval, evalAll, evalAny}
 use Rattle.model.specs.Action.{Action, conditionOf, tabulate, applicable, next, step}
 use Rattle.model.specs.Run.{Outcome, reached, Stop, atEnd, goesOn, run}
+
+-- an equation in one value, or in two, by the table of its instances
+abbrev row : {A : Type 0} → (Kleene → A) → List A
+row f = f No ∷ f Unknown ∷ f Yes ∷ []
+
+pub by-row : {A : Type 0} (f g : Kleene → A) → row f ≡ row g → (x : Kleene) → f x ≡ g x
+by-row f g e No = cc
+by-row f g e Unknown = cc
+by-row f g e Yes = cc
+
+pub by-table :
+    {A : Type 0} (f g : Kleene → Kleene → A) → row (λ x. row (f x)) ≡ row (λ x. row (g x)) → (x y : Kleene) → f x y ≡ g x y
+by-table f g e x = by-row (f x) (g x) (by-row (λ x. row (f x)) (λ x. row (g x)) e x)
 
 -- ---- a run that is reached
 
@@ -37,15 +50,12 @@ module _ {X Y : Type 0} (L : Logic X) (M : Logic Y) (R : X → Y → Type 0) (K 
   Along c s = (i : ℕ) → R (getD c i (L .never)) (getD s i (M .never))
 
   module _ (c : List X) (s : List Y) (along : Along c s) where
-    literal-keeps : (l : Literal) → R (valueOf L c l) (valueOf M s l)
-    literal-keeps (fact f) = along f
-    literal-keeps (denial f) = K .denied (along f)
-
     mutual
       unfolding eval
 
       pub eval-keeps : (φ : Formula) → R (eval L c φ) (eval M s φ)
-      eval-keeps (lit l) = literal-keeps l
+      eval-keeps (lit (fact f)) = along f
+      eval-keeps (lit (denial f)) = K .denied (along f)
       eval-keeps (all ms) = all-keeps ms
       eval-keeps (any ms) = any-keeps ms
 
@@ -57,13 +67,6 @@ module _ {X Y : Type 0} (L : Logic X) (M : Logic Y) (R : X → Y → Type 0) (K 
       any-keeps none = K .never
       any-keeps (more m ms) = K .either (eval-keeps m) (any-keeps ms)
 
-    pub next-keeps : (a : Action) (f : ℕ) → R (next L a c f) (next M a s f)
-    unfolding next
-    next-keeps a f =
-        K .either
-        (eval-keeps (conditionOf (fact f) (a .effects)))
-        (K .both (along f) (K .denied (eval-keeps (conditionOf (denial f) (a .effects)))))
-
   pub tabulate-keeps :
       (n : ℕ) (f : ℕ → X) (g : ℕ → Y) → ((i : ℕ) → i < n → R (f i) (g i)) → Along (tabulate n f) (tabulate n g)
   tabulate-keeps zero f g h i = K .never
@@ -71,8 +74,12 @@ module _ {X Y : Type 0} (L : Logic X) (M : Logic Y) (R : X → Y → Type 0) (K 
   tabulate-keeps (suc n) f g h (suc i) = tabulate-keeps n (λ j. f (suc j)) (λ j. g (suc j)) (λ j l. h (suc j) (suc-le-suc l)) i
 
   pub step-keeps : (n : ℕ) (a : Action) (c : List X) (s : List Y) → Along c s → Along (step L n a c) (step M n a s)
-  unfolding step
-  step-keeps n a c s h = tabulate-keeps n _ _ λ i l. next-keeps c s h a i
+  unfolding step next
+  step-keeps n a c s h =
+      tabulate-keeps n _ _ λ f l.
+      K .either
+      (eval-keeps c s h (conditionOf (fact f) (a .effects)))
+      (K .both (h f) (K .denied (eval-keeps c s h (conditionOf (denial f) (a .effects)))))
 
   -- where what holds on the left holds on the right, so does a run that is reached
   pub run-keeps :
@@ -103,19 +110,18 @@ pub data Refines : Kleene → Kleene → Type 0 where
   same : {t : Kleene} → Refines t t
   wider : {t : Kleene} → Refines Unknown t
 
-both-wider : (b t : Kleene) → Refines (both Unknown t) (both b t)
-both-wider No No = same
-both-wider Unknown No = same
-both-wider Yes No = same
-both-wider b Unknown = wider
-both-wider b Yes = wider
+both-wider : (t u : Kleene) → Refines (both t Unknown) (both t u)
+both-wider No u = same
+both-wider Unknown u = wider
+both-wider Yes u = wider
+
+both-comm : (x y : Kleene) → both x y ≡ both y x
+both-comm = by-table both (λ x y. both y x) refl
 
 both-refines : {x x′ y y′ : Kleene} → Refines x y → Refines x′ y′ → Refines (both x x′) (both y y′)
-both-refines (same {t = No}) r = same
-both-refines (same {t = Yes}) r = r
-both-refines (same {t = Unknown}) same = same
-both-refines (same {t = Unknown}) wider = wider
-both-refines (wider {t = b}) (same {t}) = both-wider b t
+both-refines same same = same
+both-refines (same {t}) (wider {t = u}) = both-wider t u
+both-refines (wider {t = u}) (same {t}) = rw (both-comm Unknown t, both-comm u t) (both-wider t u)
 both-refines wider wider = wider
 
 denied-refines : {x y : Kleene} → Refines x y → Refines (denied x) (denied y)
@@ -124,13 +130,7 @@ denied-refines wider = wider
 
 -- "an "any" mirrors it"
 either-mirrors : (x y : Kleene) → either x y ≡ denied (both (denied x) (denied y))
-either-mirrors No No = refl
-either-mirrors No Unknown = refl
-either-mirrors No Yes = refl
-either-mirrors Unknown No = refl
-either-mirrors Unknown Unknown = refl
-either-mirrors Unknown Yes = refl
-either-mirrors Yes y = refl
+either-mirrors = by-table either (λ x y. denied (both (denied x) (denied y))) refl
 
 either-refines : {x x′ y y′ : Kleene} → Refines x y → Refines x′ y′ → Refines (either x x′) (either y y′)
 either-refines {x} {x′} {y} {y′} r t =
@@ -148,18 +148,6 @@ refines-yes x y wider e = cc
 abbrev pub Exact : Kleene → Bool → Type 0
 Exact t b = t ≡ known b
 
-both-exact : (b b′ : Bool) → both (known b) (known b′) ≡ known (b && b′)
-both-exact true b′ = refl
-both-exact false b′ = refl
-
-either-exact : (b b′ : Bool) → either (known b) (known b′) ≡ known (b || b′)
-either-exact true b′ = refl
-either-exact false b′ = refl
-
-denied-exact : (b : Bool) → denied (known b) ≡ known (not b)
-denied-exact true = refl
-denied-exact false = refl
-
 pub yes-exact : (b : Bool) → isYes (known b) ≡ b
 yes-exact true = refl
 yes-exact false = refl
@@ -169,22 +157,16 @@ exact =
     record {
       always = refl;
       never = refl;
-      both = λ {x} {x′} {y} {y′} p q. ap₂ both p q ∙ both-exact y y′;
-      either = λ {x} {x′} {y} {y′} p q. ap₂ either p q ∙ either-exact y y′;
-      denied = λ {x} {y} p. ap denied p ∙ denied-exact y;
+      both = λ {x} {x′} {y} {y′} p q. rw (p, q) (elim y [ true ↦ refl | false ↦ refl ]);
+      either = λ {x} {x′} {y} {y′} p q. rw (p, q) (elim y [ true ↦ refl | false ↦ refl ]);
+      denied = λ {x} {y} p. rw p (elim y [ true ↦ refl | false ↦ refl ]);
     }
 
--- what a case reads as yes or no, a state that it admits reads so
-pub from-yes : {t : Kleene} (b : Bool) → Refines t (known b) → t ≡ Yes → b ≡ true
-from-yes true r e = refl
-from-yes false r e = sym (never (rw e at r))
-  where
-    never : Refines Yes No → true ≡ false
-    never r = elim r [ ]
+pub known-inj : {b b′ : Bool} → known b ≡ known b′ → b ≡ b′
+known-inj {b} {b′} e = sym (yes-exact b) ∙ ap isYes e ∙ yes-exact b′
 
-pub from-no : {t : Kleene} (b : Bool) → Refines t (known b) → t ≡ No → b ≡ false
-from-no false r e = refl
-from-no true r e = sym (never (rw e at r))
-  where
-    never : Refines No Yes → false ≡ true
-    never r = elim r [ ]
+-- what a case reads as yes or no, one that says more reads so
+pub refines-known : {x y : Kleene} (b : Bool) → Refines x y → x ≡ known b → y ≡ known b
+refines-known b same e = e
+refines-known true wider e = cc
+refines-known false wider e = cc

@@ -1,28 +1,27 @@
 -- Document 004's solutions are the right plans: belief states and runs of single states agree, and every list of n values is a
 -- state. A run of one state ends as that section says of the belief that holds it alone. Assumes nothing.
 use mathlib.Core.Path.{_≡_, refl, sym, ap, _∙_, subst}
-use mathlib.Core.Bool.{Bool, true, false, cond, false≢true}
+use mathlib.Core.Bool.{Bool, true, false, false≢true, not-eq-not}
 use mathlib.Core.Logic.{_↔_}
 use mathlib.Core.List.{List, [], _∷_, _++_, append-nil}
-use Prim.Native.Nat.{ℕ, zero, suc, _+_, _-_, _*_, _^_, _≤_, _<_}
-use native.Mathlib.Nat.{pow-suc, mod-eq-of-lt, mul-add-mod-self-right, mul-add-div-right, not-suc-le-zero}
+use Prim.Native.Nat.{ℕ, zero, suc, _+_, _-_, _^_, _≤_, _<_}
 use native.Mathlib.Omega.{arith}
+use native.Mathlib.Decide.{ℕ-discrete}
 use lib.ListN.{length, getD}
 use lib.Seq.{ext-getD}
-use lib.Dec.{eqb}
-use lib.Arith.{digits-div}
-use lib.Pow.{pow-pos, pow-add}
+use lib.Pow.{pow-pos}
 use Rattle.model.specs.Kleene.{two}
 use Rattle.model.specs.Formula.{Formula, eval}
 use Rattle.model.specs.Action.{Action, tabulate, applicable, next, step}
 use Rattle.model.specs.Run.{Outcome, reached, missed, blocked, atEnd, goesOn, run}
-use Rattle.model.specs.Case.{bit, stateOf, Task, runOf, initially, IsStart, Right}
+use Rattle.model.specs.Case.{bit, stateOf, Task, runOf, initially, IsState, Right}
 use Rattle.model.specs.Belief.{Belief, Entails, ApplicableIn, only, Image, after, Applicable, Solution, initialBelief, Blocks, OutcomeMeans}
 use Rattle.model.proofs.Laws.Tabulate.{length-tabulate, getD-tabulate}
 use Rattle.model.proofs.Laws.Agreement.{goes-on-reached, at-end-reached}
-use Rattle.model.proofs.Laws.Cover.{Block, mod-of-block}
+use Rattle.model.proofs.Laws.Cover.{Block, mod-of-block, root-block, root-span, agree}
+use Rattle.model.proofs.Laws.Splitting.{part, part-in, part-block, part-bit}
 
-module _ (n : ℕ) where
+module _ (n : ℕ) (goal : Formula) where
   step-image : (a : Action) (B : Belief) (s : List Bool) → B s → Image n a B (step two n a s)
   unfolding step
   step-image a B s b = record { size = length-tabulate n _; before = s; held = b; moves = λ f h. getD-tabulate n (next two a s) f false h }
@@ -33,231 +32,139 @@ module _ (n : ℕ) where
       ext-getD false t (tabulate n (next two a (m .before))) (m .size ∙ sym (length-tabulate n _))
       (λ i h. m .moves i (subst (λ (x : ℕ). i < x) (m .size) h) ∙ sym (getD-tabulate n (next two a (m .before)) i false (subst (λ (x : ℕ). i < x) (m .size) h)))
 
-  module _ (goal : Formula) where
-    solution-runs : (plan : List Action) (i : ℕ) (B : Belief) → Solution n B goal plan → (s : List Bool) → B s → run two n goal plan i s ≡ reached
-    unfolding run goesOn applicable
-    solution-runs [] i B h s b = ap atEnd (h .1 s b)
-    solution-runs (a ∷ plan) i B h s b = rw (h .0 .0 s b) (solution-runs plan (suc i) (Image n a B) (h .0 .1, h .1) (step two n a s) (step-image a B s b))
+  solution-runs : (plan : List Action) (i : ℕ) (B : Belief) → Solution n B goal plan → (s : List Bool) → B s → run two n goal plan i s ≡ reached
+  unfolding run goesOn applicable
+  solution-runs [] i B h s b = ap atEnd (h .1 s b)
+  solution-runs (a ∷ plan) i B h s b = rw (h .0 .0 s b) (solution-runs plan (suc i) (Image n a B) (h .0 .1, h .1) (step two n a s) (step-image a B s b))
 
-    runs-solution : (plan : List Action) (i : ℕ) (B : Belief) → ((s : List Bool) → B s → run two n goal plan i s ≡ reached) → Solution n B goal plan
-    unfolding run applicable
-    runs-solution [] i B h = (tt, λ s b. at-end-reached _ (h s b))
-    runs-solution (a ∷ plan) i B h =
-        let r = runs-solution plan (suc i) (Image n a B) (λ t m. rw (image-step a B t m) (goes-on-reached _ _ _ (h (m .before) (m .held)) .1)) in
-        ((λ s b. goes-on-reached _ _ _ (h s b) .0, r .0), r .1)
+  runs-solution : (plan : List Action) (i : ℕ) (B : Belief) → ((s : List Bool) → B s → run two n goal plan i s ≡ reached) → Solution n B goal plan
+  unfolding run applicable
+  runs-solution [] i B h = (tt, λ s b. at-end-reached _ (h s b))
+  runs-solution (a ∷ plan) i B h =
+      let r = runs-solution plan (suc i) (Image n a B) (λ t m. rw (image-step a B t m) (goes-on-reached _ _ _ (h (m .before) (m .held)) .1)) in
+      ((λ s b. goes-on-reached _ _ _ (h s b) .0, r .0), r .1)
 
--- ---- the run of one state
+  -- ---- the run of one state
 
--- B holds s alone
-record Alone (B : Belief) (s : List Bool) : Type 0 where
-  pub holds : B s
-  pub one : (t : List Bool) → B t → t ≡ s
+  -- B holds s alone
+  abbrev Alone : Belief → List Bool → Type 0
+  Alone B s = B s × ((t : List Bool) → B t → t ≡ s)
 
-only-alone : (s : List Bool) → Alone (only s) s
-only-alone s = record { holds = refl; one = λ t e. e }
+  only-alone : (s : List Bool) → Alone (only s) s
+  only-alone s = (refl, λ t e. e)
 
-module _ (B : Belief) (s : List Bool) (h : Alone B s) where
-  entails-alone : (φ : Formula) → Entails B φ ↔ (eval two s φ ≡ true)
-  entails-alone φ = ((λ e. e s (h .holds)), λ e t b. rw (h .one t b) e)
+  entails-alone : (B : Belief) (s : List Bool) → Alone B s → (φ : Formula) → Entails B φ ↔ (eval two s φ ≡ true)
+  entails-alone B s h φ = ((λ e. e s (h .0)), λ e t b. rw (h .1 t b) e)
 
-  applicable-alone : (a : Action) → ApplicableIn B a ↔ (applicable two a s ≡ true)
-  unfolding applicable
-  applicable-alone a = entails-alone (a .precondition)
-
-module _ (n : ℕ) (goal : Formula) where
   image-alone : (a : Action) (B : Belief) (s : List Bool) → Alone B s → Alone (Image n a B) (step two n a s)
   image-alone a B s h =
-      record { holds = step-image n a B s (h .holds); one = λ t m. image-step n a B t m ∙ ap (step two n a) (h .one (m .before) (m .held)) }
+      (step-image a B s (h .0), λ t m. image-step a B t m ∙ ap (step two n a) (h .1 (m .before) (m .held)))
 
   -- what an outcome says of a plan whose first step is numbered i
   abbrev MeansFrom : Belief → List Action → ℕ → Outcome → Type 0
   MeansFrom B plan i reached = Solution n B goal plan
   MeansFrom B plan i missed = Applicable n B plan × (Entails (after n B plan) goal → ⊥)
-  MeansFrom B plan i (blocked p) = (j : ℕ) × (p .step ≡ i + j) × Blocks n B plan j
+  MeansFrom B plan i (blocked p) = (i ≤ p .step) × Blocks n B plan (p .step - i)
 
-  after-step :
-      (a : Action) (B : Belief) (plan : List Action) (i : ℕ) → ApplicableIn B a → (o : Outcome) →
-      MeansFrom (Image n a B) plan (suc i) o → MeansFrom B (a ∷ plan) i o
-  after-step a B plan i h reached m = ((h, m .0), m .1)
-  after-step a B plan i h missed m = ((h, m .0), m .1)
-  after-step a B plan i h (blocked p) m =
-      let (j, e, b) = m in (
-        suc j,
-        omega (arith, e),
-        record {
-          before = a ∷ b .before;
-          action = b .action;
-          rest = b .rest;
-          parts = ap (λ l. a ∷ l) (b .parts);
-          at = ap suc (b .at);
-          applicable = (h, b .applicable);
-          not-applicable = b .not-applicable;
-        },
-      )
+  blocks :
+      (B : Belief) (before : List Action) (a : Action) (rest : List Action) (j : ℕ) → length before ≡ j → Applicable n B before →
+      (ApplicableIn (after n B before) a → ⊥) → Blocks n B (before ++ (a ∷ rest)) j
+  blocks B before a rest j e ok stop =
+      record { before = before; action = a; rest = rest; parts = refl; at = e; applicable = ok; not-applicable = stop }
 
   run-means : (plan : List Action) (i : ℕ) (B : Belief) (s : List Bool) → Alone B s → MeansFrom B plan i (run two n goal plan i s)
-  unfolding run goesOn
+  unfolding run goesOn applicable
   run-means [] i B s h = by-goal (eval two s goal) refl
     where
       by-goal : (b : Bool) → eval two s goal ≡ b → MeansFrom B [] i (atEnd b)
       by-goal true e = (tt, entails-alone B s h goal .1 e)
       by-goal false e = (tt, λ g. false≢true (sym e ∙ entails-alone B s h goal .0 g))
   run-means (a ∷ plan) i B s h =
-      by-test (run two n goal plan (suc i) (step two n a s)) (run-means plan (suc i) (Image n a B) (step two n a s) (image-alone a B s h))
-      (applicable two a s) refl
+      by-test (applicable two a s) refl (run two n goal plan (suc i) (step two n a s))
+      (run-means plan (suc i) (Image n a B) (step two n a s) (image-alone a B s h))
     where
       by-test :
-          (o : Outcome) → MeansFrom (Image n a B) plan (suc i) o → (b : Bool) → applicable two a s ≡ b →
+          (b : Bool) → applicable two a s ≡ b → (o : Outcome) → MeansFrom (Image n a B) plan (suc i) o →
           MeansFrom B (a ∷ plan) i (goesOn b o (record { step = i }))
-      by-test o m true e = after-step a B plan i (applicable-alone B s h a .1 e) o m
-      by-test o m false e = (
-        0,
-        omega arith,
-        record {
-          before = [];
-          action = a;
-          rest = plan;
-          parts = refl;
-          at = refl;
-          applicable = tt;
-          not-applicable = λ g. false≢true (sym e ∙ applicable-alone B s h a .0 g);
-        },
-      )
-
-  not-true : (b : Bool) → (b ≡ true → ⊥) → b ≡ false
-  not-true true h = absurd (h refl)
-  not-true false h = refl
+      by-test true e reached m = ((entails-alone B s h (a .precondition) .1 e, m .0), m .1)
+      by-test true e missed m = ((entails-alone B s h (a .precondition) .1 e, m .0), m .1)
+      by-test true e (blocked p) (l, b) =
+          let ok : Applicable n B (a ∷ b .before) = (entails-alone B s h (a .precondition) .1 e, b .applicable) in (
+            omega arith,
+            rw (b .parts) (blocks B (a ∷ b .before) (b .action) (b .rest) (p .step - i) (omega (arith, b .at)) ok (b .not-applicable)),
+          )
+      by-test false e o m =
+          (omega arith, blocks B [] a plan (i - i) (omega arith) tt (λ g. false≢true (sym e ∙ entails-alone B s h (a .precondition) .0 g)))
 
   -- a plan whose actions are applicable runs to its end
   runs-on :
-      (before rest : List Action) (i : ℕ) (B : Belief) (s : List Bool) → Alone B s → Applicable n B before → (o : Outcome) →
-      ((t : List Bool) → Alone (after n B before) t → run two n goal rest (i + length before) t ≡ o) →
-      run two n goal (before ++ rest) i s ≡ o
-  unfolding run goesOn
-  runs-on [] rest i B s h ap′ o k = subst (λ (x : ℕ). run two n goal rest x s ≡ o) (omega arith) (k s h)
-  runs-on (a ∷ before) rest i B s h ap′ o k =
-      rw (applicable-alone B s h a .0 (ap′ .0))
-      (runs-on before rest (suc i) (Image n a B) (step two n a s) (image-alone a B s h) (ap′ .1) o
-      (λ t l. subst (λ (x : ℕ). run two n goal rest x t ≡ o) (omega arith) (k t l)))
-
-  misses : (plan : List Action) (B : Belief) (s : List Bool) → Alone B s → Applicable n B plan → (Entails (after n B plan) goal → ⊥) → run two n goal plan 0 s ≡ missed
-  unfolding run
-  misses plan B s h ap′ g =
-      rw append-nil at (runs-on plan [] 0 B s h ap′ missed (λ t l. ap atEnd (not-true (eval two t goal) (λ e. g (entails-alone (after n B plan) t l goal .1 e)))))
-
-  stops : (plan : List Action) (i : ℕ) (B : Belief) (s : List Bool) → Alone B s → Blocks n B plan i → run two n goal plan 0 s ≡ blocked (record { step = i })
-  unfolding run goesOn
-  stops plan i B s h b =
-      rw (b .parts)
-      (runs-on (b .before) (b .action ∷ b .rest) 0 B s h (b .applicable) (blocked (record { step = i }))
-      (λ t l.
-      rw (not-true (applicable two (b .action) t) (λ e. b .not-applicable (applicable-alone (after n B (b .before)) t l (b .action) .1 e)))
-      (ap (λ x. blocked (record { step = x })) (omega (arith, b .at)))))
-
-  means-run : (plan : List Action) (s : List Bool) (o : Outcome) → OutcomeMeans n s goal plan o → run two n goal plan 0 s ≡ o
-  means-run plan s reached m = solution-runs n goal plan 0 (only s) m s refl
-  means-run plan s missed m = misses plan (only s) s (only-alone s) (m .0) (m .1)
-  means-run plan s (blocked p) m = stops plan (p .step) (only s) s (only-alone s) m
-
-  from-0 : (plan : List Action) (s : List Bool) (o : Outcome) → MeansFrom (only s) plan 0 o → OutcomeMeans n s goal plan o
-  from-0 plan s reached m = m
-  from-0 plan s missed m = m
-  from-0 plan s (blocked p) m = subst (Blocks n (only s) plan) (omega (arith, m .1)) (m .2)
+      (before rest : List Action) (i j : ℕ) (B : Belief) (s : List Bool) → j ≡ i + length before → Alone B s → Applicable n B before →
+      (o : Outcome) → ((t : List Bool) → Alone (after n B before) t → run two n goal rest j t ≡ o) → run two n goal (before ++ rest) i s ≡ o
+  unfolding run goesOn applicable
+  runs-on [] rest i j B s e h ap′ o k = let f : j ≡ i = omega arith in rw f at (k s h)
+  runs-on (a ∷ before) rest i j B s e h ap′ o k =
+      rw (entails-alone B s h (a .precondition) .0 (ap′ .0))
+      (runs-on before rest (suc i) j (Image n a B) (step two n a s) (omega arith) (image-alone a B s h) (ap′ .1) o k)
 
   pub outcome-means : (plan : List Action) (s : List Bool) (o : Outcome) → (run two n goal plan 0 s ≡ o) ↔ OutcomeMeans n s goal plan o
-  outcome-means plan s o = (
-    (λ e. subst (OutcomeMeans n s goal plan) e (from-0 plan s (run two n goal plan 0 s) (run-means plan 0 (only s) s (only-alone s)))),
-    means-run plan s o,
+  unfolding run goesOn applicable
+  outcome-means plan s reached = (
+    (λ e. rw e at (run-means plan 0 (only s) s (only-alone s))),
+    λ m. solution-runs plan 0 (only s) m s refl,
+  )
+  outcome-means plan s missed = (
+    (λ e. rw e at (run-means plan 0 (only s) s (only-alone s))),
+    λ m.
+        rw append-nil at
+        (runs-on plan [] 0 _ (only s) s refl (only-alone s) (m .0) missed λ t l.
+        ap atEnd (not-eq-not {a = eval two t goal} {b = false} .0 (λ e. m .1 (entails-alone (after n (only s) plan) t l goal .1 e)))),
+  )
+  outcome-means plan s (blocked p) = (
+    (λ e. subst (Blocks n (only s) plan) (omega arith) ((rw e at (run-means plan 0 (only s) s (only-alone s))) .1)),
+    λ b.
+        let φ = b .action .precondition in
+        rw (b .parts)
+        (runs-on (b .before) (b .action ∷ b .rest) 0 (p .step) (only s) s (omega (arith, b .at)) (only-alone s) (b .applicable)
+        (blocked p) λ t l. rw (not-eq-not {a = eval two t φ} {b = false} .0 (λ e. b .not-applicable (entails-alone _ t l φ .1 e)))),
   )
 
 -- ---- the number of a state
 
-unfoldable pub number : ℕ → List Bool → ℕ
-number zero c = 0
-number (suc w) [] = 0
-number (suc w) (b ∷ c) = cond b (2 ^ w) 0 + number w c
-
-number-lt : (w : ℕ) (c : List Bool) → number w c < 2 ^ w
-unfolding number
-number-lt zero c = omega arith
-number-lt (suc w) [] = pow-pos (suc w)
-number-lt (suc w) (true ∷ c) = rw pow-suc (omega (arith, number-lt w c))
-number-lt (suc w) (false ∷ c) = rw pow-suc (omega (arith, number-lt w c))
-
-cons-block : (w k v : ℕ) (b : Bool) → k ≤ w → Block w k v → Block (suc w) (suc k) (cond b (2 ^ w) 0 + v)
-cons-block w k v b h r = record { q = cond b (2 ^ k) 0 + r .q; is = by-head b }
-  where
-    e : suc w - suc k ≡ w - k
-    e = omega arith
-
-    f : 2 ^ w ≡ 2 ^ k * 2 ^ (w - k)
-    f = ap (λ (x : ℕ). 2 ^ x) (omega arith) ∙ pow-add 2 k (w - k)
-
-    by-head : (b : Bool) → cond b (2 ^ w) 0 + v ≡ (cond b (2 ^ k) 0 + r .q) * 2 ^ (suc w - suc k)
-    by-head true = rw e (omega (arith, f, r .is))
-    by-head false = rw e (omega (arith, r .is))
-
-number-block : (w : ℕ) (c : List Bool) → length c ≤ w → Block w (length c) (number w c)
-unfolding number
-number-block zero [] h = record { q = 0; is = omega arith }
-number-block zero (b ∷ c) h = absurd (omega arith)
-number-block (suc w) [] h = record { q = 0; is = omega arith }
-number-block (suc w) (b ∷ c) h = cons-block w (length c) (number w c) b (omega arith) (number-block w c (omega arith))
-
--- below the top bit
-low-bits : (w q r i : ℕ) → i < w → bit (suc w) (q * 2 ^ w + r) (suc i) ≡ bit w r i
-unfolding bit
-low-bits w q r i h =
-    let e : suc w - suc (suc i) ≡ w - suc i = omega arith in
-    let f : w ≡ suc i + (w - suc i) = omega arith in
-    let p : 2 ^ w ≡ (2 ^ i * 2) * 2 ^ (w - suc i) = ap (λ (x : ℕ). 2 ^ x) f ∙ pow-add 2 (suc i) (w - suc i) ∙ ap (λ (x : ℕ). x * 2 ^ (w - suc i)) (pow-suc 2 i) in
-    let g : q * 2 ^ w ≡ ((q * 2 ^ i) * 2) * 2 ^ (w - suc i) = ap (λ (x : ℕ). q * x) p ∙ omega arith in
-    rw (e, g, mul-add-div-right (pow-pos (w - suc i)), mul-add-mod-self-right)
-
-top-bit : (w q r : ℕ) → q < 2 → r < 2 ^ w → bit (suc w) (q * 2 ^ w + r) 0 ≡ eqb q 1
-unfolding bit
-top-bit w q r h l =
-    let e : suc w - suc 0 ≡ w = omega arith in
-    rw (e, digits-div q l, mod-eq-of-lt h)
-
-number-bit : (w : ℕ) (c : List Bool) (i : ℕ) → i < length c → length c ≤ w → bit w (number w c) i ≡ getD c i false
-unfolding number
-number-bit w [] i h l = absurd (not-suc-le-zero h)
-number-bit zero (b ∷ c) i h l = absurd (not-suc-le-zero l)
-number-bit (suc w) (true ∷ c) zero h l = subst (λ (x : ℕ). bit (suc w) x 0 ≡ true) (omega arith) (top-bit w 1 (number w c) (omega arith) (number-lt w c))
-number-bit (suc w) (false ∷ c) zero h l = subst (λ (x : ℕ). bit (suc w) x 0 ≡ false) (omega arith) (top-bit w 0 (number w c) (omega arith) (number-lt w c))
-number-bit (suc w) (true ∷ c) (suc i) h l = subst (λ (x : ℕ). bit (suc w) x (suc i) ≡ getD c i false) (omega arith) (low-bits w 1 (number w c) i (omega arith) ∙ number-bit w c i (omega arith) (omega arith))
-number-bit (suc w) (false ∷ c) (suc i) h l = subst (λ (x : ℕ). bit (suc w) x (suc i) ≡ getD c i false) (omega arith) (low-bits w 0 (number w c) i (omega arith) ∙ number-bit w c i (omega arith) (omega arith))
-
 module _ (T : Task) (n≤w : T .facts ≤ T .width) where
-  -- a list of n values is a state
-  state-of-number : (c : List Bool) → length c ≡ T .facts → stateOf (T .width) (T .facts) (number (T .width) c) ≡ c
+  -- a list of n values is a state: its number is in the case (k, v), whose facts have its values
+  numbered :
+      (c : List Bool) → length c ≡ T .facts → (d k v : ℕ) → k + d ≡ T .facts → Block (T .width) k v →
+      v + 2 ^ (T .width - k) ≤ 2 ^ T .width → ((i : ℕ) → i < k → bit (T .width) v i ≡ getD c i false) →
+      (s : ℕ) × IsState T s × (stateOf (T .width) (T .facts) s ≡ c)
   unfolding stateOf
-  state-of-number c e =
-      ext-getD false (tabulate (T .facts) _) c (length-tabulate (T .facts) _ ∙ sym e)
-      (λ i h.
-      let l : i < T .facts = rw (length-tabulate (T .facts) _) at h in
-      getD-tabulate (T .facts) (bit (T .width) (number (T .width) c)) i false l ∙ number-bit (T .width) c i (omega arith) (omega arith))
-
-  state-length : (s : ℕ) → length (stateOf (T .width) (T .facts) s) ≡ T .facts
-  unfolding stateOf
-  state-length s = length-tabulate (T .facts) _
-
-  starts : (c : List Bool) → initialBelief (T .facts) (T .initial) c → IsStart T (number (T .width) c)
-  unfolding initially
-  starts c b =
-      record {
-        state =
-            record {
-              in-width = number-lt (T .width) c;
-              no-bits = mod-of-block (T .width) (T .facts) _ (subst (λ (x : ℕ). Block (T .width) x (number (T .width) c)) (b .0) (number-block (T .width) c (omega arith)));
-            };
-        starts = rw (state-of-number c (b .0)) (b .1);
-      }
+  numbered c e zero k v f b h g =
+      let i : k ≡ T .facts = omega arith in (
+        v,
+        record { in-width = omega (arith, pow-pos (T .width - k)); no-bits = mod-of-block (T .width) (T .facts) v (rw i at b) },
+        ext-getD false (tabulate (T .facts) _) c (length-tabulate (T .facts) _ ∙ sym e) λ i l.
+            let l′ : i < T .facts = rw (length-tabulate (T .facts) _) at l in
+            getD-tabulate (T .facts) (bit (T .width) v) i false l′ ∙ g i (omega arith),
+      )
+  numbered c e (suc d) k v f b h g =
+      let x = getD c k false in
+      let (low, high) = part-in (T .width) k v (omega arith) b x in
+      numbered c e d (suc k) (part (T .width) k v x) (omega arith) (part-block (T .width) k v (omega arith) b x) (omega arith) λ i l.
+      elim (ℕ-discrete i k) [
+        | yes p ↦ rw p (part-bit (T .width) k v (omega arith) b x)
+        | no p ↦
+            agree (T .width) k v (part (T .width) k v x) i (omega arith) b low (omega (arith, pow-pos (T .width - suc k))) (omega arith) ∙
+            g i (omega arith)
+      ]
 
   pub solution-right : Solution (T .facts) (initialBelief (T .facts) (T .initial)) (T .goal) (T .plan) ↔ Right T
-  unfolding runOf initially
+  unfolding runOf initially stateOf
   solution-right = (
-    (λ h s st. solution-runs (T .facts) (T .goal) (T .plan) 0 (initialBelief (T .facts) (T .initial)) h (stateOf (T .width) (T .facts) s) (state-length s, st .starts)),
-    λ r. runs-solution (T .facts) (T .goal) (T .plan) 0 (initialBelief (T .facts) (T .initial)) λ c b. rw (state-of-number c (b .0)) at (r (number (T .width) c) (starts c b)),
+    (λ h s st.
+        solution-runs (T .facts) (T .goal) (T .plan) 0 (initialBelief (T .facts) (T .initial)) h (stateOf (T .width) (T .facts) s)
+        (length-tabulate (T .facts) _, st .starts)),
+    λ r.
+        runs-solution (T .facts) (T .goal) (T .plan) 0 (initialBelief (T .facts) (T .initial)) λ c b.
+        let root = root-span (T .width) in
+        let (s, st, e) = numbered c (b .0) (T .facts) 0 0 (omega arith) (root-block (T .width)) (omega arith) (λ i l. absurd (omega arith)) in
+        rw e at (r s (record { state = st; starts = rw e (b .1) })),
   )

@@ -1,18 +1,18 @@
 -- The walk as a tree of cases, and lists of lines as covers of all numbers: what is closed is covered, the walk's lines pass, and no
 -- list that passes has fewer. The width, the fact count and the look are parameters. Assumes nothing.
-use mathlib.Core.Path.{_≡_, refl, sym, ap, _∙_, subst}
-use mathlib.Core.Bool.{Bool, true, false, false≢true}
+use mathlib.Core.Path.{_≡_, refl, sym, ap, _∙_}
+use mathlib.Core.Bool.{true, false≢true}
 use mathlib.Core.List.{List, [], _∷_, _++_, append-assoc}
 use Prim.Native.Nat.{ℕ, zero, suc, _+_, _-_, _*_, _/_, _%_, _^_, _≤_, _<_, zero-le}
-use native.Mathlib.Nat.{div-add-mod', div-eq-of-lt-le, mul-le-mul-right, mul-assoc, pow-suc, mul-mod-left}
+use native.Mathlib.Nat.{div-add-mod', div-eq-of-lt-le, mul-le-mul-right, lt-of-mul-lt-mul-right, mul-assoc, pow-suc, mul-mod-left}
 use native.Mathlib.Omega.{arith}
 use native.Mathlib.Decide.{decLe, decLt}
 use lib.ListN.{length, length-append}
-use lib.Dec.{leb, eqb}
-use borrow.Author.Tests.{le-leb, lt-leb, leb-true, eq-eqb}
+use lib.Dec.{eqb}
+use borrow.Author.Tests.{eqb-true, eq-eqb}
 use lib.Pow.{pow-add, pow-pos, shr-shr}
 use Rattle.model.specs.Case.{bit}
-use Rattle.model.specs.Walk.{Kind, kindNumber, Look, closed, opened, Line, Walked, covered, failed, line, join, walkFrom, walk}
+use Rattle.model.specs.Walk.{Kind, empty, carries, kindNumber, Look, closed, opened, Line, Walked, covered, failed, line, join, walkFrom, walk}
 use Rattle.model.specs.CaseList.{claims}
 use Rattle.model.specs.WellFormed.{Each, LineHolds, Joined}
 
@@ -49,13 +49,6 @@ root-block w = record { q = 0; is = omega arith }
 pub root-span : (w : ℕ) → 2 ^ (w - 0) ≡ 2 ^ w
 root-span w = ap (λ (x : ℕ). 2 ^ x) (omega arith)
 
--- of two multiples of a
-pub below : (p q a : ℕ) → p * a < q * a + a → p ≤ q
-below p q a h = elim (decLe p q) [ yes l ↦ l | no g ↦ absurd (far (omega arith)) ]
-  where
-    far : q < p → ⊥
-    far l = omega (arith, mul-le-mul-right a l)
-
 -- the numbers from v on that a block covers agree with v in the first k facts
 pub agree : (w k v s i : ℕ) → k ≤ w → Block w k v → v ≤ s → s < v + 2 ^ (w - k) → i < k → bit w s i ≡ bit w v i
 unfolding bit
@@ -68,206 +61,171 @@ agree w k v s i l b h h′ j = ap (λ (x : ℕ). lib.Dec.eqb (x % 2) 1) (high s 
         let hi : t < (b .q + 1) * 2 ^ (w - k) = omega (arith, b .is) in
         rw (e, ← (shr-shr t (w - k) (k - suc i)), div-eq-of-lt-le {k = b .q} (2 ^ (w - k)) {m = t} lo hi)
 
-abbrev one-if : Bool → ℕ
-one-if true = 1
-one-if false = 0
+-- of two blocks of one size
+under : (w k v v′ : ℕ) → Block w k v → Block w k v′ → v′ < v + 2 ^ (w - k) → v′ ≤ v
+under w k v v′ b c h =
+    let x = lt-of-mul-lt-mul-right (2 ^ (w - k)) {m = c .q} {n = suc (b .q)} (omega (arith, b .is, c .is)) in
+    omega (arith, b .is, c .is, mul-le-mul-right (2 ^ (w - k)) x)
 
-one-if-le : (b : Bool) → one-if b ≤ 1
-one-if-le true = omega arith
-one-if-le false = omega arith
-
-later-le : (x y v : ℕ) → x ≤ y → one-if (leb y v) ≤ one-if (leb x v)
-later-le x y v h = by-cases (leb y v) refl
-  where
-    by-cases : (b : Bool) → leb y v ≡ b → one-if b ≤ one-if (leb x v)
-    by-cases true e = rw (le-leb x v (omega (arith, leb-true y v e))) (omega arith)
-    by-cases false e = zero-le
-
--- a block around the middle of another, that does not begin there, holds all of the other
-around : (w k v k′ v′ : ℕ) → k < w → k′ ≤ w → Block w k v → Block w k′ v′ → v′ < v + 2 ^ (w - suc k) → v + 2 ^ (w - suc k) < v′ + 2 ^ (w - k′) → (k′ ≤ k) × (v′ ≤ v)
-around w k v k′ v′ h h′ b b′ lo hi = elim (decLe k′ k) [ yes l ↦ (l, outer l) | no g ↦ absurd (inner (omega arith)) ]
-  where
-    inner : k < k′ → ⊥
-    inner l =
-        let m = rescale w (suc k) k′ _ l h′ (next-block w (suc k) v (rescale w k (suc k) v (omega arith) h b)) in
-        let x = below (m .q) (b′ .q) (2 ^ (w - k′)) (omega (arith, m .is, b′ .is)) in
-        omega (arith, m .is, b′ .is, mul-le-mul-right (2 ^ (w - k′)) x)
-
-    outer : k′ ≤ k → v′ ≤ v
-    outer l =
-        let c = rescale w k′ k v′ l (omega arith) b′ in
-        let x = below (c .q) (b .q) (2 ^ (w - k)) (omega (arith, c .is, b .is, pow-half w k h)) in
-        omega (arith, c .is, b .is, mul-le-mul-right (2 ^ (w - k)) x)
-
--- ---- a claim
-
-pub claims-own : (κ : Kind) → claims (kindNumber κ) (closed κ) ≡ true
-claims-own κ = eq-eqb (kindNumber κ) (kindNumber κ) refl
-
-pub claimed : (d : ℕ) (l : Look) → claims d l ≡ true → (κ : Kind) × (l ≡ closed κ)
-claimed d (closed κ) e = (κ, refl)
+-- what is claimed is of a kind
+pub claimed : (d : ℕ) (l : Look) → claims d l ≡ true → (κ : Kind) × (l ≡ closed κ) × (d ≤ 1)
+claimed d (closed empty) e = (empty, refl, omega (arith, eqb-true d 0 e))
+claimed d (closed carries) e = (carries, refl, omega (arith, eqb-true d 1 e))
 claimed d opened e = absurd (false≢true e)
 
-pub claims-open : (d : ℕ) (l : Look) → l ≡ opened → claims d l ≡ true → ⊥
-claims-open d l e c = let z : false ≡ true = sym (ap (claims d) e) ∙ c in false≢true z
+-- ---- lists of lines
 
--- ---- what the walk met, as a tree
-
-module _ (w : ℕ) (look : ℕ → ℕ → Look) where
-  pub data Closes : ℕ → ℕ → ℕ → List Line → ℕ → Type 0 where
-    leaf : {d k v : ℕ} {κ : Kind} → look k v ≡ closed κ → Closes d k v (line κ k v ∷ []) 1
-    node : {d k v a b : ℕ} {ls ms : List Line} → look k v ≡ opened → Closes d (suc k) v ls a → Closes d (suc k) (v + 2 ^ (w - suc k)) ms b
-        → Closes (suc d) k v (ls ++ ms) (suc (a + b))
-
-  pub data Fails : ℕ → ℕ → ℕ → ℕ → Type 0 where
-    here : {k v : ℕ} → look k v ≡ opened → Fails zero k v v
-    left : {d k v s : ℕ} → look k v ≡ opened → Fails d (suc k) v s → Fails (suc d) k v s
-    right : {d k v s a : ℕ} {ls : List Line} → look k v ≡ opened → Closes d (suc k) v ls a → Fails d (suc k) (v + 2 ^ (w - suc k)) s → Fails (suc d) k v s
-
-  abbrev pub Traced : ℕ → ℕ → ℕ → Walked → Type 0
-  Traced d k v (covered ls a) = Closes d k v ls a
-  Traced d k v (failed s a) = Fails d k v s
-
-  joined : (d k v : ℕ) → look k v ≡ opened → (r t : Walked) → Traced d (suc k) v r → Traced d (suc k) (v + 2 ^ (w - suc k)) t → Traced (suc d) k v (join r t)
-  joined d k v e (covered ls a) (covered ms b) x y = node e x y
-  joined d k v e (covered ls a) (failed s b) x y = right e x y
-  joined d k v e (failed s a) t x y = left e x
-
-  traced : (d : ℕ) (l : Look) (k v : ℕ) → look k v ≡ l → Traced d k v (walkFrom w look d l k v)
-  unfolding walkFrom
-  traced zero (closed κ) k v e = leaf e
-  traced zero opened k v e = here e
-  traced (suc d) (closed κ) k v e = leaf e
-  traced (suc d) opened k v e =
-      let m = v + 2 ^ (w - suc k) in
-      joined d k v e (walkFrom w look d (look (suc k) v) (suc k) v) (walkFrom w look d (look (suc k) m) (suc k) m) (traced d _ (suc k) v refl) (traced d _ (suc k) m refl)
-
-  pub walk-traced : (n : ℕ) → Traced n 0 0 (walk w look n)
-  unfolding walk
-  walk-traced n = traced n _ 0 0 refl
-
-  -- visits are twice the lines less one
-  pub closes-visits : {d k v a : ℕ} {ls : List Line} → Closes d k v ls a → suc a ≡ 2 * length ls
-  closes-visits (leaf e) = refl
-  closes-visits (node {ls} {ms} e x y) = rw (length-append ls ms) (omega (arith, closes-visits x, closes-visits y))
-
-  module _ (n : ℕ) (n≤w : n ≤ w) (Good : ℕ → Type 0)
-      (good : (k v s : ℕ) (κ : Kind) → k ≤ n → Block w k v → look k v ≡ closed κ → v ≤ s → s < v + 2 ^ (w - k) → Good s) where
-    pub closes-good : {d k v a : ℕ} {ls : List Line} → Closes d k v ls a → k + d ≡ n → Block w k v → (s : ℕ) → v ≤ s → s < v + 2 ^ (w - k) → Good s
-    closes-good {d} {k} {v} (leaf {κ} e) f b s l h = good k v s κ (omega arith) b e l h
-    closes-good (node {d} {k} {v} e x y) f b s l h =
-        elim (decLt s (v + 2 ^ (w - suc k))) [
-          | yes g ↦ closes-good x (omega arith) (rescale w k (suc k) v (omega arith) (omega arith) b) s l g
-          | no g ↦ closes-good y (omega arith) (next-block w (suc k) v (rescale w k (suc k) v (omega arith) (omega arith) b)) s (omega arith) (omega (arith, pow-half w k (omega arith)))
-        ]
-
-    pub record FailsAt (k v s : ℕ) : Type 0 where
-      pub is-open : look n s ≡ opened
-      pub block : Block w n s
-      pub low : v ≤ s
-      pub high : s < v + 2 ^ (w - k)
-      pub before : (t : ℕ) → v ≤ t → t < s → Good t
-
-    pub fails-at : {d k v s : ℕ} → Fails d k v s → k + d ≡ n → Block w k v → FailsAt k v s
-    fails-at (here {k} {v} e) f b =
-        let k≡n : k ≡ n = omega arith in
-        record { is-open = subst (λ (x : ℕ). look x v ≡ opened) k≡n e; block = subst (λ (x : ℕ). Block w x v) k≡n b; low = omega arith; high = omega (arith, pow-pos (w - k)); before = λ t l h. absurd (omega arith) }
-    fails-at (left {d} {k} {v} {s} e x) f b =
-        let r = fails-at x (omega arith) (rescale w k (suc k) v (omega arith) (omega arith) b) in
-        record { is-open = r .is-open; block = r .block; low = r .low; high = omega (arith, r .high, pow-half w k (omega arith)); before = r .before }
-    fails-at (right {d} {k} {v} {s} e x y) f b =
-        let c = rescale w k (suc k) v (omega arith) (omega arith) b in
-        let r = fails-at y (omega arith) (next-block w (suc k) v c) in
-        record {
-          is-open = r .is-open;
-          block = r .block;
-          low = omega (arith, r .low);
-          high = omega (arith, r .high, pow-half w k (omega arith));
-          before = λ t l h. elim (decLt t (v + 2 ^ (w - suc k))) [ yes g ↦ closes-good x (omega arith) c t l g | no g ↦ r .before t (omega arith) h ];
-        }
-
-  -- ---- lists of lines
-
+module _ (w : ℕ) (look : ℕ → ℕ → Look) (n : ℕ) where
   -- the lines follow one another from x to the end, and each holds
-  abbrev pub Follows : ℕ → List Line → ℕ → Type 0
-  Follows n ls x = Joined w ls x × Each (LineHolds w look n) ls
+  abbrev pub Follows : List Line → ℕ → Type 0
+  Follows ls x = Joined w ls x × Each (LineHolds w look n) ls
 
-  module _ (n : ℕ) where
-    pub data Hit (s : ℕ) : List Line → Type 0 where
-      hit : {l : Line} {ls : List Line} → l .k ≤ n → Block w (l .k) (l .value) → claims (l .kind) (look (l .k) (l .value)) ≡ true → l .value ≤ s → s < l .value + 2 ^ (w - l .k) → Hit s (l ∷ ls)
-      later : {l : Line} {ls : List Line} → Hit s ls → Hit s (l ∷ ls)
+  -- how many lines begin at x or later, and that one begins at x
+  abbrev pub from : ℕ → List Line → ℕ
+  from x [] = 0
+  from x (l ∷ ls) = (1 - (x - l .value)) + from x ls
 
-    -- each number from x on is covered
-    pub each-hit : (ls : List Line) (x : ℕ) → Follows n ls x → (s : ℕ) → x ≤ s → s < 2 ^ w → Hit s ls
-    each-hit [] x f s l h = absurd (omega arith)
-    each-hit (m ∷ ls) x f s l h =
-        elim (decLt s (x + 2 ^ (w - m .k))) [
-          | yes g ↦ hit (f .1 .0 .k-fits) (block-of-mod w _ _ (f .1 .0 .no-bits)) (f .1 .0 .claim) (omega arith) (omega arith)
-          | no g ↦ later (each-hit ls (x + 2 ^ (w - m .k)) (f .0 .1, f .1 .1) s (omega arith) h)
-        ]
+  abbrev pub Starts : ℕ → List Line → Type 0
+  Starts x ls = from (suc x) ls < from x ls
+
+  from-le : (x y : ℕ) → x ≤ y → (ls : List Line) → from y ls ≤ from x ls
+  from-le x y h [] = omega arith
+  from-le x y h (l ∷ ls) = omega (arith, from-le x y h ls)
+
+  from-length : (ls : List Line) → from 0 ls ≤ length ls
+  from-length [] = zero-le
+  from-length (l ∷ ls) = omega (arith, from-length ls)
+
+  -- each number from x on is covered by a line
+  pub covering :
+      {C : Type 0} (ls : List Line) (x : ℕ) → Follows ls x → (s : ℕ) → x ≤ s → s < 2 ^ w →
+      ((k v : ℕ) (κ : Kind) → Starts v ls → k ≤ n → Block w k v → look k v ≡ closed κ → v ≤ s → s < v + 2 ^ (w - k) → C) → C
+  covering [] x f s l h c = absurd (omega arith)
+  covering (m ∷ ls) x f s l h c =
+      elim (decLt s (x + 2 ^ (w - m .k))) [
+        | yes g ↦
+            let (κ, e, _) = claimed (m .kind) (look (m .k) (m .value)) (f .1 .0 .claim) in
+            let b = block-of-mod w (m .k) (m .value) (f .1 .0 .no-bits) in
+            let st : Starts (m .value) (m ∷ ls) = omega (arith, from-le (m .value) (suc (m .value)) (omega arith) ls) in
+            c (m .k) (m .value) κ st (f .1 .0 .k-fits) b e (omega arith) (omega arith)
+        | no g ↦ covering ls (x + 2 ^ (w - m .k)) (f .0 .1, f .1 .1) s (omega arith) h (λ k v κ st. c k v κ (omega (arith, st)))
+      ]
+
+  -- ---- what the walk met, as a tree
+
+  pub data Closes : ℕ → ℕ → List Line → ℕ → Type 0 where
+    leaf : {k v : ℕ} {κ : Kind} → k ≤ n → Block w k v → look k v ≡ closed κ → Closes k v (line κ k v ∷ []) 1
+    node : {k v a b : ℕ} {ls ms : List Line} → k < n → Block w k v → look k v ≡ opened → Closes (suc k) v ls a
+        → Closes (suc k) (v + 2 ^ (w - suc k)) ms b → Closes k v (ls ++ ms) (suc (a + b))
+
+  pub data Fails : ℕ → ℕ → ℕ → Type 0 where
+    here : {k v : ℕ} → k ≡ n → Block w k v → v < 2 ^ w → look k v ≡ opened → Fails k v v
+    left : {k v s : ℕ} → Fails (suc k) v s → Fails k v s
+    right : {k v s a : ℕ} {ls : List Line} → Closes (suc k) v ls a → Fails (suc k) (v + 2 ^ (w - suc k)) s → Fails k v s
+
+  abbrev pub Traced : ℕ → ℕ → Walked → Type 0
+  Traced k v (covered ls a) = Closes k v ls a
+  Traced k v (failed s a) = Fails k v s
+
+  joined :
+      (k v : ℕ) → k < n → Block w k v → look k v ≡ opened → (r t : Walked) → Traced (suc k) v r →
+      Traced (suc k) (v + 2 ^ (w - suc k)) t → Traced k v (join r t)
+  joined k v h b e (covered ls a) (covered ms c) x y = node h b e x y
+  joined k v h b e (covered ls a) (failed s c) x y = right x y
+  joined k v h b e (failed s a) t x y = left x
+
+  module _ (n≤w : n ≤ w) where
+    traced :
+        (d : ℕ) (l : Look) (k v : ℕ) → k + d ≡ n → Block w k v → v + 2 ^ (w - k) ≤ 2 ^ w → look k v ≡ l →
+        Traced k v (walkFrom w look d l k v)
+    unfolding walkFrom
+    traced zero (closed κ) k v f b h e = leaf {k = k} (omega arith) b e
+    traced zero opened k v f b h e = here {k = k} (omega arith) b (omega (arith, pow-pos (w - k))) e
+    traced (suc d) (closed κ) k v f b h e = leaf {k = k} (omega arith) b e
+    traced (suc d) opened k v f b h e =
+        let m = v + 2 ^ (w - suc k) in
+        let c = rescale w k (suc k) v (omega arith) (omega arith) b in
+        let p = pow-half w k (omega arith) in
+        joined k v (omega arith) b e (walkFrom w look d (look (suc k) v) (suc k) v) (walkFrom w look d (look (suc k) m) (suc k) m)
+        (traced d _ (suc k) v (omega arith) c (omega arith) refl)
+        (traced d _ (suc k) m (omega arith) (next-block w (suc k) v c) (omega arith) refl)
+
+    pub walk-traced : Traced 0 0 (walk w look n)
+    unfolding walk
+    walk-traced = traced n _ 0 0 (omega arith) (root-block w) (omega (arith, root-span w)) refl
+
+    -- visits are twice the lines less one
+    pub closes-visits : {k v a : ℕ} {ls : List Line} → Closes k v ls a → suc a ≡ 2 * length ls
+    closes-visits (leaf h b e) = refl
+    closes-visits (node {ls} {ms} h b e x y) = rw (length-append ls ms) (omega (arith, closes-visits x, closes-visits y))
 
     -- the walk's lines pass
-    pub closes-follows : n ≤ w → {d k v a : ℕ} {ls : List Line} → Closes d k v ls a → k + d ≡ n → Block w k v → (rest : List Line) → Follows n rest (v + 2 ^ (w - k))
-        → Follows n (ls ++ rest) v
-    closes-follows nw {d} {k} {v} (leaf {κ} e) f b rest g = ((refl, g .0), (record { k-fits = omega arith; no-bits = mod-of-block w k v b; claim = ap (claims (kindNumber κ)) e ∙ claims-own κ }, g .1))
-    closes-follows nw (node {d} {k} {v} {ls} {ms} e x y) f b rest g =
-        let c = rescale w k (suc k) v (omega arith) (omega arith) b in
-        rw (append-assoc ls ms rest)
-        (closes-follows nw x (omega arith) c (ms ++ rest)
-        (closes-follows nw y (omega arith) (next-block w (suc k) v c) rest (subst (Follows n rest) (omega (arith, pow-half w k (omega arith))) g)))
+    pub closes-follows :
+        {k v a : ℕ} {ls : List Line} → Closes k v ls a → (rest : List Line) → Follows rest (v + 2 ^ (w - k)) → Follows (ls ++ rest) v
+    closes-follows (leaf {k} {v} {κ} h b e) rest g =
+        let l : LineHolds w look n (line κ k v) =
+        record { k-fits = h; no-bits = mod-of-block w k v b; claim = rw e (eq-eqb (kindNumber κ) (kindNumber κ) refl) }
+        in
+        ((refl, g .0), (l, g .1))
+    closes-follows (node {k} {v} {ls} {ms} h b e x y) rest g =
+        let i : v + 2 ^ (w - k) ≡ v + 2 ^ (w - suc k) + 2 ^ (w - suc k) = omega (arith, pow-half w k (omega arith)) in
+        rw (append-assoc ls ms rest) (closes-follows x (ms ++ rest) (closes-follows y rest (rw i at g)))
 
-    -- how many lines begin at x or later
-    abbrev from : ℕ → List Line → ℕ
-    from x [] = 0
-    from x (l ∷ ls) = one-if (leb x (l .value)) + from x ls
+    module _ (Good : ℕ → Type 0)
+        (good : (k v s : ℕ) (κ : Kind) → k ≤ n → Block w k v → look k v ≡ closed κ → v ≤ s → s < v + 2 ^ (w - k) → Good s) where
+      closes-good : {k v a : ℕ} {ls : List Line} → Closes k v ls a → (s : ℕ) → v ≤ s → s < v + 2 ^ (w - k) → Good s
+      closes-good (leaf {k} {v} {κ} h b e) s l g = good k v s κ h b e l g
+      closes-good (node {k} {v} h b e x y) s l g =
+          elim (decLt s (v + 2 ^ (w - suc k))) [
+            | yes p ↦ closes-good x s l p
+            | no p ↦ closes-good y s (omega arith) (omega (arith, pow-half w k (omega arith)))
+          ]
 
-    from-le : (x y : ℕ) → x ≤ y → (ls : List Line) → from y ls ≤ from x ls
-    from-le x y h [] = omega arith
-    from-le x y h (l ∷ ls) = omega (arith, from-le x y h ls, later-le x y (l .value) h)
+      pub fails-at :
+          {k v s : ℕ} → Fails k v s → ((t : ℕ) → t < v → Good t) →
+          (look n s ≡ opened) × Block w n s × (s < 2 ^ w) × ((t : ℕ) → t < s → Good t)
+      fails-at (here i b h e) g = (rw i at e, rw i at b, h, g)
+      fails-at (left x) g = fails-at x g
+      fails-at (right {k} {v} x y) g =
+          fails-at y λ t l. elim (decLt t v) [ yes p ↦ g t p | no p ↦ closes-good x t (omega arith) l ]
 
-    from-length : (ls : List Line) → from 0 ls ≤ length ls
-    from-length [] = zero-le
-    from-length (l ∷ ls) = omega (arith, from-length ls, one-if-le (leb 0 (l .value)))
-
-    data Starts (x : ℕ) : List Line → Type 0 where
-      first : {l : Line} {ls : List Line} → l .value ≡ x → Starts x (l ∷ ls)
-      later : {l : Line} {ls : List Line} → Starts x ls → Starts x (l ∷ ls)
-
-    from-starts : (x y : ℕ) → x < y → {ls : List Line} → Starts x ls → suc (from y ls) ≤ from x ls
-    from-starts x y h (first {l} {ls} e) = omega (arith, from-le x y (omega arith) ls, ap one-if (le-leb x (l .value) (omega arith)), ap one-if (lt-leb y (l .value) (omega arith)))
-    from-starts x y h (later {l} {ls} t) = omega (arith, from-starts x y h t, later-le x y (l .value) (omega arith))
-
-    begins-at-0 : (ls : List Line) → Follows n ls 0 → Starts 0 ls
+    begins-at-0 : (ls : List Line) → Follows ls 0 → Starts 0 ls
     begins-at-0 [] f = absurd (omega (arith, pow-pos w))
-    begins-at-0 (l ∷ ls) f = first (f .0 .0)
+    begins-at-0 (l ∷ ls) f = omega (arith, f .0 .0, from-le 0 1 (omega arith) ls)
 
-    module _ (n≤w : n ≤ w) (mono : (k v k′ v′ : ℕ) → k ≤ k′ → k′ ≤ n → Block w k v → v ≤ v′ → v′ < v + 2 ^ (w - k) → look k′ v′ ≡ opened → look k v ≡ opened) where
-      -- a line that covers the middle of an open case initially there
-      mid-starts : (k v : ℕ) → k < n → Block w k v → look k v ≡ opened → (ls : List Line) → Hit (v + 2 ^ (w - suc k)) ls → Starts (v + 2 ^ (w - suc k)) ls
-      mid-starts k v kn b e ls (later h) = later (mid-starts k v kn b e _ h)
-      mid-starts k v kn b e ls (hit {l} lk lb le lo hi) =
-          elim (decLt (l .value) (v + 2 ^ (w - suc k))) [
+    module _ (all : List Line) (fol : Follows all 0)
+        (shut : (k v k′ v′ : ℕ) (κ : Kind) → k ≤ k′ → k′ ≤ n → Block w k v → v ≤ v′ → v′ < v + 2 ^ (w - k) →
+        look k v ≡ closed κ → look k′ v′ ≡ opened → ⊥) where
+      -- a line that covers the middle of an open case begins there
+      mid-starts :
+          (k v : ℕ) → k < n → Block w k v → look k v ≡ opened → v + 2 ^ (w - suc k) < 2 ^ w → Starts (v + 2 ^ (w - suc k)) all
+      mid-starts k v kn b e h =
+          covering all 0 fol (v + 2 ^ (w - suc k)) zero-le h λ k′ v′ κ st k′n b′ e′ lo hi.
+          elim (decLt v′ (v + 2 ^ (w - suc k))) [
             | yes g ↦
-                let p = around w k v (l .k) (l .value) (omega arith) (omega arith) b lb g hi in
-                let e′ = mono (l .k) (l .value) k v (p .0) (omega arith) lb (p .1) (omega arith) e in
-                absurd (claims-open (l .kind) _ e′ le)
-            | no g ↦ first {l = l} (omega arith)
+                -- a block around the middle holds all of the case
+                elim (decLe k′ k) [
+                  | yes l ↦
+                      let u = under w k v v′ b (rescale w k′ k v′ l (omega arith) b′) (omega (arith, pow-half w k (omega arith))) in
+                      absurd (shut k′ v′ k v κ l (omega arith) b′ u (omega arith) e′ e)
+                  | no l ↦
+                      let m = next-block w (suc k) v (rescale w k (suc k) v (omega arith) (omega arith) b) in
+                      absurd (omega (arith, under w k′ v′ _ b′ (rescale w (suc k) k′ _ (omega arith) (omega arith) m) hi))
+                ]
+            | no g ↦ let i : v′ ≡ v + 2 ^ (w - suc k) = omega arith in rw i at st
           ]
 
       -- no list has fewer lines
-      least : (all : List Line) → ((s : ℕ) → s < 2 ^ w → Hit s all) → {d k v a : ℕ} {ls : List Line} → Closes d k v ls a → k + d ≡ n → Block w k v → v + 2 ^ (w - k) ≤ 2 ^ w
-          → Starts v all → length ls + from (v + 2 ^ (w - k)) all ≤ from v all
-      least all cov {d} {k} {v} (leaf e) f b h st = omega (arith, from-starts v (v + 2 ^ (w - k)) (omega (arith, pow-pos (w - k))) st)
-      least all cov (node {d} {k} {v} {ls} {ms} e x y) f b h st =
-          let c = rescale w k (suc k) v (omega arith) (omega arith) b in
+      least :
+          {k v a : ℕ} {ls : List Line} → Closes k v ls a → v + 2 ^ (w - k) ≤ 2 ^ w → Starts v all →
+          length ls + from (v + 2 ^ (w - k)) all ≤ from v all
+      least (leaf {k} {v} _ b e) h st = omega (arith, from-le (suc v) (v + 2 ^ (w - k)) (omega (arith, pow-pos (w - k))) all)
+      least (node {k} {v} {ls} {ms} kn b e x y) h st =
           let p = pow-half w k (omega arith) in
-          let m = v + 2 ^ (w - suc k) in
-          let l1 = least all cov x (omega arith) c (omega arith) st in
-          let st′ = mid-starts k v (omega arith) b e all (cov m (omega (arith, pow-pos (w - suc k)))) in
-          let l2 = least all cov y (omega arith) (next-block w (suc k) v c) (omega arith) st′ in
-          let q : v + 2 ^ (w - k) ≡ (v + 2 ^ (w - suc k)) + 2 ^ (w - suc k) = omega (arith, p) in
+          let l1 = least x (omega arith) st in
+          let l2 = least y (omega arith) (mid-starts k v kn b e (omega (arith, pow-pos (w - suc k)))) in
+          let q : v + 2 ^ (w - k) ≡ (v + 2 ^ (w - suc k)) + 2 ^ (w - suc k) = omega arith in
           rw (length-append ls ms, q) (omega (arith, l1, l2))
 
-      -- whole
-      pub fewest : (all : List Line) → Follows n all 0 → {a : ℕ} {ls : List Line} → Closes n 0 0 ls a → length ls ≤ length all
-      fewest all fol {a} {ls} x = omega (arith, least all (λ s h. each-hit all 0 fol s zero-le h) x (omega arith) (root-block w) (omega (arith, root-span w)) (begins-at-0 all fol), from-length all)
+      pub fewest : {a : ℕ} {ls : List Line} → Closes 0 0 ls a → length ls ≤ length all
+      fewest x = omega (arith, least x (omega (arith, root-span w)) (begins-at-0 all fol), from-length all)

@@ -1,16 +1,16 @@
 -- Following a list: it is answered exactly where its lines hold, one after the other, over all numbers. Assumes nothing.
 use mathlib.Core.Path.{_≡_, refl, ap, _∙_}
-use mathlib.Core.Bool.{Bool, true, false, not, false≢true}
+use mathlib.Core.Bool.{Bool, true, false, not}
 use mathlib.Core.List.{List, [], _∷_}
-use Prim.Native.Nat.{ℕ, zero, suc, _+_, _-_, _%_, _^_, _≤_}
+use Prim.Native.Nat.{ℕ, zero, suc, _+_, _-_, _%_, _^_}
 use native.Mathlib.Omega.{arith}
 use lib.ListN.{length}
 use borrow.Author.Tests.{ltb-false, le-ltb, eqb-true, eq-eqb, not-false}
 use Rattle.model.specs.Answer.{Answer, answered}
-use Rattle.model.specs.Walk.{Kind, empty, carries, kindNumber, Look, closed, opened, Line}
-use Rattle.model.specs.CaseList.{claims, first, refuseAt, ends, fault, follow}
+use Rattle.model.specs.Walk.{Look, Line}
+use Rattle.model.specs.CaseList.{first, refuseAt, ends, fault, follow}
 use Rattle.model.specs.WellFormed.{LineHolds}
-use Rattle.model.proofs.Laws.Cover.{Follows}
+use Rattle.model.proofs.Laws.Cover.{claimed, Follows}
 
 first-zero : (b : Bool) (c r : ℕ) → first b (suc c) r ≡ 0 → (b ≡ false) × (r ≡ 0)
 unfolding first
@@ -27,33 +27,12 @@ unfolding ends
 ends-answered true i m e = (refl, cc)
 ends-answered false i m e = (cc, cc)
 
-kind-le : (κ : Kind) → kindNumber κ ≤ 1
-kind-le empty = omega arith
-kind-le carries = omega arith
-
--- what is claimed is of a kind
-pub claimed-le : (d : ℕ) (l : Look) → claims d l ≡ true → d ≤ 1
-claimed-le d (closed κ) e = rw (eqb-true d (kindNumber κ) e) (kind-le κ)
-claimed-le d opened e = absurd (false≢true e)
-
 module _ (w : ℕ) (look : ℕ → ℕ → Look) (n : ℕ) where
-  fault-none : (l : Line) (x : ℕ) → fault w look n l x ≡ 0 → (l .value ≡ x) × LineHolds w look n l
-  unfolding fault
-  fault-none l x e =
-      let a = first-zero _ 64 _ e in
-      let b = first-zero _ 65 _ (a .1) in
-      let c = first-zero _ 66 _ (b .1) in
-      let d = first-zero _ 67 _ (c .1) in
-      let f = first-zero _ 68 _ (d .1) in (
-        eqb-true _ _ (not-false _ (d .0)),
-        record { k-fits = ltb-false _ _ (b .0); no-bits = eqb-true _ _ (not-false _ (c .0)); claim = not-false _ (f .0) },
-      )
-
   fault-ok : (l : Line) (x : ℕ) → l .value ≡ x → LineHolds w look n l → fault w look n l x ≡ 0
   unfolding fault first
   fault-ok l x e f =
       rw (
-        le-ltb 1 (l .kind) (claimed-le (l .kind) (look (l .k) (l .value)) (f .claim)),
+        le-ltb 1 (l .kind) (claimed (l .kind) (look (l .k) (l .value)) (f .claim) .2),
         le-ltb n (l .k) (f .k-fits),
         eq-eqb (l .value % 2 ^ (w - l .k)) 0 (f .no-bits),
         eq-eqb (l .value) x e,
@@ -63,13 +42,20 @@ module _ (w : ℕ) (look : ℕ → ℕ → Look) (n : ℕ) where
   -- a list that is followed to its end, from line i and number x on
   pub follow-passes :
       (ls : List Line) (i x m : ℕ) → follow w look n ls i x ≡ answered m → Follows w look n ls x × (m ≡ i + length ls)
-  unfolding follow
-  follow-passes [] i x m e = let a = ends-answered _ i m e in ((eqb-true x (2 ^ w) (a .0), tt), omega (arith, a .1))
+  unfolding follow fault
+  follow-passes [] i x m e = let (b, c) = ends-answered _ i m e in ((eqb-true x (2 ^ w) b, tt), omega arith)
   follow-passes (l ∷ ls) i x m e =
-      let a = refuse-at-answered (fault w look n l x) i m _ e in
-      let b = follow-passes ls (suc i) (x + 2 ^ (w - l .k)) m (a .1) in
-      let h = fault-none l x (a .0) in
-      (((h .0, b .0 .0), (h .1, b .0 .1)), omega (arith, b .1))
+      let (none, r) = refuse-at-answered (fault w look n l x) i m _ e in
+      let (p, c) = follow-passes ls (suc i) (x + 2 ^ (w - l .k)) m r in
+      let (_, e₁) = first-zero _ 64 _ none in
+      let (k, e₂) = first-zero _ 65 _ e₁ in
+      let (v, e₃) = first-zero _ 66 _ e₂ in
+      let (b, e₄) = first-zero _ 67 _ e₃ in
+      let (h, _) = first-zero _ 68 _ e₄ in
+      let line : LineHolds w look n l =
+      record { k-fits = ltb-false _ _ k; no-bits = eqb-true _ _ (not-false _ v); claim = not-false _ h }
+      in
+      (((eqb-true _ _ (not-false _ b), p .0), (line, p .1)), omega arith)
 
   pub passes-follow : (ls : List Line) (i x : ℕ) → Follows w look n ls x → follow w look n ls i x ≡ answered (i + length ls)
   unfolding follow refuseAt ends

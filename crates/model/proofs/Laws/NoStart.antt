@@ -1,5 +1,5 @@
 -- A problem whose initial formula is the empty "any": the walk closes at once, whatever the plan. Assumes nothing.
-use mathlib.Core.Path.{_≡_, refl, ap, _∙_}
+use mathlib.Core.Path.{_≡_, refl, ap}
 use mathlib.Core.List.{List, [], _∷_, _++_}
 use Prim.Native.Nat.{ℕ, zero, suc, _≤_}
 use native.Mathlib.Omega.{arith}
@@ -10,10 +10,10 @@ use Rattle.model.specs.Answer as Answer
 use Rattle.model.specs.Answer.{answered}
 use Rattle.model.specs.Formula.{any, none, eval}
 use Rattle.model.specs.Case.{Task}
-use Rattle.model.specs.Walk.{Kind, empty, Look, closed, Line, line, covered, right, visits, walkFrom, walk, lookAt, walked, judged}
+use Rattle.model.specs.Walk.{Kind, empty, Look, closed, Line, line, covered, right, visits, walkFrom, walk, lookAt, walked}
 use Rattle.model.specs.ProblemBytes.{Problem, problemOf, planOf}
 use Rattle.model.specs.ListBytes.{encodeList}
-use Rattle.model.specs.Operations.{readPlan, taskOf, readTask, lineCount, judge, listBytes, linesFor, written, writeList}
+use Rattle.model.specs.Operations.{readPlan, taskOf, readTask, judge, listBytes, linesFor, written, writeList}
 use Rattle.model.proofs.Laws.Tasks.{answer-then, task-fits, judge-is, list-for-is}
 use Rattle.model.proofs.Laws.Judging.{judged-in}
 
@@ -28,33 +28,24 @@ walk-closed w look (suc d) κ k v = refl
 abbrev only : List Line
 only = line empty 0 0 ∷ []
 
-module _ (T : Task) (n≤w : T .facts ≤ T .width) (empty-any : T .initial ≡ any none) where
-  walks-once : walked T ≡ covered only 1
-  unfolding eval lookAt walk walked
-  walks-once = rw empty-any (walk-closed (T .width) _ (T .facts) empty 0 0)
-
-  judged-right : (g : ℕ) → 1 ≤ g → judged T g ≡ right only 1
-  judged-right g h = judged-in T n≤w g (covered only 1) walks-once (omega (arith, ap visits walks-once))
+walks-once : (T : Task) → T .initial ≡ any none → walked T ≡ covered only 1
+unfolding eval lookAt walk walked
+walks-once T empty-any = rw empty-any (walk-closed (T .width) _ (T .facts) empty 0 0)
 
 module _ (F : Limits) (f≤w : F .facts ≤ F .width) (problem : List ℕ) {p : Problem} (reads : problemOf F problem ≡ answered p) where
-  -- where a plan is read, so is the task
-  task-read :
-      (plan : List ℕ) (m : ℕ) → readPlan F problem plan ≡ answered m →
-      (steps : List ℕ) × (readTask F problem plan ≡ answered (taskOf F p steps))
-  unfolding readPlan readTask Answer._>>=_
-  task-read plan m h = answer-then {x = planOf plan (length (p .actions))} (rw reads at h) λ steps e h₁. (steps, rw (reads, e))
-
   pub no-start :
       p .initial ≡ any none → 1 ≤ F .lines → (plan : List ℕ) (m : ℕ) → readPlan F problem plan ≡ answered m → (g : ℕ) → 1 ≤ g →
       (judge F problem plan g ≡ answered (right 1 1)) ×
       ((out : List ℕ) → listBytes F 1 ≤ length out →
       writeList F problem plan g out ≡ record { answer = answered (listBytes F 1); buffer = encodeList F only ++ drop (listBytes F 1) out })
-  unfolding taskOf linesFor written writeList
+  unfolding readPlan readTask Answer._>>=_ taskOf linesFor written writeList
   no-start empty-any few plan m read g one =
-      let (steps, given) = task-read plan m read in
+      answer-then {x = planOf plan (length (p .actions))} (rw reads at read) λ steps e _.
       let T = taskOf F p steps in
+      let given : readTask F problem plan ≡ answered T = rw (reads, e) in
       let f = task-fits F problem plan T given in
-      let j = judged-right T (omega (arith, f .facts, f .width)) empty-any g one in (
-        judge-is F problem plan T given g ∙ ap (λ v. answered (lineCount v)) j,
+      let c = walks-once T empty-any in
+      let j = judged-in T (omega (arith, f .facts, f .width)) g (covered only 1) c (omega (arith, ap visits c)) in (
+        rw (judge-is F problem plan T given g, j),
         λ out room. rw (list-for-is F problem plan T given g (length out), j, le-ltb (F .lines) 1 few, le-ltb (length out) (listBytes F 1) room),
       )

@@ -7,52 +7,40 @@ use lib.ListN.{length, getD}
 use borrow.Author.Tests.{ltb-true, leb-true, lt-ltb, le-leb}
 use Rattle.model.specs.declared.Limits.{Limits}
 use Rattle.model.specs.Limits.{maxActions, maxSteps, maxProblemBytes}
+use Rattle.model.specs.Answer.{answered}
 use Rattle.model.specs.Action.{Effect, Action}
-use Rattle.model.specs.Read.{got, andThen, _>>=_, _>>_, done, position, require, counted}
+use Rattle.model.specs.Read.{got, andThen, _>>=_, _>>_, done, position, require, counted, answerOf}
 use Rattle.model.specs.FormulaBytes.{literalByte, encodeFormula}
-use Rattle.model.specs.ProblemBytes.{Problem, effect, effects, effectList, action, actions, ending, parts, body, problem, steps, plan, effectsBytes, actionBytes, actionsBytes, encodeProblem, encodePlan}
+use Rattle.model.specs.ProblemBytes.{Problem, effect, effects, effectList, action, actions, ending, parts, body, problem, problemOf, steps, plan, planOf, effectsBytes, actionBytes, actionsBytes, encodeProblem, encodePlan}
 use Rattle.model.specs.WellFormed.{Bytes, Each, Declared, FormulaOk, EffectsOk, ActionOk, ProblemOk, PlanOk, Sensible}
 use Rattle.model.specs.Stands.{Span, nothing, next}
-use Rattle.model.proofs.Laws.Reading.{then-got, needed, empty, first, join, split, carried, span-length, span-end, byte-got, byte-ok, length-block, header-got, header-ok, count-got, count-ok}
-use Rattle.model.proofs.Laws.FormulaCodec.{literal-got, literal-ok, formula-got, formula-ok}
+use Rattle.model.proofs.Laws.Reading.{Gives, gives, reads, ends, tests, empty, first, join, split, span-length, span-end, byte-gives, byte-ok, length-block, header-gives, header-ok, count-gives, count-ok}
+use Rattle.model.proofs.Laws.FormulaCodec.{literal-got, literal-ok, formula-gives, formula-ok}
 
 module _ (s : List ℕ) (facts : ℕ) (most : facts ≤ 64) where
-  pub effect-got :
-      (least p : ℕ) (e : Effect) (q : ℕ) → Bytes s → effect s facts least p ≡ got e q →
+  effect-gives :
+      Bytes s → (least p : ℕ) →
+      Gives (effect s facts least p) λ e q.
       Declared facts (e .literal) × (least ≤ literalByte (e .literal)) × FormulaOk facts (e .condition) ×
       Span s (length s) p (literalByte (e .literal) ∷ encodeFormula (e .condition)) q
   unfolding effect _>>=_ _>>_ andThen position done
-  effect-got least p e q sound h =
-      then-got h λ b m h₁ h₂.
-      needed _ _ _ _ _ h₂ λ t h₃.
-      needed _ _ _ _ _ h₃ λ u h₄.
-      then-got h₄ λ f o h₅ h₆.
+  effect-gives sound least p =
+      reads (byte-gives 14 p) λ b m r.
+      tests _ _ _ _ _ λ t.
+      tests _ _ _ _ _ λ u.
+      reads (formula-gives s facts most sound m) λ f o (k, v).
       let (d, i) = literal-got facts most b t in
-      let (k, v) = formula-got s facts most m f o sound h₅ in
-      let r : Span s (length s) p (b ∷ []) m = byte-got 14 h₁ in
-      carried
-      (
-      λ e q.
-      Declared facts (e .literal) × (least ≤ literalByte (e .literal)) × FormulaOk facts (e .condition) ×
-      Span s (length s) p (literalByte (e .literal) ∷ encodeFormula (e .condition)) q
-      )
-      h₆
-      (d, rw i (leb-true least b u), k, rw i (join r v))
+      gives (d, rw i (leb-true least b u), k, rw i (join r v))
 
-  pub effects-got :
-      (n least p : ℕ) (es : List Effect) (q : ℕ) → Bytes s → effects s facts n least p ≡ got es q →
-      EffectsOk facts least es × Span s (length s) p (effectsBytes es) q × (length es ≡ n)
+  effects-give :
+      Bytes s → (n least p : ℕ) →
+      Gives (effects s facts n least p) (λ es q. EffectsOk facts least es × Span s (length s) p (effectsBytes es) q × (length es ≡ n))
   unfolding effects _>>=_ andThen done effectsBytes
-  effects-got zero least p es q sound h =
-      carried (λ es q. EffectsOk facts least es × Span s (length s) p (effectsBytes es) q × (length es ≡ 0)) h
-      (tt, nothing refl, refl)
-  effects-got (suc n) least p es q sound h =
-      then-got h λ e m h₁ h₂.
-      then-got h₂ λ rest o h₃ h₄.
-      let (a, b, c, r) = effect-got least p e m sound h₁ in
-      let (d, v, i) = effects-got n (literalByte (e .literal) + 1) m rest o sound h₃ in
-      carried (λ es q. EffectsOk facts least es × Span s (length s) p (effectsBytes es) q × (length es ≡ suc n)) h₄
-      ((a, b, c, d), join r v, ap suc i)
+  effects-give sound zero least p = gives (tt, nothing refl, refl)
+  effects-give sound (suc n) least p =
+      reads (effect-gives sound least p) λ e m (a, b, c, r).
+      reads (effects-give sound n (literalByte (e .literal) + 1) m) λ rest o (d, v, i).
+      gives ((a, b, c, d), join r v, ap suc i)
 
   pub effects-ok :
       (es : List Effect) (least p q : ℕ) → EffectsOk facts least es →
@@ -73,20 +61,21 @@ module _ (s : List ℕ) (facts : ℕ) (most : facts ≤ 64) where
       )
 
 module _ (F : Limits) (s : List ℕ) (facts : ℕ) (most : facts ≤ 64) where
+  action-gives : Bytes s → (p : ℕ) → Gives (action F s facts p) (λ a q. ActionOk F facts a × Span s (length s) p (actionBytes a) q)
+  unfolding action effectList _>>=_ andThen done actionBytes
+  action-gives sound p =
+      reads (formula-gives s facts most sound p) λ f m (a, b).
+      reads
+      {P = λ es q. (length es ≤ F .effects) × EffectsOk facts 0 es × Span s (length s) m (length es ∷ effectsBytes es) q}
+      (reads (count-gives s 22 0 (F .effects) m) λ n o (_, c, d).
+      ends (effects-give s facts most sound n 0 o) λ es v (e, k, i). (rw i c, e, rw i (join d k)))
+      λ es v (c, e, k).
+      gives (record { precondition = a; count = c; effects = e }, join b k)
+
   pub action-got :
       (p : ℕ) (a : Action) (q : ℕ) → Bytes s → action F s facts p ≡ got a q →
       ActionOk F facts a × Span s (length s) p (actionBytes a) q
-  unfolding action effectList _>>=_ andThen done actionBytes
-  action-got p a q sound h =
-      then-got h λ f m h₁ h₂.
-      then-got h₂ λ es v h₄ h₆.
-      then-got h₄ λ n o h₃ h₅.
-      let (a, b) = formula-got s facts most p f m sound h₁ in
-      let (_, c, d) = count-got s 22 0 (F .effects) m h₃ in
-      let (e, k, i) = effects-got s facts most n 0 o es v sound h₅ in
-      let z : Span s (length s) m (length es ∷ []) o = rw i d in
-      carried (λ a q. ActionOk F facts a × Span s (length s) p (actionBytes a) q) h₆
-      (record { precondition = a; count = rw i c; effects = e }, join b (join z k))
+  action-got p a q sound e = action-gives sound p .of a q e
 
   pub action-ok :
       (p : ℕ) (a : Action) (q : ℕ) → ActionOk F facts a → Span s (length s) p (actionBytes a) q →
@@ -101,20 +90,16 @@ module _ (F : Limits) (s : List ℕ) (facts : ℕ) (most : facts ≤ 64) where
         effects-ok s facts most (a .effects) 0 (m + 1) q (k .effects) v,
       )
 
-  pub actions-got :
-      (n p : ℕ) (as′ : List Action) (q : ℕ) → Bytes s → actions F s facts n p ≡ got as′ q →
+  actions-give :
+      Bytes s → (n p : ℕ) →
+      Gives (actions F s facts n p) λ as′ q.
       Each (ActionOk F facts) as′ × Span s (length s) p (actionsBytes as′) q × (length as′ ≡ n)
   unfolding actions _>>=_ andThen done actionsBytes
-  actions-got zero p as′ q sound h =
-      carried (λ as′ q. Each (ActionOk F facts) as′ × Span s (length s) p (actionsBytes as′) q × (length as′ ≡ 0)) h
-      (tt, nothing refl, refl)
-  actions-got (suc n) p as′ q sound h =
-      then-got h λ a m h₁ h₂.
-      then-got h₂ λ rest o h₃ h₄.
-      let (b, c) = action-got p a m sound h₁ in
-      let (d, e, i) = actions-got n m rest o sound h₃ in
-      carried (λ as′ q. Each (ActionOk F facts) as′ × Span s (length s) p (actionsBytes as′) q × (length as′ ≡ suc n)) h₄
-      ((b, d), join c e, ap suc i)
+  actions-give sound zero p = gives (tt, nothing refl, refl)
+  actions-give sound (suc n) p =
+      reads (action-gives sound p) λ a m (b, c).
+      reads (actions-give sound n m) λ rest o (d, e, i).
+      gives ((b, d), join c e, ap suc i)
 
   pub actions-ok :
       (as′ : List Action) (p q : ℕ) → Each (ActionOk F facts) as′ → Span s (length s) p (actionsBytes as′) q →
@@ -125,49 +110,31 @@ module _ (F : Limits) (s : List ℕ) (facts : ℕ) (most : facts ≤ 64) where
       split (actionBytes a) r λ m b c. rw (action-ok p a m k b, actions-ok as′ m q l c)
 
 module _ (F : Limits) (sense : Sensible F) (s : List ℕ) where
-  pub problem-got :
-      (x : Problem) (q : ℕ) → Bytes s → problem F s 0 ≡ got x q → ProblemOk F x × (s ≡ encodeProblem F x)
+  pub problem-gives : Bytes s → Gives (problem F s 0) (λ x q. ProblemOk F x × (s ≡ encodeProblem F x))
   unfolding problem body parts ending _>>=_ _>>_ andThen position done encodeProblem
-  problem-got x q sound h =
-      then-got h λ _ m h₁ h₂.
-      let (i, l, z, law) = header-got s 10 maxProblemBytes (F .version) 0 sound h₁ in
-      then-got h₂ λ facts m₁ h₃ h₄.
-      let (f₀, f₁, rf) = count-got s 15 1 (F .facts) m h₃ in
-      then-got h₄ λ n m₂ h₅ h₆.
-      let (_, a₁, ra) = count-got s 16 0 maxActions m₁ h₅ in
+  problem-gives sound =
+      reads (header-gives s 10 maxProblemBytes (F .version) 0 sound) λ _ m (i, l, z, law).
+      reads (count-gives s 15 1 (F .facts) m) λ facts m₁ (f₀, f₁, rf).
+      reads (count-gives s 16 0 maxActions m₁) λ n m₂ (_, a₁, ra).
       let most : facts ≤ 64 = omega (arith, sense .facts) in
-      then-got h₆ λ start m₃ h₇ h₈.
-      let (ks, rs) = formula-got s facts most m₂ start m₃ sound h₇ in
-      then-got h₈ λ goal m₄ h₉ g₁.
-      let (kg, rg) = formula-got s facts most m₃ goal m₄ sound h₉ in
-      then-got g₁ λ acts m₅ g₂ g₃.
-      let (kn, rn, e) = actions-got F s facts most n m₄ acts m₅ sound g₂ in
-      needed _ _ _ _ _ g₃ λ t g₄.
+      reads (formula-gives s facts most sound m₂) λ start m₃ (ks, rs).
+      reads (formula-gives s facts most sound m₃) λ goal m₄ (kg, rg).
+      reads (actions-give F s facts most sound n m₄) λ acts m₅ (kn, rn, e).
+      tests _ _ _ _ _ λ t.
       let v : Span s (length s) m₁ (length acts ∷ []) m₂ = rw e ra in
       let w = join rf (join v (join rs (join rg rn))) in
       let b : m₅ ≡ length s = omega (arith, leb-true (length s) m₅ t, span-end w (omega arith)) in
       let whole = law _ (rw (i, b) at w) in
-      carried (λ x q. ProblemOk F x × (s ≡ encodeProblem F x)) g₄ (
-        record {
-          some-fact = f₀;
-          facts = f₁;
-          count = rw e a₁;
-          initial = ks;
-          goal = kg;
-          actions = kn;
-          short = subst (λ (xs : List ℕ). length xs ≤ maxProblemBytes) whole l;
-        },
-        whole,
-      )
+      let count : length acts ≤ maxActions = rw e a₁ in
+      let short = subst (λ (xs : List ℕ). length xs ≤ maxProblemBytes) whole l in
+      gives (search, whole)
 
-  pub problem-ok : (x : Problem) → ProblemOk F x → s ≡ encodeProblem F x → problem F s 0 ≡ got x (length s)
-  unfolding problem body parts ending _>>=_ _>>_ andThen position done encodeProblem require
+  pub problem-ok : (x : Problem) → ProblemOk F x → s ≡ encodeProblem F x → problemOf F s ≡ answered x
+  unfolding problemOf answerOf problem body parts ending _>>=_ _>>_ andThen position done encodeProblem require
   problem-ok x k e =
       let most : x .facts ≤ 64 = omega (arith, k .facts, sense .facts) in
-      let (h, w) =
-      header-ok s 10 maxProblemBytes (F .version) 0 _ e (subst (λ (xs : List ℕ). length xs ≤ maxProblemBytes) (sym e) (k .short))
-      (omega arith)
-      in
+      let l : length s ≤ maxProblemBytes = subst (λ (xs : List ℕ). length xs ≤ maxProblemBytes) (sym e) (k .short) in
+      let (h, w) = header-ok s 10 maxProblemBytes (F .version) 0 _ e l (omega arith) in
       let (_, _, w₁) = first w in
       let (_, _, w₂) = first w₁ in
       split (encodeFormula (x .initial)) w₂ λ m a r.
@@ -184,19 +151,16 @@ module _ (F : Limits) (sense : Sensible F) (s : List ℕ) where
 
 -- plans
 module _ (s : List ℕ) where
-  pub steps-got :
-      (m n p : ℕ) (bs : List ℕ) (q : ℕ) → p + n ≤ length s → steps s m n p ≡ got bs q →
-      Each (λ b. b < m) bs × Span s (length s) p bs q × (q ≡ p + n)
+  steps-give :
+      (m n p : ℕ) → p + n ≤ length s →
+      Gives (steps s m n p) (λ bs q. Each (λ b. b < m) bs × Span s (length s) p bs q × (q ≡ p + n))
   unfolding steps counted _>>=_ _>>_ andThen position done
-  steps-got m zero p bs q l h =
-      carried (λ bs q. Each (λ b. b < m) bs × Span s (length s) p bs q × (q ≡ p + 0)) h (tt, nothing refl, omega arith)
-  steps-got m (suc n) p bs q l h =
-      needed _ _ _ _ _ h λ t h₁.
-      then-got h₁ λ rest o h₂ h₃.
-      let (a, b, c) = steps-got m n (p + 1) rest o (omega arith) h₂ in
+  steps-give m zero p l = gives (tt, nothing refl, omega arith)
+  steps-give m (suc n) p l =
+      tests _ _ _ _ _ λ t.
+      reads (steps-give m n (p + 1) (omega arith)) λ rest o (a, b, c).
       let d : p < length s = omega arith in
-      carried (λ bs q. Each (λ b. b < m) bs × Span s (length s) p bs q × (q ≡ p + suc n)) h₃
-      ((ltb-true (getD s p 0) m t, a), next d refl b, omega arith)
+      gives ((ltb-true (getD s p 0) m t, a), next d refl b, omega arith)
 
   pub steps-ok :
       (m : ℕ) (bs : List ℕ) (p q : ℕ) → Each (λ b. b < m) bs → Span s (length s) p bs q → steps s m (length bs) p ≡ got bs q
@@ -206,21 +170,18 @@ module _ (s : List ℕ) where
       let (_, e, v) = first r in
       rw (e, lt-ltb b m l, steps-ok m bs (p + 1) q k v)
 
-  pub plan-got : (m : ℕ) (bs : List ℕ) (q : ℕ) → Bytes s → plan s m 0 ≡ got bs q → PlanOk m bs × (s ≡ encodePlan bs)
+  pub plan-gives : (m : ℕ) → Bytes s → Gives (plan s m 0) (λ bs q. PlanOk m bs × (s ≡ encodePlan bs))
   unfolding plan _>>_ encodePlan
-  plan-got m bs q sound h =
-      then-got h λ _ o h₁ h₂.
-      let (i, l, z, law) = header-got s 30 (5 + maxSteps) 1 0 sound h₁ in
-      let (a, b, c) = steps-got m (length s - 5) o bs q (omega arith) h₂ in
+  plan-gives m sound =
+      reads (header-gives s 30 (5 + maxSteps) 1 0 sound) λ _ o (i, l, z, law).
+      ends (steps-give m (length s - 5) o (omega arith)) λ bs q (a, b, c).
       let e : q ≡ length s = omega arith in
       (record { count = omega (arith, span-length b); actions = a }, law bs (rw (i, e) at b))
 
-  pub plan-ok : (m : ℕ) (bs : List ℕ) → PlanOk m bs → s ≡ encodePlan bs → plan s m 0 ≡ got bs (length s)
-  unfolding plan _>>_ encodePlan andThen
+  pub plan-ok : (m : ℕ) (bs : List ℕ) → PlanOk m bs → s ≡ encodePlan bs → planOf s m ≡ answered bs
+  unfolding planOf answerOf plan _>>_ encodePlan andThen
   plan-ok m bs k e =
-      let (h, w) =
-      header-ok s 30 (5 + maxSteps) 1 0 bs e (omega (arith, ap length e ∙ length-block 1 bs, k .count))
-      (omega arith)
-      in
+      let l = ap length e ∙ length-block 1 bs in
+      let (h, w) = header-ok s 30 (5 + maxSteps) 1 0 bs e (omega (arith, k .count)) (omega arith) in
       let n : length s - 5 ≡ length bs = omega (arith, span-length w) in
       rw (h, n, steps-ok m bs 5 (length s) (k .actions) w)

@@ -1,17 +1,18 @@
 -- The laws of readers: what a reader that succeeds has found, and when one succeeds; numbers in bytes; headers. Assumes nothing.
 use mathlib.Core.Path.{_≡_, refl, sym, ap, subst, subst₂, _∙_}
-use mathlib.Core.Bool.{Bool, true, false, cond, _&&_}
+use mathlib.Core.Bool.{Bool, true, false, _&&_}
 use mathlib.Core.List.{List, [], _∷_, _++_}
 use Prim.Native.Nat.{ℕ, zero, suc, _+_, _-_, _*_, _/_, _%_, _^_, _≤_, _<_}
 use native.Mathlib.Nat.{pow-suc, div-div-eq-div-mul, div-lt-iff-lt-mul, one-le-pow, mod-eq-of-lt, zero-mul, one-mul, mul-comm, mul-assoc, add-mul, zero-add, add-assoc, mod-one}
 use native.Mathlib.Numerals.{add-one}
 use native.Mathlib.Omega.{arith}
-use lib.ListN.{length, getD, take, drop, length-append, length-drop}
-use lib.Seq.{drop-cons, getD-drop, take-all, length-take-le, take-length}
+use native.Mathlib.Decide.{decLt}
+use lib.ListN.{length, getD, take, drop, length-append}
+use lib.Seq.{drop-cons, take-all, take-length}
 use lib.Arith.{mod-mul}
 use lib.Pow.{pow-add}
-use lib.Dec.{ltb, leb, lit<}
-use borrow.Author.Tests.{ltb-true, leb-true, eqb-true, lt-ltb, le-leb, eq-eqb}
+use lib.Dec.{leb, lit<}
+use borrow.Author.Tests.{leb-true, eqb-true, lt-ltb, le-ltb, le-leb, eq-eqb}
 use Rattle.model.specs.Answer.{answered}
 use Rattle.model.specs.Read.{Read, reject, got, Reader, andThen, _>>=_, _>>_, done, position, require, answerOf, bigEndianFrom, bigEndian, bytesOf, block, byte, header, count}
 use Rattle.model.specs.WellFormed.{Bytes}
@@ -28,13 +29,9 @@ then-got {x = got a m} h f = f a m refl h
 pub got-inj : {A : Type 0} {a b : A} {p q : ℕ} → got a p ≡ got b q → (a ≡ b) × (p ≡ q)
 got-inj h = (cc, cc)
 
-pub carried : {A : Type 0} {a b : A} {p q : ℕ} (P : A → ℕ → Type 0) → got a p ≡ got b q → P a p → P b q
-carried P h = subst₂ P (got-inj h .0) (got-inj h .1)
-
 pub both-true : (a b : Bool) → (a && b) ≡ true → (a ≡ true) × (b ≡ true)
 both-true true b h = (refl, h)
-both-true false true h = (h, refl)
-both-true false false h = (h, h)
+both-true false b h = (h, cc)
 
 -- a test that a reader asks for
 pub needed :
@@ -43,6 +40,27 @@ pub needed :
 unfolding andThen require
 needed true n o p k h f = f refl h
 needed false n o p k h f = let z : _≡_ {A = ℕ} 0 1 = cc in absurd (omega arith)
+
+-- what a reader that succeeds gives
+pub record Gives {A : Type 0} (x : Read A) (P : A → ℕ → Type 0) : Type 0 where
+  pub of : (a : A) (q : ℕ) → x ≡ got a q → P a q
+
+module _ {B : Type 0} {Q : B → ℕ → Type 0} where
+  pub gives : {b : B} {p : ℕ} → Q b p → Gives (got b p) Q
+  gives x = record { of = λ a q e. subst₂ Q (got-inj e .0) (got-inj e .1) x }
+
+  pub reads :
+      {A : Type 0} {P : A → ℕ → Type 0} {x : Read A} {k : A → Reader B} → Gives x P →
+      ((a : A) (m : ℕ) → P a m → Gives (k a m) Q) → Gives (andThen x k) Q
+  reads f g = record { of = λ b q e. then-got e λ a m e₁ e₂. g a m (f .of a m e₁) .of b q e₂ }
+
+  -- a reader that ends with another
+  pub ends : {P : B → ℕ → Type 0} {x : Read B} → Gives x P → ((a : B) (q : ℕ) → P a q → Q a q) → Gives x Q
+  ends f g = record { of = λ a q e. g a q (f .of a q e) }
+
+  pub tests :
+      (t : Bool) (n o p : ℕ) (k : Unit {0} → Reader B) → (t ≡ true → Gives (k tt p) Q) → Gives (andThen (require t n o p) k) Q
+  tests t n o p k f = record { of = λ b q e. needed t n o p k e λ i e₁. f i .of b q e₁ }
 
 pub answer-got : {A : Type 0} {a : A} (x : Read A) → answerOf x ≡ answered a → (q : ℕ) × (x ≡ got a q)
 unfolding answerOf
@@ -78,19 +96,22 @@ module _ {s : List ℕ} {end : ℕ} where
 
   pub span-within : {xs : List ℕ} {p q : ℕ} (other : ℕ) → Span s end p xs q → q ≤ other → Span s other p xs q
   span-within other (nothing e) l = nothing e
-  span-within other (next {p = p} m e h) l =
-      let i = span-length h in
-      let b : p < other = omega arith in
-      next b e (span-within other h l)
+  span-within other (next {p = p} m e h) l = next {p = p} (omega (arith, span-length h)) e (span-within other h l)
 
   -- one byte
   pub byte-got : {b p q : ℕ} (number : ℕ) → byte s end number p ≡ got b q → Span s end p (b ∷ []) q
   unfolding byte
-  byte-got {b} {p} {q} number h = go (ltb p end) refl h
-    where
-      go : (t : Bool) → ltb p end ≡ t → cond t (got (getD s p 0) (p + 1)) (reject number end) ≡ got b q → Span s end p (b ∷ []) q
-      go true e h = next (ltb-true p end e) (got-inj h .0) (nothing (got-inj h .1))
-      go false e h = let z : _≡_ {A = ℕ} 0 1 = cc in absurd (omega arith)
+  byte-got {b} {p} {q} number h =
+      elim (decLt p end) [
+        | yes l ↦ let (i, j) = got-inj (rw (lt-ltb p end l) at h) in next l i (nothing j)
+        | no l ↦ let e = le-ltb p end (omega arith) in let z : _≡_ {A = ℕ} 0 1 = cc in absurd (omega arith)
+      ]
+
+  pub byte-gives : (number p : ℕ) → Gives (byte s end number p) (λ b q. Span s end p (b ∷ []) q)
+  byte-gives number p = record { of = λ b q e. byte-got number e }
+
+  pub small-byte : Bytes s → (number p : ℕ) → Gives (byte s end number p) (λ b q. Span s end p (b ∷ []) q × (b < 256))
+  small-byte sound number p = ends (byte-gives number p) λ b q r. (r, rw (first r .1) at (sound p))
 
   pub byte-ok : {b p q : ℕ} {xs : List ℕ} (number : ℕ) → Span s end p (b ∷ xs) q → byte s end number p ≡ got b (p + 1)
   unfolding byte
@@ -133,9 +154,6 @@ from-bytesOf zero n a = omega (arith, mod-one n)
 from-bytesOf (suc k) n a =
     rw (from-bytesOf k n (a * 256 + (n / 256 ^ k) % 256), pow-suc 256 k, mul-comm (256 ^ k) 256, mod-mul n {m = 256} {c = 256 ^ k} (lit< tt) (one-le-pow k 256 (lit< tt)), add-mul, mul-assoc, add-assoc)
 
-pub bigEndian-bytesOf : (k n : ℕ) → n < 256 ^ k → bigEndian (bytesOf k n) ≡ n
-bigEndian-bytesOf k n h = from-bytesOf k n 0 ∙ rw (mod-eq-of-lt h, zero-mul, zero-add)
-
 from-div : (xs : List ℕ) (a : ℕ) → Bytes xs → bigEndianFrom a xs / 256 ^ length xs ≡ a
 unfolding bigEndianFrom
 from-div [] a h = omega arith
@@ -148,19 +166,10 @@ bytesOf-from (x ∷ xs) a h =
     let e : (a * 256 + x) % 256 ≡ x = omega (arith, h 0) in
     rw (from-div xs (a * 256 + x) (λ i. h (suc i)), bytesOf-from xs (a * 256 + x) (λ i. h (suc i)), e)
 
-pub bigEndian-lt : (xs : List ℕ) → Bytes xs → bigEndian xs < 256 ^ length xs
-bigEndian-lt xs h =
-    let e : bigEndian xs / 256 ^ length xs < 1 = omega (arith, from-div xs 0 h) in
-    rw one-mul at (div-lt-iff-lt-mul {y = 1} (one-le-pow (length xs) 256 (lit< tt)) .0 e)
-
-pub bytes-drop : (n : ℕ) (xs : List ℕ) → Bytes xs → Bytes (drop n xs)
-bytes-drop n xs h i = rw getD-drop (h (n + i))
-
-pub bytes-take : (n : ℕ) (xs : List ℕ) → Bytes xs → Bytes (take n xs)
-bytes-take zero xs h i = omega arith
-bytes-take (suc n) [] h i = omega arith
-bytes-take (suc n) (x ∷ xs) h zero = h 0
-bytes-take (suc n) (x ∷ xs) h (suc i) = bytes-take n xs (λ i. h (suc i)) i
+span-bytes : {s xs : List ℕ} {end p q : ℕ} → Bytes s → Span s end p xs q → Bytes xs
+span-bytes sound (nothing e) i = omega arith
+span-bytes sound (next {p = p} l e h) zero = rw e at (sound p)
+span-bytes sound (next l e h) (suc i) = span-bytes sound h i
 
 -- a number that stands in s as k bytes from p up to q
 module _ (s : List ℕ) (k p q : ℕ) where
@@ -168,14 +177,16 @@ module _ (s : List ℕ) (k p q : ℕ) where
       Bytes s → p + k ≡ q → q ≤ length s →
       (bigEndian (take k (drop p s)) < 256 ^ k) × Span s (length s) p (bytesOf k (bigEndian (take k (drop p s)))) q
   number-got sound e l =
-      let n : length (take k (drop p s)) ≡ k = length-take-le k (drop p s) (rw length-drop (omega arith)) in
-      let b = bytes-take k (drop p s) (bytes-drop p s sound) in (
-        rw n at (bigEndian-lt (take k (drop p s)) b),
-        rw (rw n at (bytesOf-from (take k (drop p s)) 0 b)) (span-here k p q e l),
+      let r = span-here {s = s} k p q e l in
+      let n : length (take k (drop p s)) ≡ k = omega (arith, span-length r) in
+      let b = span-bytes sound r in
+      let f : bigEndian (take k (drop p s)) / 256 ^ k < 1 = omega (arith, rw n at (from-div (take k (drop p s)) 0 b)) in (
+        rw one-mul at (div-lt-iff-lt-mul {y = 1} (one-le-pow k 256 (lit< tt)) .0 f),
+        rw (rw n at (bytesOf-from (take k (drop p s)) 0 b)) r,
       )
 
   pub number-ok : (n : ℕ) → n < 256 ^ k → Span s (length s) p (bytesOf k n) q → bigEndian (take k (drop p s)) ≡ n
-  number-ok n l h = rw (rw length-bytesOf at (span-is h)) (bigEndian-bytesOf k n l)
+  number-ok n l h = rw (rw length-bytesOf at (span-is h)) (from-bytesOf k n 0 ∙ rw (mod-eq-of-lt l, zero-mul, zero-add))
 
 -- headers
 pub length-block : (version : ℕ) (body : List ℕ) → length (block version body) ≡ 5 + length body
@@ -183,25 +194,26 @@ unfolding block
 length-block version body = rw (length-append (bytesOf 4 (length body)) body, length-bytesOf) (omega arith)
 
 module _ (s : List ℕ) (number most version p : ℕ) where
-  pub header-got :
-      {u : Unit {0}} {q : ℕ} → Bytes s → header s number most version p ≡ got u q →
+  pub header-gives :
+      Bytes s →
+      Gives (header s number most version p) λ _ q.
       (q ≡ 5) × (length s ≤ most) × (5 ≤ length s) × ((body : List ℕ) → Span s (length s) 5 body (length s) → s ≡ block version body)
   unfolding header _>>_ block
-  header-got b h =
-      needed _ _ _ _ _ h λ t₁ h₁.
-      needed _ _ _ _ _ h₁ λ t₂ h₂.
-      needed _ _ _ _ _ h₂ λ t₃ h₃.
-      needed _ _ _ _ _ h₃ λ t₄ h₄.
+  header-gives sound =
+      tests _ _ _ _ _ λ t₁.
+      tests _ _ _ _ _ λ t₂.
+      tests _ _ _ _ _ λ t₃.
+      tests _ _ _ _ _ λ t₄.
       let l = leb-true 5 (length s) t₂ in
-      let o : 0 < length s = omega arith in (
-        sym (got-inj h₄ .1),
+      let o : 0 < length s = omega arith in
+      let f = eqb-true (bigEndian (take 4 (drop 1 s))) (length s - 5) t₄ in
+      gives (
+        refl,
         leb-true (length s) most t₁,
         l,
         λ body k.
-            let e : bigEndian (take 4 (drop 1 s)) ≡ length body =
-            omega (arith, eqb-true (bigEndian (take 4 (drop 1 s))) (length s - 5) t₄, span-length k)
-            in
-            whole-is (next o (eqb-true _ _ t₃) (join (rw e at (number-got s 4 1 5 b (omega arith) l .1)) k)),
+            let e : bigEndian (take 4 (drop 1 s)) ≡ length body = omega (arith, span-length k) in
+            whole-is (next o (eqb-true _ _ t₃) (join (rw e at (number-got s 4 1 5 sound (omega arith) l .1)) k)),
       )
 
   pub header-ok :
@@ -212,12 +224,11 @@ module _ (s : List ℕ) (number most version p : ℕ) where
       let (o, v, r) = first (subst (λ (xs : List ℕ). Span s (length s) 0 xs (length s)) e is-whole) in
       split (bytesOf 4 (length body)) r λ m a c.
       let i : m ≡ 5 = omega (arith, span-length a, length-bytesOf 4 (length body)) in
-      let n : bigEndian (take 4 (drop 1 s)) ≡ length s - 5 =
-      number-ok s 4 1 m (length body) (omega (arith, span-length c)) a ∙ omega (arith, span-length c)
-      in (
+      let j = span-length c in
+      let n : bigEndian (take 4 (drop 1 s)) ≡ length s - 5 = number-ok s 4 1 m (length body) (omega arith) a ∙ omega arith in (
         rw (
           le-leb (length s) most l,
-          le-leb 5 (length s) (omega (arith, span-length c)),
+          le-leb 5 (length s) (omega arith),
           eq-eqb (getD s 0 0) version v,
           eq-eqb (bigEndian (take 4 (drop 1 s))) (length s - 5) n,
         ),
@@ -226,15 +237,13 @@ module _ (s : List ℕ) (number most version p : ℕ) where
 
 -- counts
 module _ (s : List ℕ) (number low high p : ℕ) where
-  pub count-got : {n q : ℕ} → count s number low high p ≡ got n q → (low ≤ n) × (n ≤ high) × Span s (length s) p (n ∷ []) q
+  pub count-gives : Gives (count s number low high p) (λ n q. (low ≤ n) × (n ≤ high) × Span s (length s) p (n ∷ []) q)
   unfolding count _>>=_ _>>_ andThen position done
-  count-got {n} {q} h =
-      then-got h λ b m e h₁.
-      needed _ _ _ _ _ h₁ λ t h₂.
-      let (i, j) = got-inj h₂ in
+  count-gives =
+      reads (byte-gives 14 p) λ b m r.
+      tests _ _ _ _ _ λ t.
       let (l, u) = both-true (leb low b) (leb b high) t in
-      let r : Span s (length s) p (b ∷ []) m = byte-got 14 e in
-      (rw i at (leb-true low b l), rw i at (leb-true b high u), rw (i, j) at r)
+      gives (leb-true low b l, leb-true b high u, r)
 
   pub count-ok :
       {n q : ℕ} {xs : List ℕ} → low ≤ n → n ≤ high → Span s (length s) p (n ∷ xs) q → count s number low high p ≡ got n (p + 1)

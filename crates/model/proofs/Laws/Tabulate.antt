@@ -4,7 +4,7 @@ use mathlib.Core.List.{_∷_}
 use Prim.Native.Nat.{ℕ, zero, suc, _≤_, _<_}
 use native.Mathlib.Nat.{le-of-suc-le-suc, not-suc-le-zero}
 use native.Mathlib.Omega.{arith}
-use lib.ListN.{length, getD, List·getD-eq-default}
+use lib.ListN.{length, getD, set, List·getD-eq-default}
 use Rattle.model.specs.Action.{tabulate}
 
 pub length-tabulate : {X : Type 0} (n : ℕ) (f : ℕ → X) → length (tabulate n f) ≡ n
@@ -20,6 +20,17 @@ pub tabulate-below : {X : Type 0} (n : ℕ) (f g : ℕ → X) → ((i : ℕ) →
 tabulate-below zero f g h = refl
 tabulate-below (suc n) f g h =
     λ i. h zero (omega arith) i ∷ tabulate-below n (λ j. f (suc j)) (λ j. g (suc j)) (λ j l. h (suc j) (omega arith)) i
+
+-- with one value changed
+pub set-tabulate :
+    {X : Type 0} (n : ℕ) (f g : ℕ → X) (k : ℕ) → k < n → ((i : ℕ) → i < n → (i ≡ k → ⊥) → f i ≡ g i) →
+    set (tabulate n f) k (g k) ≡ tabulate n g
+set-tabulate zero f g k h e = absurd (not-suc-le-zero h)
+set-tabulate (suc n) f g zero h e = ap (λ l. g zero ∷ l) (tabulate-below n _ _ λ i l. e (suc i) (omega arith) (λ p. omega arith))
+set-tabulate (suc n) f g (suc k) h e =
+    λ j.
+    e zero (omega arith) (λ p. omega arith) j ∷
+    set-tabulate n (λ i. f (suc i)) (λ i. g (suc i)) k (omega arith) (λ i l d. e (suc i) (omega arith) (λ p. d (omega arith))) j
 
 -- past the end
 pub getD-tabulate-past : {X : Type 0} (n : ℕ) (f : ℕ → X) (i : ℕ) (d : X) → n ≤ i → getD (tabulate n f) i d ≡ d

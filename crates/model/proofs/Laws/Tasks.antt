@@ -17,7 +17,7 @@ use Rattle.model.specs.Read.{_>>=_, _>>_, done}
 use Rattle.model.specs.ProblemBytes.{Problem, ending, parts, body, problem, problemOf}
 use Rattle.model.specs.ListBytes.{listOf}
 use Rattle.model.specs.Operations.{isState, taskOf, readTask, runState, lineCount, judge, linesFor, listFor, followList}
-use Rattle.model.proofs.Laws.Reading.{then-got, got-inj, answer-got, count-got}
+use Rattle.model.proofs.Laws.Reading.{then-got, got-inj, answer-got, count-gives}
 
 -- what comes after an answer
 pub answer-then :
@@ -40,31 +40,28 @@ state-tested T s = by-tests (ltb s (2 ^ T .width)) (eqb (s % 2 ^ (T .width - T .
     by-tests false c p q = inr ((λ h. false≢true (sym p ∙ lt-ltb _ _ (h .in-width))), refl)
 
 module _ (F : Limits) where
-  problem-facts : (s : List ℕ) (p : Problem) → problemOf F s ≡ answered p → p .facts ≤ F .facts
-  unfolding problemOf problem body parts ending _>>=_ _>>_ done
-  problem-facts s p h =
-      then-got (answer-got _ h .1) λ u p₀ e₀ h₀.
-      then-got h₀ λ n p₁ e₁ h₁.
-      then-got h₁ λ m p₂ e₂ h₂.
-      then-got h₂ λ i p₃ e₃ h₃.
-      then-got h₃ λ g p₄ e₄ h₄.
-      then-got h₄ λ l p₅ e₅ h₅.
-      then-got h₅ λ p₆ p₇ e₆ h₆.
-      then-got h₆ λ u₁ p₈ e₈ h₈.
-      subst (λ (x : Problem). x .facts ≤ F .facts) (got-inj h₈ .0) (count-got s 15 1 (F .facts) p₀ e₁ .1)
-
   -- the bounds that the demands need
   pub record Fits (T : Task) : Type 0 where
     pub facts : T .facts ≤ F .facts
     pub width : T .width ≡ F .width
 
   pub task-fits : (problem plan : List ℕ) (T : Task) → readTask F problem plan ≡ answered T → Fits T
-  unfolding readTask taskOf
+  unfolding readTask taskOf problemOf problem body parts ending _>>=_ _>>_ done
   task-fits problem plan T h =
       answer-then h λ p e h₁.
-      answer-then h₁ λ steps e₁ h₂.
+      answer-then h₁ λ steps _ h₂.
+      then-got (answer-got _ e .1) λ _ p₀ _ g₀.
+      then-got g₀ λ n p₁ e₁ g₁.
+      then-got g₁ λ _ _ _ g₂.
+      then-got g₂ λ _ _ _ g₃.
+      then-got g₃ λ _ _ _ g₄.
+      then-got g₄ λ _ _ _ g₅.
+      then-got g₅ λ _ _ _ g₆.
+      then-got g₆ λ _ _ _ g₇.
+      let l = count-gives problem 15 1 (F .facts) p₀ .of n p₁ e₁ .1 in
+      let m = subst (λ (x : Problem). x .facts ≤ F .facts) (got-inj g₇ .0) l in
       let t : taskOf F p steps ≡ T = cc in
-      subst Fits t (record { facts = problem-facts problem p e; width = refl })
+      subst Fits t (record { facts = m; width = refl })
 
   -- the operations on a task that was read
   module _ (problem plan : List ℕ) (T : Task) (given : readTask F problem plan ≡ answered T) where

@@ -1,23 +1,23 @@
 -- What a verdict means: Kleene soundness and exactness for cases, and what the walk's two endings say of the start states.
 -- Assumes nothing.
-use mathlib.Core.Path.{_≡_, refl, sym, ap, ap₂, _∙_, subst}
-use mathlib.Core.Bool.{Bool, true, false, cond}
-use mathlib.Core.Logic.{_≢_}
+use mathlib.Core.Path.{_≡_, refl, sym, ap, _∙_, subst}
+use mathlib.Core.Bool.{true, false, not-eq-not}
+use mathlib.Core.Logic.{_≢_, _⊎_, inl, inr}
 use mathlib.Core.List.{List, [], append-nil}
 use Prim.Native.Nat.{ℕ, suc, _+_, _-_, _*_, _^_, _≤_, _<_, zero-le}
 use native.Mathlib.Omega.{arith}
-use lib.Dec.{leb, ltb}
+use native.Mathlib.Decide.{decLe, decLt}
 use lib.ListN.{length}
-use borrow.Author.Tests.{lt-ltb, le-leb, leb-true, leb-false, ltb-true}
+use borrow.Author.Tests.{lt-ltb, le-ltb, le-leb, lt-leb}
 use Rattle.model.specs.Kleene.{Kleene, No, Unknown, Yes, isYes, known, two, three}
 use Rattle.model.specs.Formula.{Formula, eval}
 use Rattle.model.specs.Action.{Action}
 use Rattle.model.specs.Run.{Outcome, reached, missed, blocked, run}
-use Rattle.model.specs.Case.{bit, stateOf, caseOf, Task, runOf, initially, Right}
-use Rattle.model.specs.Walk.{Kind, empty, carries, closed, opened, Line, Walked, covered, failed, visits, lookOf, Verdict, right, wrong, undecided, initialAt, runAt, lookAt, walked, found, granted, judged}
+use Rattle.model.specs.Case.{bit, stateOf, caseOf, Task, runOf, initially, IsState, Right}
+use Rattle.model.specs.Walk.{Kind, closed, opened, Line, Walked, covered, failed, visits, lookOf, lookEnd, Verdict, right, wrong, undecided, initialAt, runAt, lookAt, walked, found, judged}
 use Rattle.model.specs.Demands.{LowestFailing}
-use Rattle.model.proofs.Laws.Agreement.{Along, eval-keeps, tabulate-keeps, run-keeps, run-same, Refines, same, wider, refining, refines-yes, Exact, exact, yes-exact, from-yes, from-no}
-use Rattle.model.proofs.Laws.Cover.{Block, agree, Closes, Traced, walk-traced, closes-good, fails-at, Hit, hit, later, each-hit, claimed, Follows, closes-follows, closes-visits, fewest, root-block, root-span, mod-of-block}
+use Rattle.model.proofs.Laws.Agreement.{Along, eval-keeps, tabulate-keeps, run-keeps, run-same, Refines, same, wider, refining, refines-yes, Exact, exact, yes-exact, known-inj, refines-known}
+use Rattle.model.proofs.Laws.Cover.{Block, agree, Traced, walk-traced, fails-at, covering, Follows, closes-follows, closes-visits, fewest, root-span, mod-of-block}
 
 module _ (w n : ℕ) where
   -- the state s, or the case of v, has the first k values of v
@@ -26,11 +26,12 @@ module _ (w n : ℕ) where
 
   case-refines : (k v k′ v′ : ℕ) → k ≤ k′ → Admits k v v′ → Along three three Refines refining (caseOf w n k v) (caseOf w n k′ v′)
   unfolding caseOf
-  case-refines k v k′ v′ h ad = tabulate-keeps three three Refines refining n _ _ λ i l. by-cases i (ltb i k) refl
-    where
-      by-cases : (i : ℕ) (b : Bool) → ltb i k ≡ b → Refines (cond b (known (bit w v i)) Unknown) (cond (ltb i k′) (known (bit w v′ i)) Unknown)
-      by-cases i true e = rw (lt-ltb i k′ (omega (arith, ltb-true i k e)), ad i (ltb-true i k e)) same
-      by-cases i false e = wider
+  case-refines k v k′ v′ h ad =
+      tabulate-keeps three three Refines refining n _ _ λ i l.
+      elim (decLt i k) [
+        | yes g ↦ rw (lt-ltb i k g, lt-ltb i k′ (omega arith), ad i g) same
+        | no g ↦ rw (le-ltb i k (omega arith)) wider
+      ]
 
   case-exact : (s : ℕ) → Along three two Exact exact (caseOf w n n s) (stateOf w n s)
   unfolding caseOf stateOf
@@ -42,14 +43,11 @@ module _ (w n : ℕ) where
   eval-refines : (k v k′ v′ : ℕ) → k ≤ k′ → Admits k v v′ → (φ : Formula) → Refines (eval three (caseOf w n k v) φ) (eval three (caseOf w n k′ v′) φ)
   eval-refines k v k′ v′ h ad φ = eval-keeps three three Refines refining (caseOf w n k v) (caseOf w n k′ v′) (case-refines k v k′ v′ h ad) φ
 
-  read-refines : (k v s : ℕ) → k ≤ n → Admits k v s → (φ : Formula) → Refines (eval three (caseOf w n k v) φ) (known (eval two (stateOf w n s) φ))
-  read-refines k v s h ad φ = rw (← (read-full s φ)) (eval-refines k v n s h ad φ)
-
   pub kleene-yes : (k v s : ℕ) → k ≤ n → Admits k v s → (φ : Formula) → eval three (caseOf w n k v) φ ≡ Yes → eval two (stateOf w n s) φ ≡ true
-  kleene-yes k v s h ad φ e = from-yes _ (read-refines k v s h ad φ) e
+  kleene-yes k v s h ad φ e = known-inj {b′ = true} (sym (read-full s φ) ∙ refines-known true (eval-refines k v n s h ad φ) e)
 
   pub kleene-no : (k v s : ℕ) → k ≤ n → Admits k v s → (φ : Formula) → eval three (caseOf w n k v) φ ≡ No → eval two (stateOf w n s) φ ≡ false
-  kleene-no k v s h ad φ e = from-no _ (read-refines k v s h ad φ) e
+  kleene-no k v s h ad φ e = known-inj {b′ = false} (sym (read-full s φ) ∙ refines-known false (eval-refines k v n s h ad φ) e)
 
   -- the run at a case and at what it admits
   pub run-full : (goal : Formula) (plan : List Action) (s : ℕ) → run three n goal plan 0 (caseOf w n n s) ≡ run two n goal plan 0 (stateOf w n s)
@@ -61,150 +59,133 @@ module _ (w n : ℕ) where
 
 -- ---- what a look says
 
-look-empty : (t : Kleene) (r : Outcome) → lookOf t r ≡ closed empty → t ≡ No
-look-empty No r e = refl
-look-empty Unknown reached e = cc
-look-empty Unknown missed e = cc
-look-empty Unknown (blocked i) e = cc
-look-empty Yes reached e = cc
-look-empty Yes missed e = cc
-look-empty Yes (blocked i) e = cc
+-- a case that is closed: its initial formula reads no, or its run is reached
+abbrev Shut : Kleene → Outcome → Type 0
+Shut t r = (t ≡ No) ⊎ (r ≡ reached)
 
-look-carries : (t : Kleene) (r : Outcome) → lookOf t r ≡ closed carries → r ≡ reached
-look-carries t reached e = refl
-look-carries No missed e = cc
-look-carries Unknown missed e = cc
-look-carries Yes missed e = cc
-look-carries No (blocked i) e = cc
-look-carries Unknown (blocked i) e = cc
-look-carries Yes (blocked i) e = cc
+end-closed : (r : Outcome) {κ : Kind} → lookEnd r ≡ closed κ → r ≡ reached
+end-closed reached e = refl
+end-closed missed e = cc
+end-closed (blocked i) e = cc
 
--- an open case is in no covered one
-look-open : (r r′ : Outcome) {t t′ : Kleene} → Refines t t′ → (r ≡ reached → r′ ≡ reached) → lookOf t′ r′ ≡ opened → lookOf t r ≡ opened
-look-open r r′ (same {t = No}) b e = e
-look-open reached r′ (same {t = Unknown}) b e = cc (b refl)
-look-open missed r′ (same {t = Unknown}) b e = refl
-look-open (blocked i) r′ (same {t = Unknown}) b e = refl
-look-open reached r′ (same {t = Yes}) b e = cc (b refl)
-look-open missed r′ (same {t = Yes}) b e = refl
-look-open (blocked i) r′ (same {t = Yes}) b e = refl
-look-open reached r′ (wider {t = No}) b e = cc
-look-open reached r′ (wider {t = Unknown}) b e = cc (b refl)
-look-open reached r′ (wider {t = Yes}) b e = cc (b refl)
-look-open missed r′ wider b e = refl
-look-open (blocked i) r′ wider b e = refl
+look-closed : (t : Kleene) (r : Outcome) {κ : Kind} → lookOf t r ≡ closed κ → Shut t r
+look-closed No r e = inl refl
+look-closed Unknown r e = inr (end-closed r e)
+look-closed Yes r e = inr (end-closed r e)
 
-look-fails : (b : Bool) (r : Outcome) → lookOf (known b) r ≡ opened → (b ≡ true) × (r ≢ reached)
-look-fails true r e = (refl, λ h. let z : _≡_ {A = ℕ} 0 1 = cc in omega arith)
-look-fails false r e = (cc, λ h. let z : _≡_ {A = ℕ} 0 1 = cc in omega arith)
+look-open : (t : Kleene) (r : Outcome) → lookOf t r ≡ opened → Shut t r → ⊥
+look-open t r e (inl p) = let z : _≡_ {A = ℕ} 0 1 = cc in omega arith
+look-open No r e (inr p) = let z : _≡_ {A = ℕ} 0 1 = cc in omega arith
+look-open Unknown r e (inr p) = let z : _≡_ {A = ℕ} 0 1 = cc in omega arith
+look-open Yes r e (inr p) = let z : _≡_ {A = ℕ} 0 1 = cc in omega arith
 
-module _ (T : Task) where
-  module _ (k v s : ℕ) (k≤n : k ≤ T .facts) (ad : Admits (T .width) (T .facts) k v s) where
-    pub carries-reached : lookAt T k v ≡ closed carries → runOf T s ≡ reached
-    unfolding lookAt runOf
-    carries-reached e = rw (← (run-full (T .width) (T .facts) (T .goal) (T .plan) s)) (run-refines (T .width) (T .facts) (T .goal) (T .plan) k v (T .facts) s k≤n ad (look-carries (initialAt T k v) (runAt T k v) e))
+-- how a walk ended
+pub walk-ends : (r : Walked) → ((ls : List Line) × (a : ℕ) × (r ≡ covered ls a)) ⊎ ((s : ℕ) × (a : ℕ) × (r ≡ failed s a))
+walk-ends (covered ls a) = inl (ls, a, refl)
+walk-ends (failed s a) = inr (s, a, refl)
 
-    pub empty-no-start : lookAt T k v ≡ closed empty → initially T s ≡ false
-    unfolding lookAt initially
-    empty-no-start e = kleene-no (T .width) (T .facts) k v s k≤n ad (T .initial) (look-empty (initialAt T k v) (runAt T k v) e)
+module _ (T : Task) (n≤w : T .facts ≤ T .width) where
+  -- what a closed case admits is closed
+  shut : (k v k′ v′ : ℕ) (κ : Kind) → k ≤ k′ → k′ ≤ T .facts → Block (T .width) k v → v ≤ v′ → v′ < v + 2 ^ (T .width - k)
+      → lookAt T k v ≡ closed κ → Shut (initialAt T k′ v′) (runAt T k′ v′)
+  unfolding lookAt
+  shut k v k′ v′ κ h h′ b l g e =
+      let ad : Admits (T .width) (T .facts) k v v′ = λ i j. agree (T .width) k v v′ i (omega arith) b l g j in
+      elim (look-closed (initialAt T k v) (runAt T k v) e) [
+        | inl p ↦ inl (refines-known false (eval-refines (T .width) (T .facts) k v k′ v′ h ad (T .initial)) p)
+        | inr p ↦ inr (run-refines (T .width) (T .facts) (T .goal) (T .plan) k v k′ v′ h ad p)
+      ]
 
-  -- with the numbers
-  module _ (n≤w : T .facts ≤ T .width) where
-    admits : (k v s : ℕ) → k ≤ T .facts → Block (T .width) k v → v ≤ s → s < v + 2 ^ (T .width - k) → Admits (T .width) (T .facts) k v s
-    admits k v s h b l g i j = agree (T .width) k v s i (omega arith) b l g j
+  abbrev Good : ℕ → Type 0
+  Good s = initially T s ≡ true → runOf T s ≡ reached
 
-    abbrev Good : ℕ → Type 0
-    Good s = initially T s ≡ true → runOf T s ≡ reached
+  good : (k v s : ℕ) (κ : Kind) → k ≤ T .facts → Block (T .width) k v → lookAt T k v ≡ closed κ → v ≤ s → s < v + 2 ^ (T .width - k) → Good s
+  unfolding runOf initially
+  good k v s κ h b e l g st =
+      elim (shut k v (T .facts) s κ h (omega arith) b l g e) [
+        | inl p ↦ cc (read-full (T .width) (T .facts) s (T .initial))
+        | inr p ↦ sym (run-full (T .width) (T .facts) (T .goal) (T .plan) s) ∙ p
+      ]
 
-    good : (k v s : ℕ) (κ : Kind) → k ≤ T .facts → Block (T .width) k v → lookAt T k v ≡ closed κ → v ≤ s → s < v + 2 ^ (T .width - k) → Good s
-    good k v s empty h b e l g st = let f = empty-no-start k v s h (admits k v s h b l g) e in cc
-    good k v s carries h b e l g st = carries-reached k v s h (admits k v s h b l g) e
+  -- a list whose lines hold, one after the other, over all numbers
+  abbrev pub Passes : List Line → Type 0
+  Passes ls = Follows (T .width) (lookAt T) (T .facts) ls 0
 
-    mono : (k v k′ v′ : ℕ) → k ≤ k′ → k′ ≤ T .facts → Block (T .width) k v → v ≤ v′ → v′ < v + 2 ^ (T .width - k) → lookAt T k′ v′ ≡ opened → lookAt T k v ≡ opened
-    unfolding lookAt
-    mono k v k′ v′ h h′ b l g e =
-        look-open (runAt T k v) (runAt T k′ v′)
-        (eval-refines (T .width) (T .facts) k v k′ v′ h (admits k v v′ (omega arith) b l g) (T .initial))
-        (run-refines (T .width) (T .facts) (T .goal) (T .plan) k v k′ v′ h (admits k v v′ (omega arith) b l g)) e
+  pub passes-right : (ls : List Line) → Passes ls → Right T
+  passes-right ls f s st =
+      covering (T .width) (lookAt T) (T .facts) ls 0 f s zero-le (st .state .in-width) (λ k v κ _. good k v s κ) (st .starts)
 
-    -- a list whose lines hold, one after the other, over all numbers
-    abbrev pub Passes : List Line → Type 0
-    Passes ls = Follows (T .width) (lookAt T) (T .facts) ls 0
+  traced : (r : Walked) → walked T ≡ r → Traced (T .width) (lookAt T) (T .facts) 0 0 r
+  unfolding walked
+  traced r e = subst (Traced (T .width) (lookAt T) (T .facts) 0 0) e (walk-traced (T .width) (lookAt T) (T .facts) n≤w)
 
-    hit-good : (s : ℕ) {ls : List Line} → Hit (T .width) (lookAt T) (T .facts) s ls → Good s
-    hit-good s (hit {l} a b c d e) = let m = claimed (l .kind) _ c in good (l .k) (l .value) s (m .0) a b (m .1) d e
-    hit-good s (later h) = hit-good s h
+  pub walk-fails-first : (s a : ℕ) → walked T ≡ failed s a → LowestFailing T s
+  unfolding lookAt runOf initially
+  walk-fails-first s a e =
+      let none : (t : ℕ) → t < 0 → Good t = λ t l. absurd (omega arith) in
+      let (at, block, high, before) = fails-at (T .width) (lookAt T) (T .facts) n≤w Good good (traced (failed s a) e) none in
+      let o = look-open (initialAt T (T .facts) s) (runAt T (T .facts) s) at in
+      let starts = not-eq-not {a = initially T s} {b = true} .0 (λ p. o (inl (read-full (T .width) (T .facts) s (T .initial) ∙ ap known p))) in
+      let state : IsState T s = record { in-width = high; no-bits = mod-of-block (T .width) (T .facts) s block } in
+      record {
+        start = record { state = state; starts = starts };
+        not-reached = λ p. o (inr (run-full (T .width) (T .facts) (T .goal) (T .plan) s ∙ p));
+        before = λ t st l. before t l (st .starts);
+      }
 
-    pub passes-right : (ls : List Line) → Passes ls → Right T
-    passes-right ls f s st = hit-good s (each-hit (T .width) (lookAt T) (T .facts) ls 0 f s zero-le (st .state .in-width)) (st .starts)
+  pub walk-visits : (ls : List Line) (a : ℕ) → walked T ≡ covered ls a → suc a ≡ 2 * length ls
+  walk-visits ls a e = closes-visits (T .width) (lookAt T) (T .facts) n≤w (traced (covered ls a) e)
 
-    abbrev Meant : Walked → Type 0
-    Meant (covered ls a) = Closes (T .width) (lookAt T) (T .facts) 0 0 ls a
-    Meant (failed s a) = LowestFailing T s
+  pub walk-passes : (ls : List Line) (a : ℕ) → walked T ≡ covered ls a → Passes ls
+  walk-passes ls a e =
+      rw append-nil at
+      (closes-follows (T .width) (lookAt T) (T .facts) n≤w (traced (covered ls a) e) [] (omega (arith, root-span (T .width))))
 
-    meant : (r : Walked) → Traced (T .width) (lookAt T) (T .facts) 0 0 r → Meant r
-    unfolding lookAt runOf initially
-    meant (covered ls a) x = x
-    meant (failed s a) x =
-        let f = fails-at (T .width) (lookAt T) (T .facts) n≤w Good good x (omega arith) (root-block (T .width)) in
-        let b = look-fails (initially T s) (runOf T s) (ap₂ lookOf (sym (read-full (T .width) (T .facts) s (T .initial))) (sym (run-full (T .width) (T .facts) (T .goal) (T .plan) s)) ∙ f .is-open) in
-        let h : s < 2 ^ T .width = omega (arith, f .high, root-span (T .width)) in
-        record {
-          start = record { state = record { in-width = h; no-bits = mod-of-block (T .width) (T .facts) s (f .block) }; starts = b .0 };
-          not-reached = b .1;
-          before = λ t st l. f .before t zero-le l (st .starts);
-        }
+  pub walk-closes-right : (ls : List Line) (a : ℕ) → walked T ≡ covered ls a → Right T
+  walk-closes-right ls a e = passes-right ls (walk-passes ls a e)
 
-    walk-meant : (r : Walked) → walked T ≡ r → Meant r
-    unfolding walked
-    walk-meant r e = meant r (subst (Traced (T .width) (lookAt T) (T .facts) 0 0) e (walk-traced (T .width) (lookAt T) (T .facts)))
+  pub walk-fewest : (ls : List Line) (a : ℕ) → walked T ≡ covered ls a → (ms : List Line) → Passes ms → length ls ≤ length ms
+  unfolding lookAt
+  walk-fewest ls a e ms f =
+      fewest (T .width) (lookAt T) (T .facts) n≤w ms f
+      (λ k v k′ v′ κ h h′ b l g c o. look-open (initialAt T k′ v′) (runAt T k′ v′) o (shut k v k′ v′ κ h h′ b l g c)) (traced (covered ls a) e)
 
-    pub walk-closes-right : (ls : List Line) (a : ℕ) → walked T ≡ covered ls a → Right T
-    walk-closes-right ls a e s st =
-        closes-good (T .width) (lookAt T) (T .facts) n≤w Good good (walk-meant _ e) (omega arith) (root-block (T .width)) s zero-le (omega (arith, root-span (T .width), st .state .in-width)) (st .starts)
+  pub judged-out : (g : ℕ) → g < visits (walked T) → judged T g ≡ undecided g
+  unfolding judged
+  judged-out g h = rw (lt-leb (visits (walked T)) g h)
 
-    pub walk-fails-first : (s a : ℕ) → walked T ≡ failed s a → LowestFailing T s
-    walk-fails-first s a e = walk-meant (failed s a) e
+  pub judged-in : (g : ℕ) (r : Walked) → walked T ≡ r → visits (walked T) ≤ g → judged T g ≡ found T r
+  unfolding judged
+  judged-in g r e h = rw (le-leb (visits (walked T)) g h, e)
 
-    pub walk-visits : (ls : List Line) (a : ℕ) → walked T ≡ covered ls a → suc a ≡ 2 * length ls
-    walk-visits ls a e = closes-visits (T .width) (lookAt T) (walk-meant (covered ls a) e)
+  pub larger-grant : (g g′ : ℕ) → g ≤ g′ → judged T g ≢ undecided g → judged T g′ ≡ judged T g
+  larger-grant g g′ h d =
+      elim (decLe (visits (walked T)) g) [
+        | yes l ↦ rw (judged-in g (walked T) refl l, judged-in g′ (walked T) refl (omega arith))
+        | no l ↦ absurd (d (judged-out g (omega arith)))
+      ]
 
-    pub walk-passes : (ls : List Line) (a : ℕ) → walked T ≡ covered ls a → Passes ls
-    walk-passes ls a e =
-        rw append-nil at (closes-follows (T .width) (lookAt T) (T .facts) n≤w (walk-meant (covered ls a) e) (omega arith) (root-block (T .width)) [] (omega (arith, root-span (T .width))))
+  -- what a verdict means
+  abbrev pub Means : ℕ → Walked → Verdict (List Line) → Type 0
+  Means g r (right ls a) = (r ≡ covered ls a) × Right T × (suc a ≡ 2 * length ls) × (a ≤ g)
+  Means g r (wrong s o a) = (r ≡ failed s a) × LowestFailing T s × (o ≡ runOf T s) × (a ≤ g)
+  Means g r (undecided m) = (m ≡ g) × (g < visits r)
 
-    pub walk-fewest : (ls : List Line) (a : ℕ) → walked T ≡ covered ls a → (ms : List Line) → Passes ms → length ls ≤ length ms
-    walk-fewest ls a e ms f = fewest (T .width) (lookAt T) (T .facts) n≤w mono ms f (walk-meant (covered ls a) e)
+  pub judged-means : (g : ℕ) → Means g (walked T) (judged T g)
+  judged-means g =
+      elim (decLe (visits (walked T)) g) [
+        | yes l ↦
+            elim (walk-ends (walked T)) [
+              | inl (ls, a, e) ↦ rw (judged-in g (covered ls a) e l) (e, walk-closes-right ls a e, walk-visits ls a e, rw e at l)
+              | inr (s, a, e) ↦ rw (judged-in g (failed s a) e l) (e, walk-fails-first s a e, refl, rw e at l)
+            ]
+        | no l ↦ rw (judged-out g (omega arith)) (refl, omega arith)
+      ]
 
-    pub larger-grant : (g g′ : ℕ) → g ≤ g′ → judged T g ≢ undecided g → judged T g′ ≡ judged T g
-    unfolding judged
-    larger-grant g g′ h d = by-cases (leb (visits (walked T)) g) refl
-      where
-        by-cases : (b : Bool) → leb (visits (walked T)) g ≡ b → granted T g′ (walked T) ≡ granted T g (walked T)
-        by-cases true e = rw (e, le-leb (visits (walked T)) g′ (omega (arith, leb-true (visits (walked T)) g e)))
-        by-cases false e = absurd (d (rw e))
-
-    -- what a verdict means
-    abbrev pub Means : ℕ → Walked → Verdict (List Line) → Type 0
-    Means g r (right ls a) = (r ≡ covered ls a) × Right T × (suc a ≡ 2 * length ls) × (a ≤ g)
-    Means g r (wrong s o a) = (r ≡ failed s a) × LowestFailing T s × (o ≡ runOf T s) × (a ≤ g)
-    Means g r (undecided m) = (m ≡ g) × (g < visits r)
-
-    pub judged-means : (g : ℕ) → Means g (walked T) (judged T g)
-    unfolding judged
-    judged-means g = by-cases (walked T) refl (leb (visits (walked T)) g) refl
-      where
-        by-cases : (r : Walked) → walked T ≡ r → (b : Bool) → leb (visits (walked T)) g ≡ b → Means g (walked T) (cond (leb (visits (walked T)) g) (found T (walked T)) (undecided g))
-        by-cases (covered ls a) e true f =
-            let l = leb-true (visits (walked T)) g f in
-            rw (f, e) (refl, walk-closes-right ls a e, walk-visits ls a e, rw e at l)
-        by-cases (failed s a) e true f = let l = leb-true (visits (walked T)) g f in rw (f, e) (refl, walk-fails-first s a e, refl, rw e at l)
-        by-cases r e false f = rw f (refl, leb-false (visits (walked T)) g f)
-
-    -- the walk closes everything exactly where the plan is right
-    pub right-closes : Right T → (ls : List Line) × (a : ℕ) × (walked T ≡ covered ls a)
-    right-closes r = by-cases (walked T) refl
-      where
-        by-cases : (x : Walked) → walked T ≡ x → (ls : List Line) × (a : ℕ) × (walked T ≡ covered ls a)
-        by-cases (covered ls a) e = (ls, a, e)
-        by-cases (failed s a) e = let f = walk-fails-first s a e in absurd (f .not-reached (r s (f .start)))
+  -- the walk closes everything exactly where the plan is right
+  pub right-closes : Right T → (ls : List Line) × (a : ℕ) × (walked T ≡ covered ls a)
+  right-closes r =
+      elim (walk-ends (walked T)) [
+        | inl c ↦ c
+        | inr (s, a, e) ↦ let f = walk-fails-first s a e in absurd (f .not-reached (r s (f .start)))
+      ]
