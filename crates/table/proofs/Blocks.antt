@@ -71,7 +71,7 @@ code-inj Yes No e = absurd (omega arith)
 code-inj Yes Unknown e = absurd (omega arith)
 code-inj Yes Yes e = refl
 
--- lane 2i + x, for the lanes i of level e, has x for the fact of its level, and for every other what lane i has
+-- lane 2i + x, for a lane i of level e, has x for the fact of its level, and for every other what lane i has
 abbrev partValue : ℕ → ℕ → ℕ → ℕ → Kleene
 partValue e i x l = cond (eqb l e) (known (eqb x 1)) (levelValue l i)
 
@@ -81,12 +81,6 @@ parts e y x l = eqb (code (levelValue l (2 * (2 ^ e + y) + x))) (code (partValue
 all-parts : every 5 (λ e. every (2 ^ e) (λ y. every 2 (λ x. every 5 (parts e y x)))) ≡ true
 unfolding every levelValue pathOf
 all-parts = refl
-
-level-part : (e i x l : ℕ) → e < 5 → 2 ^ e ≤ i → i < 2 ^ suc e → x < 2 → l < 5 → levelValue l (2 * i + x) ≡ partValue e i x l
-level-part e i x l h lo hi b m =
-    let z : i ≡ 2 ^ e + (i - 2 ^ e) = omega arith in
-    rw z
-    (code-inj _ _ (eqb-true _ _ (every-at 5 _ (every-at 2 _ (every-at (2 ^ e) _ (every-at 5 _ all-parts e h) (i - 2 ^ e) (omega arith)) x b) l m)))
 
 -- ---- the case in a lane
 
@@ -108,57 +102,58 @@ module _ (root : List Kleene) (k : ℕ) where
   unfolding blockCase levelValue pathOf
   block-root zero h = refl
   block-root (suc d) h =
-      ap (λ (l : List Kleene). set l (k + d) Unknown) (block-root d (λ f a b. h f a (omega arith))) ∙
-      ap (λ (x : Kleene). set root (k + d) x) (sym (h (k + d) (omega arith) (omega arith))) ∙ set-getD root (k + d) No
+      rw (block-root d (λ f a b. h f a (omega arith)), ← h (k + d) (omega arith) (omega arith), set-getD)
 
-  -- lane 2i + x before the fact of lane i's level is set, and from there on
-  module _ (e i x : ℕ) (lo : 2 ^ e ≤ i) (hi : i < 2 ^ suc e) (b : x < 2) where
-    part-above : (d : ℕ) → d ≤ 5 → d ≤ e → e < 5 → blockCase root k d (2 * i + x) ≡ blockCase root k d i
+-- the parts of lane i, before the fact of its level is set and from there on
+module _ (e i x : ℕ) (small : e < 5) (lo : 2 ^ e ≤ i) (hi : i < 2 ^ suc e) (b : x < 2) where
+  level-part : (l : ℕ) → l < 5 → levelValue l (2 * i + x) ≡ partValue e i x l
+  level-part l h =
+      let z : i ≡ 2 ^ e + (i - 2 ^ e) = omega arith in
+      let t = every-at 2 _ (every-at (2 ^ e) _ (every-at 5 _ all-parts e small) (i - 2 ^ e) (omega arith)) x b in
+      rw z (code-inj _ _ (eqb-true _ _ (every-at 5 _ t l h)))
+
+  module _ (root : List Kleene) (k : ℕ) where
+    part-above : (d : ℕ) → d ≤ e → blockCase root k d (2 * i + x) ≡ blockCase root k d i
     unfolding blockCase
-    part-above zero few h m = refl
-    part-above (suc d) few h m =
-        rw (level-part e i x d m lo hi b (omega arith), ne-eqb d e (λ z. omega arith), part-above d (omega arith) (omega arith) m)
+    part-above zero h = refl
+    part-above (suc d) h = rw (level-part d (omega arith), ne-eqb d e (λ z. omega arith), part-above d (omega arith))
 
     part : (d : ℕ) → d ≤ 5 → e < d → blockCase root k d (2 * i + x) ≡ set (blockCase root k d i) (k + e) (known (eqb x 1))
     unfolding blockCase
     part zero few h = absurd (omega arith)
     part (suc d) few h =
         elim (ℕ-discrete d e) [
-          | yes z ↦
-              rw (level-part e i x d (omega arith) lo hi b (omega arith), eq-eqb d e z, part-above d (omega arith) (omega arith) (omega arith), ← z)
-              (sym (set-set (blockCase root k d i) (k + d) (levelValue d i) (known (eqb x 1))))
+          | yes z ↦ rw (level-part d (omega arith), eq-eqb d e z, part-above d (omega arith), ← z, set-set)
           | no n ↦
-              rw (level-part e i x d (omega arith) lo hi b (omega arith), ne-eqb d e n, part d (omega arith) (omega arith))
-              (set-comm (blockCase root k d i) (k + e) (k + d) (known (eqb x 1)) (levelValue d i) (λ y. n (omega arith)))
+              let m : k + e ≡ k + d → ⊥ = λ y. n (omega arith) in
+              rw (level-part d (omega arith), ne-eqb d e n, part d (omega arith) (omega arith), set-comm (blockCase root k d i) (k + e) (k + d))
         ]
 
-  module _ (d e i : ℕ) (few : d ≤ 5) (inner : e < d) (lo : 2 ^ e ≤ i) (hi : i < 2 ^ suc e) (room : k + d ≤ length root) where
-    pub part-no : blockCase root k d (2 * i) ≡ set (blockCase root k d i) (k + e) No
-    part-no = let z : 2 * i ≡ 2 * i + 0 = omega arith in ap (blockCase root k d) z ∙ part e i 0 lo hi (omega arith) d few inner
+module _ (root : List Kleene) (k d e i : ℕ) (few : d ≤ 5) (inner : e < d) (lo : 2 ^ e ≤ i) (hi : i < 2 ^ suc e) (room : k + d ≤ length root) where
+  pub part-no : blockCase root k d (2 * i) ≡ set (blockCase root k d i) (k + e) No
+  part-no =
+      let z : 2 * i ≡ 2 * i + 0 = omega arith in
+      ap (blockCase root k d) z ∙ part e i 0 (omega arith) lo hi (omega arith) root k d few inner
 
-    pub part-yes : blockCase root k d (2 * i + 1) ≡ set (blockCase root k d i) (k + e) Yes
-    part-yes = part e i 1 lo hi (omega arith) d few inner
+  pub part-yes : blockCase root k d (2 * i + 1) ≡ set (blockCase root k d i) (k + e) Yes
+  part-yes = part e i 1 (omega arith) lo hi (omega arith) root k d few inner
 
 -- ---- from one case to its block
 
-module _ {c : List ℕ} {k : ℕ} where
-  pub levels-none : length c ≡ 256 → FixesLevels c k 0 c
-  unfolding blockCase
-  levels-none size = record { size = size; is = λ root room old. old }
-
-  pub levels-next :
-      {i : ℕ} {r q : List ℕ} → i < 5 → FixesLevels c k i r → SetsFact r (k + i) (getD someWords i 0) (getD sureWords i 0) q → FixesLevels c k (i + 1) q
-  unfolding blockCase
-  levels-next {i} few h u =
-      rw add-one
-      record {
-        size = u .size;
-        is =
-            λ root room old.
-            u .is (blockCase root k i) (blockCase root k (suc i)) (levelValue i) (h .is root (omega arith) old) (level-lanes i few)
-            (λ j g n. getD-set-other (blockCase root k i j) (k + i) g (levelValue i j) No n)
-            (λ j l. getD-set-same (blockCase root k i j) (k + i) (levelValue i j) No (omega (arith, length-block root k i j)));
-      }
+pub levels-next :
+    {c r q : List ℕ} {k i : ℕ} → i < 5 → FixesLevels c k i r → SetsFact r (k + i) (getD someWords i 0) (getD sureWords i 0) q →
+    FixesLevels c k (i + 1) q
+unfolding blockCase
+levels-next {k = k} {i = i} few h u =
+    rw add-one
+    record {
+      size = u .size;
+      is =
+          λ root room old.
+          u .is (blockCase root k i) (blockCase root k (suc i)) (levelValue i) (h .is root (omega arith) old) (level-lanes i few)
+          (λ j g n. getD-set-other (blockCase root k i j) (k + i) g _ No n)
+          (λ j l. getD-set-same (blockCase root k i j) (k + i) _ No (omega (arith, length-block root k i j)));
+    }
 
 -- ---- from a block to a lane
 

@@ -42,30 +42,20 @@ bits-lanes {number} {f} h s =
 module _ (w : ℕ) (word : w ≤ 64) where
   raised-bit : (v i : ℕ) → i < w → bit 64 (raised w v) i ≡ bit w v i
   unfolding bit
-  raised-bit v i h =
-      let e : 2 ^ (64 - suc i) ≡ 2 ^ (w - suc i) * 2 ^ (64 - w) = pow-split 64 (suc i) w h word in
-      ap (λ (x : ℕ). eqb (x % 2) 1) (ap (λ (x : ℕ). v * 2 ^ (64 - w) / x) e ∙ mul-div-mul-right v (2 ^ (w - suc i)) (pow-pos (64 - w)))
+  raised-bit v i h = rw (pow-split 64 (suc i) w h word, mul-div-mul-right v (2 ^ (w - suc i)) (pow-pos (64 - w)))
 
   -- it is the same case
   pub raised-case : (n k v : ℕ) → n ≤ w → caseOf 64 n k (raised w v) ≡ caseOf w n k v
   unfolding caseOf
-  raised-case n k v h = tabulate-below n _ _ λ i l. ap (λ b. cond (ltb i k) (known b) Unknown) (raised-bit v i (omega arith))
+  raised-case n k v h = tabulate-below n _ _ λ i l. rw (raised-bit v i (omega arith))
 
 -- ---- the common start of two numbers
 
-alike-bits : (v v′ m f : ℕ) → m ≤ 64 → v / 2 ^ (64 - m) ≡ v′ / 2 ^ (64 - m) → f < m → bit 64 v f ≡ bit 64 v′ f
+pub alike-bits : (v v′ m f : ℕ) → m ≤ 64 → v / 2 ^ (64 - m) ≡ v′ / 2 ^ (64 - m) → f < m → bit 64 v f ≡ bit 64 v′ f
 unfolding bit
 alike-bits v v′ m f h e l =
-    ap (λ (x : ℕ). eqb (x % 2) 1) (apart v ∙ ap (λ (x : ℕ). x / 2 ^ (m - suc f)) e ∙ sym (apart v′))
-  where
-    apart : (x : ℕ) → x / 2 ^ (64 - suc f) ≡ x / 2 ^ (64 - m) / 2 ^ (m - suc f)
-    apart x =
-        let d : 64 - suc f ≡ (64 - m) + (m - suc f) = omega arith in
-        ap (λ (y : ℕ). x / 2 ^ y) d ∙ sym (shr-shr x (64 - m) (m - suc f))
-
-pub common-ends :
-    (k v k′ v′ m : ℕ) → k ≤ 64 → m ≤ k → m ≤ k′ → v / 2 ^ (64 - m) ≡ v′ / 2 ^ (64 - m) → Common k v k′ v′ m
-common-ends k v k′ v′ m few a b e = record { first = a; second = b; alike = λ f l. alike-bits v v′ m f (omega arith) e l }
+    let d : 64 - suc f ≡ (64 - m) + (m - suc f) = omega arith in
+    rw (d, ← shr-shr v (64 - m) (m - suc f), ← shr-shr v′ (64 - m) (m - suc f), e)
 
 -- ---- from one case to another
 

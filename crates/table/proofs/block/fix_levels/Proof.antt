@@ -5,8 +5,8 @@ use native.Mathlib.Omega.{arith}
 use borrow.Author.Needs.{needs}
 use mathlib.Core.Path.{_≡_}
 use Prim.Native.Nat.{_-_, _≤_}
-use Rattle.table.specs.Blocks.{FixesLevels}
-use Rattle.table.proofs.Blocks.{levels-none, levels-next}
+use Rattle.table.specs.Blocks.{blockCase, FixesLevels}
+use Rattle.table.proofs.Blocks.{levels-next}
 
 abbrev Inv-loop : tie.InvT-loop
 Inv-loop c₀ k d i₀ c i = (i ≤ d) × FixesLevels c₀ k i c
@@ -15,7 +15,8 @@ abbrev μ-loop : tie.MeasureT-loop
 μ-loop c₀ k d i₀ c i = d - i
 
 loop-holds : tie.Need-loop-holds Inv-loop μ-loop
-loop-holds c = (omega arith, levels-none (c .pre .0))
+unfolding blockCase
+loop-holds c = (omega arith, record { size = c .pre .0; is = λ root room old. old })
 
 set-fact-requires : tie.Need-set-fact-requires Inv-loop μ-loop
 set-fact-requires c κs = (c .before .before .loop .inv .1 .size, omega arith)
