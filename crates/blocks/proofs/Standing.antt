@@ -1,11 +1,11 @@
 -- What was read stands there as the bytes that encode it, by the laws of the codec. Assumes nothing.
-use mathlib.Core.Path.{_≡_, refl, _∙_}
+use mathlib.Core.Path.{_≡_, refl}
 use mathlib.Core.List.{List, [], _∷_, map}
 use Prim.Native.Nat.{ℕ, zero, suc, _-_, _≤_, _<_}
 use native.Mathlib.Nat.{le-of-suc-le-suc, not-suc-le-zero}
 use native.Mathlib.Omega.{arith}
 use lib.ListN.{length, getD, take, drop, length-map, length-drop}
-use lib.Seq.{getD-drop, take-all}
+use lib.Seq.{take-all}
 use Rattle.model.specs.declared.Limits.{Limits}
 use Rattle.model.specs.Answer as Answer
 use Rattle.model.specs.Answer.{answered}
@@ -43,7 +43,8 @@ step-action as′ [] i h = absurd (not-suc-le-zero h)
 step-action as′ (b ∷ bs) zero h = refl
 step-action as′ (b ∷ bs) (suc i) h = step-action as′ bs i (le-of-suc-le-suc h)
 
-module _ {F : Limits} (S : Sensible F) (s t : List ℕ) (r : found.Task) (b : Bytes s) (o : TaskAt F s t r) where
+-- the steps are all that follows the plan's header
+module _ {F : Limits} (S : Sensible F) (s t : List ℕ) (r : found.Task) (b : Bytes s) (o : TaskAt F s t r) (body : drop headBytes t ≡ o .steps) where
   abbrev task : Task
   task = taskOf F (o .problem) (o .steps)
 
@@ -51,32 +52,33 @@ module _ {F : Limits} (S : Sensible F) (s t : List ℕ) (r : found.Task) (b : By
   unfolding readTask Answer._>>=_
   read-task = rw (o .problem-read, Answer._>>=_, o .plan-read)
 
-  -- a step in the plan's block
-  at-step : (i : ℕ) → i < length (drop headBytes t) →
-      (i < length (o .steps)) × (getD (drop headBytes t) i 0 ≡ getD (o .steps) i 0) × (getD (o .steps) i 0 < length (o .problem .actions))
-  at-step i h =
-      let l : i < r .steps = omega (arith, length-drop headBytes t, o .fits) in
-      let (e, k) = o .step i l in
-      (omega (arith, o .count), getD-drop headBytes t i 0 ∙ e, k)
-
-  task-stands : TaskStands s (drop headBytes t) (r .problem .action) (r .problem .initial) (r .problem .goal) task
+  task-stands : TaskStands s (o .steps) (r .problem .action) (r .problem .initial) (r .problem .goal) task
   unfolding taskOf
   task-stands =
       record {
         most = omega (arith, o .placed .most, S .facts);
         starting = formula-stands S b (o .placed .most) (o .placed .initial);
         reaching = formula-stands S b (o .placed .most) (o .placed .goal);
-        counted = length-map (o .steps) (actionAt (o .problem .actions)) ∙ omega (arith, length-drop headBytes t, o .fits, o .count);
-        named = λ i h. let (l, e, k) = at-step i h in omega (arith, o .placed .few);
+        counted = length-map (o .steps) (actionAt (o .problem .actions));
+        named = λ i l. omega (arith, o .step i (omega (arith, o .count)) .1, o .placed .few);
         acting =
-            λ i h.
-            let (l, e, k) = at-step i h in
-            rw (e, step-action (o .problem .actions) (o .steps) i l) (action-stands S b (o .placed .most) (o .placed .action (getD (o .steps) i 0) k));
+            λ i l.
+            rw (step-action (o .problem .actions) (o .steps) i l)
+            (action-stands S b (o .placed .most) (o .placed .action (getD (o .steps) i 0) (o .step i (omega (arith, o .count)) .1)));
       }
 
   pub stands-found : StandsFound F s t r
   unfolding taskOf
-  stands-found = record { task = task; read = read-task; width = refl; few = o .placed .most; facts = o .placed .facts; fits = o .fits; stands = task-stands }
+  stands-found =
+      record {
+        task = task;
+        read = read-task;
+        width = refl;
+        few = o .placed .most;
+        facts = o .placed .facts;
+        fits = o .fits;
+        stands = rw body task-stands;
+      }
 
 -- ---- what a slice has from p on
 
