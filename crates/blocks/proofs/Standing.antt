@@ -80,14 +80,10 @@ module _ {F : Limits} (S : Sensible F) (s t : List ℕ) (r : found.Task) (b : By
         stands = rw body task-stands;
       }
 
--- ---- what a slice has from p on
-
-pub part-from : (s : List ℕ) (p : ℕ) → take (length s - p) (drop p s) ≡ drop p s
-part-from s p = take-all (length s - p) (drop p s) (omega (arith, length-drop p s))
-
 -- a task that was found is the one in the blocks, with the plan's steps as their own slice
 pub found-in :
     (F : Limits) (problem plan : List ℕ) (r : found.Task) (o : StandsFound F problem plan r) (steps : List ℕ) →
     steps ≡ take (length plan - headBytes) (drop headBytes plan) → TaskIn F problem steps (r .problem) (o .task)
 found-in F problem plan r o steps e =
-    record { width = o .width; few = o .few; facts = o .facts; stands = rw (e, part-from plan headBytes) (o .stands) }
+    let all = take-all (length plan - headBytes) (drop headBytes plan) (omega (arith, length-drop headBytes plan)) in
+    record { width = o .width; few = o .few; facts = o .facts; stands = rw (e, all) (o .stands) }

@@ -6,7 +6,7 @@ use native.Mathlib.Omega.{arith}
 use native.Mathlib.Decide.{decLe, decLt, ℕ-discrete}
 use lib.ListN.{length, getD, set, replicate, length-set, getD-replicate, length-replicate, List·getD-eq-default}
 use lib.Seq.{getD-set-same, getD-set-other}
-use borrow.Author.Count.{below-none, below-more}
+use borrow.Author.Count.{below-more}
 use Rattle.model.specs.Limits.{maxFacts}
 use Rattle.model.specs.Kleene.{Kleene, No, Unknown, denied, three}
 use Rattle.model.specs.Formula.{valueOf}
@@ -15,8 +15,7 @@ use Rattle.model.specs.Action.{tabulate}
 use Rattle.model.specs.Planes.{InLanes, Table}
 use Rattle.model.proofs.Laws.Planes.{ones, all-unknown, literal-fact, literal-denial, table-same}
 use Rattle.model.proofs.Laws.Tabulate.{length-tabulate, getD-tabulate}
-use Rattle.model.proofs.Laws.Held.{zeros}
-use Rattle.table.specs.Tables.{SetsLiteral, Outside, SetsFact, SetsFacts, NoneFixed}
+use Rattle.table.specs.Tables.{Outside, SetsFact, SetsFacts, NoneFixed}
 
 -- ---- the table in which every value is unknown
 
@@ -33,9 +32,6 @@ pub record Opened (c : List ℕ) (i : ℕ) : Type 0 where
   pub size : length c ≡ 256
   pub some : (b : ℕ) → b < i → getD c (2 * b) 0 ≡ ones
   pub sure : (b : ℕ) → getD c (2 * b + 1) 0 ≡ 0
-
-pub opened-begins : Opened (replicate 256 0) 0
-opened-begins = record { size = length-replicate {A = ℕ} 256 0; some = below-none _; sure = λ b. zeros 256 (2 * b + 1) }
 
 module _ (c : List ℕ) (i : ℕ) (h : Opened c i) where
   pub opened-next : i < 128 → Opened (set c (2 * i) ones) (i + 1)
@@ -60,14 +56,6 @@ module _ (c : List ℕ) (i : ℕ) (h : Opened c i) where
       }
 
 -- ---- facts that get new values, one after the other
-
--- a fact is the literal with its own byte
-pub sets-fact : (c : List ℕ) (f some sure : ℕ) (d : List ℕ) → f < maxFacts → SetsLiteral c f some sure d → SetsFact c f some sure d
-sets-fact c f some sure d h x =
-    record {
-      size = x .size;
-      is = λ case case′ t old new same at. x .is case case′ t old new (λ j g n n′. same j g n) (λ j l. rw (literal-fact f h) (at j l));
-    }
 
 -- cases that a table shows, over all facts that it holds: from .. to - 1 have the values t, and the others those of `case`
 pub record Lanes (r : List ℕ) (from to : ℕ) (case : ℕ → List Kleene) (t : ℕ → ℕ → Kleene) : Type 0 where

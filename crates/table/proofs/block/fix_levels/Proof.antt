@@ -18,9 +18,6 @@ loop-holds : tie.Need-loop-holds Inv-loop μ-loop
 unfolding blockCase
 loop-holds c = (omega arith, record { size = c .pre .0; is = λ root room old. old })
 
-set-fact-requires : tie.Need-set-fact-requires Inv-loop μ-loop
-set-fact-requires c κs = (c .before .before .loop .inv .1 .size, omega arith)
-
 loop-again : tie.Need-loop-again Inv-loop μ-loop
 loop-again c = (omega arith, levels-next (omega arith) (c .before .before .before .loop .inv .1) (c .set-fact .ensures))
 
@@ -42,7 +39,7 @@ fix-levels-spec =
     (λ c. search needs)
     (λ c. search needs)
     (λ c. search needs)
-    set-fact-requires
+    (λ c κs. omega arith)
     (λ c. search needs)
     (λ c. search needs)
     loop-again

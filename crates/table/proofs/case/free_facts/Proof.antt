@@ -17,9 +17,6 @@ abbrev μ-loop : tie.MeasureT-loop
 loop-holds : tie.Need-loop-holds Inv-loop μ-loop
 loop-holds c = (omega arith, omega arith, sets-none (omega arith) (c .pre .0))
 
-set-fact-requires : tie.Need-set-fact-requires Inv-loop μ-loop
-set-fact-requires c κs = (c .before .before .loop .inv .2 .size, omega arith)
-
 loop-again : tie.Need-loop-again Inv-loop μ-loop
 loop-again c =
     let now = c .before .before .before .loop in
@@ -31,4 +28,4 @@ returns c = sets-ends (omega arith) (omega arith) (c .before .loop .inv .2)
 pub free-facts-spec : {M : Type 1} → statement M
 free-facts-spec =
     tie.close
-    (tie.spec Inv-loop μ-loop loop-holds set-fact-requires (λ c. search needs) (λ c. search needs) loop-again returns)
+    (tie.spec Inv-loop μ-loop loop-holds (λ c κs. omega arith) (λ c. search needs) (λ c. search needs) loop-again returns)

@@ -17,9 +17,6 @@ abbrev μ-loop : tie.MeasureT-loop
 loop-holds : tie.Need-loop-holds Inv-loop μ-loop
 loop-holds c = (omega arith, omega arith, sets-none (omega arith) (c .unknown .ensures .size))
 
-set-fact-requires : tie.Need-set-fact-requires Inv-loop μ-loop
-set-fact-requires c κs = (c .before .before .loop .inv .2 .size, omega arith)
-
 loop-again : tie.Need-loop-again Inv-loop μ-loop
 loop-again c =
     let now = c .before .before .before .loop in
@@ -38,7 +35,7 @@ none-fixed-spec =
     μ-loop
     (λ c κs. search needs)
     loop-holds
-    set-fact-requires
+    (λ c κs. omega arith)
     (λ c. search needs)
     (λ c. search needs)
     loop-again
