@@ -8,9 +8,7 @@ use lib.ListN.{length}
 use borrow.Author.Tests.{le-leb, lt-leb}
 use Rattle.model.specs.declared.Limits.{Limits}
 use Rattle.model.specs.Limits.{maxActions}
-use Rattle.model.specs.Formula.{Formula}
-use Rattle.model.specs.Action.{Action}
-use Rattle.model.specs.Read.{Read, got, andThen, _>>=_, _>>_, done, position, require}
+use Rattle.model.specs.Read.{Read, andThen, _>>=_, _>>_, done, position, require}
 use Rattle.model.specs.ProblemBytes.{Problem, actions, ending}
 use Rattle.model.specs.declared.Refusal.{Refusal}
 use Rattle.formula.specs.Readings.{refusalAt, rejected}
@@ -27,12 +25,6 @@ Says r y = (r .refused ≡ true) × (r .refusal ≡ y)
 
 pub finds-refused : {F : Limits} {s : List ℕ} {x : Read Problem} {r : Found} {y : Refusal} → Says r y → x ≡ rejected y → Finds F s x r
 finds-refused (a, b) e = record { refusal = λ h. e ∙ ap rejected (sym b); found = λ h. absurd (true≢false (sym a ∙ h)) }
-
-ending-got :
-    (F : Limits) (s : List ℕ) (facts m p q : ℕ) (f g : Formula) (as′ : List Action) → actions F s facts m p ≡ got as′ q → length s ≤ q →
-    ending F s facts m f g p ≡ got (record { facts = facts; initial = f; goal = g; actions = as′ }) q
-unfolding ending _>>=_ _>>_ andThen position require done
-ending-got F s facts m p q f g as′ e l = rw (e, le-leb (length s) q l)
 
 module _ {F : Limits} {s : List ℕ} {facts m p : ℕ} {a : Actions} (k : ActionsAt F s facts m p a) {initial goal : ℕ} where
   pub ends-refused : {r : Found} {y : Refusal} → Says r y → a .reading ≡ Refused y → Ends F s initial goal p facts m r
@@ -55,16 +47,17 @@ module _ {F : Limits} {s : List ℕ} {facts m p : ℕ} {a : Actions} (k : Action
         problem = record { facts = facts; actions = m; initial = initial; goal = goal; action = a .at };
       }
       )
-  ends-found e l few f g h fs gs =
+  unfolding ending _>>=_ _>>_ andThen position require done
+  ends-found {q} e l few f g h fs gs =
       let o = was-got (k .is) e in
-      let n = actions-length F s facts m p (o .value) _ (o .is) in
+      let n = actions-length F s facts m p (o .value) q (o .is) in
       record {
         refusal = λ z. absurd (true≢false (sym z));
         found =
             λ z. (
-              _,
-              _,
-              ending-got F s facts m p _ f g (o .value) (o .is) l,
+              record { facts = facts; initial = f; goal = g; actions = o .value },
+              q,
+              cc (o .is, le-leb (length s) q l),
               record {
                 facts = refl;
                 most = h;
@@ -72,7 +65,7 @@ module _ {F : Limits} {s : List ℕ} {facts m p : ℕ} {a : Actions} (k : Action
                 few = omega arith;
                 initial = fs;
                 goal = gs;
-                action = λ i b. k .stand _ _ (o .is) i (omega arith);
+                action = λ i b. k .stand (o .value) q (o .is) i (omega arith);
               },
             );
       }

@@ -9,12 +9,11 @@ use mir.Val.{Fits}
 use Rattle.model.specs.Limits.{version1}
 use Rattle.model.specs.Answer as Answer
 use Rattle.model.specs.Answer.{Answer, refused, answered}
-use Rattle.model.specs.ProblemBytes.{Problem}
 use Rattle.model.specs.Operations.{Counts, readProblem, readPlan}
 use Rattle.model.specs.WellFormed.{Bytes}
 use Rattle.model.proofs.Laws.Tasks.{answer-then}
 use Rattle.model.proofs.Demands.{version1-holds}
-use Rattle.blocks.specs.Promise.{HoldsProblem, HoldsPlan, ProblemPromised, PlanPromised}
+use Rattle.blocks.specs.Promise.{ProblemPromised, PlanPromised}
 
 -- the elements of a slice of bytes are bytes
 pub of-slice : (s : List ℕ) → ((i : ℕ) → Fits w8 (getD s i 0)) → Bytes s

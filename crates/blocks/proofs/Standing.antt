@@ -8,8 +8,6 @@ use lib.ListN.{length, getD, take, drop, length-map, length-drop}
 use lib.Seq.{take-all}
 use Rattle.model.specs.declared.Limits.{Limits}
 use Rattle.model.specs.Answer as Answer
-use Rattle.model.specs.Answer.{answered}
-use Rattle.model.specs.Case.{Task}
 use Rattle.model.specs.Formula.{Formula}
 use Rattle.model.specs.Action.{Action}
 use Rattle.model.specs.Read.{headBytes}
@@ -20,18 +18,18 @@ use Rattle.model.specs.Stands.{FormulaAt, ActionAt}
 use Rattle.model.proofs.Laws.FormulaCodec.{formula-got}
 use Rattle.model.proofs.Laws.ProblemCodec.{action-got}
 use Rattle.blocks.specs.declared.plan.Task as found
-use Rattle.blocks.specs.Standing.{TaskStands, TaskIn, StandsFound}
+use Rattle.blocks.specs.Standing.{TaskIn, StandsFound}
 use Rattle.blocks.specs.Parts.{FormulaStands, ActionStands, TaskAt}
 
 -- ---- from a reader to the bytes
 
 module _ {F : Limits} (S : Sensible F) {s : List ℕ} {facts : ℕ} (b : Bytes s) (most : facts ≤ F .facts) where
-  pub formula-stands : {p : ℕ} {f : Formula} → FormulaStands s facts p f → (q : ℕ) × FormulaAt s facts p f q
+  formula-stands : {p : ℕ} {f : Formula} → FormulaStands s facts p f → (q : ℕ) × FormulaAt s facts p f q
   formula-stands {p} {f} k =
       let (o, r) = formula-got s facts (omega (arith, S .facts)) p f (k .next) b (k .read) in
       (k .next, record { ok = o; bytes = r })
 
-  pub action-stands : {p : ℕ} {a : Action} → ActionStands F s facts p a → (q : ℕ) × ActionAt s facts p a q
+  action-stands : {p : ℕ} {a : Action} → ActionStands F s facts p a → (q : ℕ) × ActionAt s facts p a q
   action-stands {p} {a} k =
       let (o, r) = action-got F s facts (omega (arith, S .facts)) p a (k .next) b (k .read) in
       (k .next, record { precondition = o .precondition; few = omega (arith, o .count, S .effects); effects = o .effects; bytes = r })
@@ -43,42 +41,33 @@ step-action as′ [] i h = absurd (not-suc-le-zero h)
 step-action as′ (b ∷ bs) zero h = refl
 step-action as′ (b ∷ bs) (suc i) h = step-action as′ bs i (le-of-suc-le-suc h)
 
--- the steps are all that follows the plan's header
-module _ {F : Limits} (S : Sensible F) (s t : List ℕ) (r : found.Task) (b : Bytes s) (o : TaskAt F s t r) (body : drop headBytes t ≡ o .steps) where
-  abbrev task : Task
-  task = taskOf F (o .problem) (o .steps)
-
-  read-task : readTask F s t ≡ answered task
-  unfolding readTask Answer._>>=_
-  read-task = rw (o .problem-read, Answer._>>=_, o .plan-read)
-
-  task-stands : TaskStands s (o .steps) (r .problem .action) (r .problem .initial) (r .problem .goal) task
-  unfolding taskOf
-  task-stands =
-      record {
-        most = omega (arith, o .placed .most, S .facts);
-        starting = formula-stands S b (o .placed .most) (o .placed .initial);
-        reaching = formula-stands S b (o .placed .most) (o .placed .goal);
-        counted = length-map (o .steps) (actionAt (o .problem .actions));
-        named = λ i l. omega (arith, o .step i (omega (arith, o .count)) .1, o .placed .few);
-        acting =
-            λ i l.
-            rw (step-action (o .problem .actions) (o .steps) i l)
-            (action-stands S b (o .placed .most) (o .placed .action (getD (o .steps) i 0) (o .step i (omega (arith, o .count)) .1)));
-      }
-
-  pub stands-found : StandsFound F s t r
-  unfolding taskOf
-  stands-found =
-      record {
-        task = task;
-        read = read-task;
-        width = refl;
-        few = o .placed .most;
-        facts = o .placed .facts;
-        fits = o .fits;
-        stands = rw body task-stands;
-      }
+-- a task whose steps are all that follows the plan's header
+pub stands-found :
+    {F : Limits} {s t : List ℕ} {r : found.Task} → Sensible F → Bytes s → (o : TaskAt F s t r) → drop headBytes t ≡ o .steps → StandsFound F s t r
+unfolding taskOf readTask Answer._>>=_
+stands-found {F} S b o body =
+    let w = o .placed in
+    record {
+      task = taskOf F (o .problem) (o .steps);
+      read = rw (o .problem-read, Answer._>>=_, o .plan-read);
+      width = refl;
+      few = w .most;
+      facts = w .facts;
+      fits = o .fits;
+      stands =
+          rw body
+          record {
+            most = omega (arith, w .most, S .facts);
+            starting = formula-stands S b (w .most) (w .initial);
+            reaching = formula-stands S b (w .most) (w .goal);
+            counted = length-map (o .steps) (actionAt (o .problem .actions));
+            named = λ i l. omega (arith, o .step i (omega (arith, o .count)) .1, w .few);
+            acting =
+                λ i l.
+                rw (step-action (o .problem .actions) (o .steps) i l)
+                (action-stands S b (w .most) (w .action (getD (o .steps) i 0) (o .step i (omega (arith, o .count)) .1)));
+          };
+    }
 
 -- a task that was found is the one in the blocks, with the plan's steps as their own slice
 pub found-in :

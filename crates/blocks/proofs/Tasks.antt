@@ -28,17 +28,13 @@ use Rattle.blocks.proofs.Standing.{stands-found}
 -- ---- the problem
 
 module _ {F : Limits} {s : List ℕ} {r : Found} (f : Finds F s (problem F s 0) r) where
-  problem-refused : r .refused ≡ true → problemOf F s ≡ refusal (r .refusal)
-  unfolding problemOf answerOf
-  problem-refused h = rw (f .refusal h)
-
   problem-found : r .refused ≡ false → (p : Problem) × (problemOf F s ≡ answered p) × Placed F s (r .problem) p
   unfolding problemOf answerOf
   problem-found h = let (p, q, e, w) = f .found h in (p, ap answerOf e, w)
 
   pub read-problem-refused : r .refused ≡ true → refusal (r .refusal) ≡ readProblem F s
-  unfolding readProblem _>>=_
-  read-problem-refused h = rw (problem-refused h)
+  unfolding readProblem problemOf answerOf _>>=_
+  read-problem-refused h = rw (f .refusal h)
 
   pub read-problem-found : r .refused ≡ false → answered (record { facts = r .problem .facts; actions = r .problem .actions }) ≡ readProblem F s
   unfolding readProblem _>>=_
@@ -69,8 +65,8 @@ finds-none v e = record { limits = v; refusal = λ z. e; found = λ z. absurd (t
 
 module _ {F : Limits} {s : List ℕ} {r : Found} (f : Finds F s (problem F s 0) r) (t : List ℕ) where
   pub no-problem : r .refused ≡ true → readTask F s t ≡ refusal (r .refusal)
-  unfolding readTask _>>=_
-  no-problem h = rw (problem-refused f h)
+  unfolding readTask problemOf answerOf _>>=_
+  no-problem h = rw (f .refusal h)
 
   module _ (h : r .refused ≡ false) where
     pub no-plan : {y : Refusal} → plan t (r .problem .actions) 0 ≡ rejected y → readTask F s t ≡ refusal y
@@ -105,7 +101,7 @@ module _ {F : Limits} {s : List ℕ} {r : Found} (f : Finds F s (problem F s 0) 
             limits = v;
             refusal = λ z. absurd (true≢false (sym z));
             found = λ z. task-at;
-            stands = λ z. stands-found S s t result a task-at body;
+            stands = λ z. stands-found S a task-at body;
           }
 
 -- ---- the plan beside its problem

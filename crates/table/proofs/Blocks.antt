@@ -12,7 +12,7 @@ use lib.Dec.{eqb}
 use borrow.Author.Tests.{eqb-true, eq-eqb, ne-eqb}
 use Rattle.model.specs.Limits.{maxFacts}
 use Rattle.model.specs.Kleene.{Kleene, No, Unknown, Yes, known}
-use Rattle.model.specs.Planes.{laneBit, someBit, sureBit, InLane, InLanes, Table}
+use Rattle.model.specs.Planes.{laneBit, someBit, sureBit, InLanes}
 use Rattle.model.proofs.Laws.Planes.{table-fact}
 use Rattle.model.proofs.Laws.Reading.{both-true}
 use Rattle.table.specs.Tables.{Outside, SetsFact}

@@ -2,7 +2,7 @@
 use mathlib.Core.Path.{_≡_, refl, sym, ap, _∙_}
 use mathlib.Core.Bool.{cond}
 use mathlib.Core.List.{List}
-use Prim.Native.Nat.{ℕ, zero, suc, _+_, _-_, _*_, _/_, _%_, _^_, _≤_, _<_}
+use Prim.Native.Nat.{ℕ, zero, suc, _+_, _-_, _/_, _^_, _≤_, _<_}
 use native.Mathlib.Nat.{mul-div-mul-right}
 use native.Mathlib.Omega.{arith}
 use native.Mathlib.Decide.{decLt}
@@ -11,7 +11,7 @@ use lib.Pow.{pow-pos, shr-shr}
 use lib.Dec.{eqb, ltb}
 use borrow.Author.Tests.{lt-ltb, le-ltb}
 use Rattle.model.specs.Limits.{maxFacts}
-use Rattle.model.specs.Kleene.{Kleene, No, Unknown, known}
+use Rattle.model.specs.Kleene.{Kleene, No, known}
 use Rattle.model.specs.Case.{bit, caseOf}
 use Rattle.model.specs.Action.{tabulate}
 use Rattle.model.specs.Planes.{laneBit, someBit, sureBit, InLanes, Table}

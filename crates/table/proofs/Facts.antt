@@ -20,11 +20,11 @@ use Rattle.table.specs.Tables.{Outside, SetsFact, SetsFacts, NoneFixed}
 -- ---- the table in which every value is unknown
 
 -- a denial of what is unknown is unknown
-unknown-value : (b : ℕ) → b < 128 → valueOf three (replicate 64 Unknown) (literalOf b) ≡ Unknown
+unknown-value : (b : ℕ) → b < 128 → valueOf three (replicate maxFacts Unknown) (literalOf b) ≡ Unknown
 unknown-value b l =
-    elim (decLt b 64) [
-      | yes m ↦ rw (literal-fact b m) (getD-replicate 64 b Unknown No m)
-      | no m ↦ rw (literal-denial b (omega arith)) (ap denied (getD-replicate 64 (b - 64) Unknown No (omega arith)))
+    elim (decLt b maxFacts) [
+      | yes m ↦ rw (literal-fact b m) (getD-replicate maxFacts b Unknown No m)
+      | no m ↦ rw (literal-denial b (omega arith)) (ap denied (getD-replicate maxFacts (b - maxFacts) Unknown No (omega arith)))
     ]
 
 -- the first i literals are unknown so far, and none is yes
@@ -44,7 +44,7 @@ module _ (c : List ℕ) (i : ℕ) (h : Opened c i) where
         sure = λ b. getD-set-other c (2 * i) (2 * b + 1) ones 0 (λ e. omega arith) ∙ h .sure b;
       }
 
-  pub opened-ends : 128 ≤ i → NoneFixed 64 c
+  pub opened-ends : 128 ≤ i → NoneFixed maxFacts c
   opened-ends l =
       record {
         size = h .size;
@@ -149,15 +149,15 @@ sets-ends hi lo h = record { size = h .size; is = sets-shown hi lo h }
 abbrev pub never : ℕ → ℕ → Kleene
 never g j = No
 
-pub none-ends : (facts : ℕ) (u c : List ℕ) → facts ≤ 64 → NoneFixed 64 u → SetsFacts u facts 64 never c → NoneFixed facts c
+pub none-ends : (facts : ℕ) (u c : List ℕ) → facts ≤ maxFacts → NoneFixed maxFacts u → SetsFacts u facts maxFacts never c → NoneFixed facts c
 none-ends facts u c few h s =
     record {
       size = s .size;
       is =
-          s .is (λ j. replicate 64 Unknown) (λ j. replicate facts Unknown) (h .is)
+          s .is (λ j. replicate maxFacts Unknown) (λ j. replicate facts Unknown) (h .is)
           (λ j g l m out.
           elim (decLt g facts) [
-            | yes a ↦ getD-replicate facts g Unknown No a ∙ sym (getD-replicate 64 g Unknown No m)
+            | yes a ↦ getD-replicate facts g Unknown No a ∙ sym (getD-replicate maxFacts g Unknown No m)
             | no a ↦ absurd (out (omega arith) m)
           ])
           (λ j g l a b. List·getD-eq-default (replicate facts Unknown) No (omega (arith, length-replicate {A = Kleene} facts Unknown)));
