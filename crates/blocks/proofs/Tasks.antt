@@ -1,5 +1,5 @@
 -- What is found of a problem and a plan, as the operations have it. Assumes nothing.
-use mathlib.Core.Path.{_≡_, sym, ap, _∙_}
+use mathlib.Core.Path.{_≡_, refl, sym, ap, _∙_}
 use mathlib.Core.Bool.{true, false, true≢false}
 use mathlib.Core.List.{List, [], _∷_}
 use Prim.Native.Nat.{ℕ, zero, suc, _+_, _-_, _<_}
@@ -24,6 +24,7 @@ use Rattle.blocks.specs.declared.problem.Found.{Found}
 use Rattle.blocks.specs.declared.plan.Task.{Task}
 use Rattle.blocks.specs.Parts.{Placed, Finds, TaskAt, FindsTask}
 use Rattle.blocks.proofs.Standing.{stands-found}
+use Rattle.blocks.proofs.Promise.{not-refused}
 
 -- ---- the problem
 
@@ -118,7 +119,7 @@ module _ {F : Limits} {s t : List ℕ} {r : Task} (f : FindsTask F s t r) where
   pub read-plan-refused : r .refused ≡ true → refusal (r .refusal) ≡ readPlan F s t
   unfolding readPlan readTask
   read-plan-refused h =
-      sym (alike (problemOf F s) _ _ (λ p. alike (planOf t (length (p .actions))) _ _ (λ bs e. let z : _≡_ {A = ℕ} 0 1 = cc in absurd (omega arith))) (f .refusal h))
+      sym (alike (problemOf F s) _ _ (λ p. alike (planOf t (length (p .actions))) _ _ (λ bs e. absurd (not-refused refl e))) (f .refusal h))
 
   pub read-plan-found : r .refused ≡ false → answered (r .steps) ≡ readPlan F s t
   unfolding readPlan _>>=_

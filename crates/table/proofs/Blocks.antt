@@ -162,10 +162,10 @@ abbrev pub copied : ℕ → (ℕ → List Kleene) → ℕ → ℕ → Kleene
 copied lane case g j = getD (case lane) g No
 
 pub copied-next :
-    {c r q : List ℕ} {k f to lane some sure : ℕ} → lane < 64 → k ≤ f → f < maxFacts → to ≡ f + 1 → Sets c k f (copied lane) r →
+    {c r q : List ℕ} {k f to lane some sure : ℕ} → lane < 64 → f < maxFacts → to ≡ f + 1 → Sets c k f (copied lane) r →
     Spread (getD r (2 * f) 0) lane some → Spread (getD r (2 * f + 1) 0) lane sure → SetsFact r f some sure q → Sets c k to (copied lane) q
-copied-next {r = r} {f = f} {lane = lane} l lo m e h a b u =
-    sets-next lo m e h u λ case old.
+copied-next {r = r} {f = f} {lane = lane} l m e h a b u =
+    sets-next m e h u λ case old.
     let o = h .lanes case old in
     let now = rw (o .other lane f m (λ x y. omega arith)) at (table-fact r (o .lane) f lane (o .shown) m l) in
     record { lane = λ j n. record { is-some = a .is j n ∙ now .is-some; is-sure = b .is j n ∙ now .is-sure } }

@@ -68,6 +68,7 @@ pub record Lanes (r : List ℕ) (from to : ℕ) (case : ℕ → List Kleene) (t 
 -- the facts from .. to - 1 were set, to values that may depend on the cases that the table showed
 pub record Sets (c : List ℕ) (from to : ℕ) (t : (ℕ → List Kleene) → ℕ → ℕ → Kleene) (r : List ℕ) : Type 0 where
   pub size : length r ≡ 256
+  pub ordered : from ≤ to
   pub lanes : (case : ℕ → List Kleene) → Table c case → Lanes r from to case (t case)
 
 -- a case over all facts that a table holds
@@ -78,10 +79,11 @@ padded-at : (l : List Kleene) (g : ℕ) → g < maxFacts → getD (padded l) g N
 padded-at l g h = getD-tabulate maxFacts (λ x. getD l x No) g No h
 
 module _ {c : List ℕ} {from : ℕ} {t : (ℕ → List Kleene) → ℕ → ℕ → Kleene} where
-  pub sets-none : {to : ℕ} → to ≤ from → length c ≡ 256 → Sets c from to t c
+  pub sets-none : {to : ℕ} → to ≡ from → length c ≡ 256 → Sets c from to t c
   sets-none none size =
       record {
         size = size;
+        ordered = omega arith;
         lanes =
             λ case old.
             record {
@@ -94,11 +96,12 @@ module _ {c : List ℕ} {from : ℕ} {t : (ℕ → List Kleene) → ℕ → ℕ 
       }
 
   pub sets-next :
-      {i to some sure : ℕ} {r q : List ℕ} → from ≤ i → i < maxFacts → to ≡ i + 1 → Sets c from i t r → SetsFact r i some sure q →
+      {i to some sure : ℕ} {r q : List ℕ} → i < maxFacts → to ≡ i + 1 → Sets c from i t r → SetsFact r i some sure q →
       ((case : ℕ → List Kleene) → Table c case → InLanes some sure (t case i)) → Sets c from to t q
-  sets-next {i} lo hi e h u new =
+  sets-next {i} hi e h u new =
       record {
         size = u .size;
+        ordered = omega arith;
         lanes =
             λ case old.
             let o = h .lanes case old in

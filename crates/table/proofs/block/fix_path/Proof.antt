@@ -22,7 +22,7 @@ loop-again c =
     let first = second .before .before in
     let now = first .before .before .before in (
       omega arith,
-      copied-next (now .before .pre .1) (omega arith) (omega arith) (omega arith) (now .loop .inv .1) (first .spread .ensures)
+      copied-next (now .before .pre .1) (omega arith) (omega arith) (now .loop .inv .1) (first .spread .ensures)
           (second .spread2 .ensures) (c .set-fact .ensures),
     )
 

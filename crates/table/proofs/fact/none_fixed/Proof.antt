@@ -9,23 +9,23 @@ use Rattle.model.proofs.Laws.Planes.{all-no}
 use Rattle.table.proofs.Facts.{Sets, never, sets-none, sets-next, sets-ends, none-ends}
 
 abbrev Inv-loop : tie.InvT-loop
-Inv-loop facts c₀ f₀ c f = (facts ≤ f) × (f ≤ maxFacts) × Sets c₀ facts f (λ case. never) c
+Inv-loop facts c₀ f₀ c f = (f ≤ maxFacts) × Sets c₀ facts f (λ case. never) c
 
 abbrev μ-loop : tie.MeasureT-loop
 μ-loop facts c₀ f₀ c f = maxFacts - f
 
 loop-holds : tie.Need-loop-holds Inv-loop μ-loop
-loop-holds c = (omega arith, omega arith, sets-none (omega arith) (c .unknown .ensures .size))
+loop-holds c = (omega arith, sets-none (omega arith) (c .unknown .ensures .size))
 
 loop-again : tie.Need-loop-again Inv-loop μ-loop
 loop-again c =
     let now = c .before .before .before .loop in
-    (omega arith, omega arith, sets-next (omega arith) (omega arith) (omega arith) (now .inv .2) (c .set-fact .ensures) (λ case old. record { lane = λ j l. all-no }))
+    (omega arith, sets-next (omega arith) (omega arith) (now .inv .1) (c .set-fact .ensures) (λ case old. record { lane = λ j l. all-no }))
 
 returns : tie.Need-returns Inv-loop μ-loop
 returns c =
     let made = c .before .before in
-    none-ends _ _ _ (made .before .pre) (made .unknown .ensures) (sets-ends (omega arith) (omega arith) (c .before .loop .inv .2))
+    none-ends _ _ _ (made .before .pre) (made .unknown .ensures) (sets-ends (omega arith) (omega arith) (c .before .loop .inv .1))
 
 pub none-fixed-spec : {M : Type 1} → statement M
 none-fixed-spec =
