@@ -37,20 +37,18 @@ sets-before : (vs l : List ℕ) (i j b : ℕ) → j < i → set (sets l i vs) j 
 sets-before [] l i j b h = refl
 sets-before (v ∷ vs) l i j b h = rw (sets-before vs (set l i v) (suc i) j b (omega arith), set-comm l i j v b (λ e. omega arith))
 
--- the byte before m bytes of x that were stored
+-- the byte before m bytes of x that were stored, and what is left of x
 pub byte-before :
     (l : List ℕ) (at i n x rest : ℕ) → 0 < i → i ≤ n → rest ≡ x / 256 ^ (n - i) →
-    set (sets l (at + i) (bytesOf (n - i) x)) (at + (i - 1)) (rest % 256) ≡ sets l (at + (i - 1)) (bytesOf (n - (i - 1)) x)
+    (set (sets l (at + i) (bytesOf (n - i) x)) (at + (i - 1)) (rest % 256) ≡ sets l (at + (i - 1)) (bytesOf (n - (i - 1)) x)) ×
+    (rest / 256 ≡ x / 256 ^ (n - (i - 1)))
 unfolding bytesOf
 byte-before l at i n x rest p q e =
     let m : n - (i - 1) ≡ suc (n - i) = omega arith in
-    let o : at + i ≡ suc (at + (i - 1)) = omega arith in
-    rw (sets-before (bytesOf (n - i) x) l (at + i) (at + (i - 1)) (rest % 256) (omega arith), m, o, e)
-
-pub rest-before : (i n x rest : ℕ) → 0 < i → i ≤ n → rest ≡ x / 256 ^ (n - i) → rest / 256 ≡ x / 256 ^ (n - (i - 1))
-rest-before i n x rest p q e =
-    let m : n - (i - 1) ≡ suc (n - i) = omega arith in
-    rw (m, pow-suc 256 (n - i), e) (div-div-eq-div-mul x (256 ^ (n - i)) 256)
+    let o : at + i ≡ suc (at + (i - 1)) = omega arith in (
+      rw (sets-before (bytesOf (n - i) x) l (at + i) (at + (i - 1)) (rest % 256) (omega arith), m, o, e),
+      rw (m, pow-suc 256 (n - i), e) (div-div-eq-div-mul x (256 ^ (n - i)) 256),
+    )
 
 -- ---- bits
 

@@ -2,7 +2,7 @@
 use borrow.Author.Needs.{needs}
 use Rattle.blocks.proofs.action.read_effects.Statement.{statement}
 use Rattle.blocks.proofs.action.read_effects.Tie as tie
-use mathlib.Core.Path.{_≡_, refl, sym, _∙_}
+use mathlib.Core.Path.{_≡_, sym, _∙_}
 use native.Mathlib.Omega.{arith}
 use Rattle.model.specs.Read.{done}
 use Rattle.model.specs.ProblemBytes.{effects}
@@ -15,9 +15,6 @@ Inv-loop s at facts n p₀ k₀ least₀ p k least = nextOf (effects s facts n 0
 abbrev μ-loop : tie.MeasureT-loop
 μ-loop s at facts n p₀ k₀ least₀ p k least = k
 
-loop-holds : tie.Need-loop-holds Inv-loop μ-loop
-loop-holds c = refl
-
 returns : tie.Need-returns Inv-loop μ-loop
 returns c =
     let k = c .before .before .before in
@@ -26,9 +23,6 @@ returns c =
 
 shared-slice-read-wide : tie.Need-shared-slice-read-wide Inv-loop μ-loop
 shared-slice-read-wide c = let g = rw (c .before .before .next .given .1) at (c .before .before .before .before .read-effect .ensures) in g .inside
-
-add-least : tie.Need-add-least Inv-loop μ-loop
-add-least c = omega (arith, c .wide .ensures .1)
 
 loop-again : tie.Need-loop-again Inv-loop μ-loop
 loop-again c =
@@ -49,14 +43,14 @@ read-effects-spec =
     (tie.spec
     Inv-loop
     μ-loop
-    loop-holds
+    (λ c. search needs)
     (λ c κs. search needs)
     (λ c. search needs)
     returns
     (λ c. search needs)
     shared-slice-read-wide
     (λ c κs. search needs)
-    add-least
+    (λ c. omega arith)
     (λ c. omega arith)
     (λ c. omega arith)
     loop-again

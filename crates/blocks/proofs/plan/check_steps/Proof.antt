@@ -2,7 +2,7 @@
 use borrow.Author.Needs.{needs}
 use Rattle.blocks.proofs.plan.check_steps.Statement.{statement}
 use Rattle.blocks.proofs.plan.check_steps.Tie as tie
-use mathlib.Core.Path.{_≡_, refl, sym, _∙_}
+use mathlib.Core.Path.{_≡_, sym, _∙_}
 use Prim.Native.Nat.{suc, _+_, _-_}
 use native.Mathlib.Omega.{arith}
 use lib.ListN.{length}
@@ -17,9 +17,6 @@ Inv-loop s at actions p₀ p = nextOf (steps s actions (length s - at) at) ≡ n
 
 abbrev μ-loop : tie.MeasureT-loop
 μ-loop s at actions p₀ p = length s - p
-
-loop-holds : tie.Need-loop-holds Inv-loop μ-loop
-loop-holds c = refl
 
 returns : tie.Need-returns Inv-loop μ-loop
 unfolding steps _>>=_ _>>_ andThen position counted require nextOf
@@ -50,7 +47,7 @@ check-steps-spec =
     (tie.spec
     Inv-loop
     μ-loop
-    loop-holds
+    (λ c. search needs)
     (λ c. omega arith)
     (λ c κs. search needs)
     returns
