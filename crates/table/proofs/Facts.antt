@@ -148,11 +148,8 @@ sets-ends hi lo h = record { size = h .size; is = sets-shown hi lo h }
 
 -- ---- the facts past the count
 
--- no in every lane
-abbrev pub never : ℕ → ℕ → Kleene
-never g j = No
-
-pub none-ends : (facts : ℕ) (u c : List ℕ) → facts ≤ maxFacts → NoneFixed maxFacts u → SetsFacts u facts maxFacts never c → NoneFixed facts c
+pub none-ends :
+    (facts : ℕ) (u c : List ℕ) → facts ≤ maxFacts → NoneFixed maxFacts u → SetsFacts u facts maxFacts (λ g j. No) c → NoneFixed facts c
 none-ends facts u c few h s =
     record {
       size = s .size;

@@ -5,11 +5,12 @@ use native.Mathlib.Omega.{arith}
 use borrow.Author.Needs.{needs}
 use Prim.Native.Nat.{_-_, _≤_}
 use Rattle.model.specs.Limits.{maxFacts}
+use Rattle.model.specs.Kleene.{No}
 use Rattle.model.proofs.Laws.Planes.{all-no}
-use Rattle.table.proofs.Facts.{Sets, never, sets-none, sets-next, sets-ends, none-ends}
+use Rattle.table.proofs.Facts.{Sets, sets-none, sets-next, sets-ends, none-ends}
 
 abbrev Inv-loop : tie.InvT-loop
-Inv-loop facts c₀ f₀ c f = (f ≤ maxFacts) × Sets c₀ facts f (λ case. never) c
+Inv-loop facts c₀ f₀ c f = (f ≤ maxFacts) × Sets c₀ facts f (λ case g j. No) c
 
 abbrev μ-loop : tie.MeasureT-loop
 μ-loop facts c₀ f₀ c f = maxFacts - f
