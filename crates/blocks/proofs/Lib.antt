@@ -1,6 +1,5 @@
 pub mod Headers
 pub mod Effects
-pub mod Steps
 pub mod Actions
 pub mod Problems
 pub mod Standing

@@ -1,5 +1,5 @@
 -- Demand 1 of the code, from the equation with the definition and the theorem about the definitions. Assumes nothing.
-use mathlib.Core.Path.{_≡_, sym}
+use mathlib.Core.Path.{_≡_, refl, sym}
 use mathlib.Core.List.{List}
 use Prim.Native.Nat.{ℕ}
 use native.Mathlib.Omega.{arith}
@@ -9,12 +9,11 @@ use mir.Val.{Fits}
 use Rattle.model.specs.Limits.{version1}
 use Rattle.model.specs.Answer as Answer
 use Rattle.model.specs.Answer.{Answer, refused, answered}
-use Rattle.model.specs.ProblemBytes.{Problem}
 use Rattle.model.specs.Operations.{Counts, readProblem, readPlan}
 use Rattle.model.specs.WellFormed.{Bytes}
 use Rattle.model.proofs.Laws.Tasks.{answer-then}
 use Rattle.model.proofs.Demands.{version1-holds}
-use Rattle.blocks.specs.Promise.{HoldsProblem, HoldsPlan, ProblemPromised, PlanPromised}
+use Rattle.blocks.specs.Promise.{ProblemPromised, PlanPromised}
 
 -- the elements of a slice of bytes are bytes
 pub of-slice : (s : List ℕ) → ((i : ℕ) → Fits w8 (getD s i 0)) → Bytes s
@@ -24,27 +23,22 @@ of-slice s h i = omega (arith, h i)
 pub not-refused : {A : Type 0} {x : Answer A} {a : A} {n q : ℕ} → x ≡ answered a → x ≡ refused n q → ⊥
 not-refused e f = let z : _≡_ {A = ℕ} 0 1 = cc in omega arith
 
-sound-problem : (problem : List ℕ) (p : Problem) → HoldsProblem problem p → readProblem version1 problem ≡ answered (record { facts = p .facts; actions = length (p .actions) })
-unfolding readProblem Answer._>>=_
-sound-problem problem p h = rw (h .1, version1-holds .demand1 .problem-accepted p (h .0))
-
-sound-plan :
-    (problem plan : List ℕ) (p : Problem) (steps : List ℕ) → HoldsProblem problem p → HoldsPlan plan (length (p .actions)) steps →
-    readPlan version1 problem plan ≡ answered (length steps)
-unfolding readPlan Answer._>>=_
-sound-plan problem plan p steps h k =
-    rw (h .1, k .1, version1-holds .demand1 .problem-accepted p (h .0), Answer._>>=_, version1-holds .demand1 .plan-accepted (length (p .actions)) steps (k .0))
-
 pub problem-promised : (problem : List ℕ) → Bytes problem → (r : Answer Counts) → r ≡ readProblem version1 problem → ProblemPromised problem r
-unfolding readProblem
-problem-promised problem b (refused n q) e = λ p h. not-refused (sound-problem problem p h) (sym e)
+unfolding readProblem Answer._>>=_
+problem-promised problem b (refused n q) e =
+    λ p (k, z).
+    let a = rw (z, version1-holds .demand1 .problem-accepted p k) at e in
+    not-refused a refl
 problem-promised problem b (answered c) e =
     answer-then (sym e) λ p h k. (p, version1-holds .demand1 .problem-sound problem b p h, cc)
 
 pub plan-promised :
     (problem plan : List ℕ) → Bytes problem → Bytes plan → (r : Answer ℕ) → r ≡ readPlan version1 problem plan → PlanPromised problem plan r
-unfolding readPlan
-plan-promised problem plan b d (refused n q) e = λ p steps h k. not-refused (sound-plan problem plan p steps h k) (sym e)
+unfolding readPlan Answer._>>=_
+plan-promised problem plan b d (refused n q) e =
+    λ p steps (k, z) (l, y).
+    let a = rw (z, y, version1-holds .demand1 .problem-accepted p k, Answer._>>=_, version1-holds .demand1 .plan-accepted (length (p .actions)) steps l) at e in
+    not-refused a refl
 plan-promised problem plan b d (answered m) e =
     answer-then (sym e) λ p h₁ k₁.
     answer-then k₁ λ steps h₂ k₂.

@@ -1,15 +1,13 @@
 -- What was read stands there as the bytes that encode it, by the laws of the codec. Assumes nothing.
-use mathlib.Core.Path.{_≡_, refl, sym, ap, _∙_, subst}
+use mathlib.Core.Path.{_≡_, refl, sym, ap, subst}
 use mathlib.Core.List.{List, [], _∷_, map}
 use Prim.Native.Nat.{ℕ, zero, suc, _-_, _≤_, _<_}
 use native.Mathlib.Nat.{le-of-suc-le-suc, not-suc-le-zero}
 use native.Mathlib.Omega.{arith}
 use lib.ListN.{length, getD, take, drop, length-map, length-drop}
-use lib.Seq.{getD-drop, take-all}
+use lib.Seq.{take-all}
 use Rattle.model.specs.declared.Limits.{Limits}
 use Rattle.model.specs.Answer as Answer
-use Rattle.model.specs.Answer.{answered}
-use Rattle.model.specs.Case.{Task}
 use Rattle.model.specs.Formula.{Formula}
 use Rattle.model.specs.Action.{Action}
 use Rattle.model.specs.Read.{headBytes}
@@ -20,18 +18,18 @@ use Rattle.model.specs.Stands.{FormulaAt, ActionAt}
 use Rattle.model.proofs.Laws.FormulaCodec.{formula-got}
 use Rattle.model.proofs.Laws.ProblemCodec.{action-got}
 use Rattle.blocks.specs.declared.plan.Task as found
-use Rattle.blocks.specs.Standing.{TaskStands, TaskIn, StandsFound}
+use Rattle.blocks.specs.Standing.{TaskIn, StandsFound}
 use Rattle.blocks.specs.Parts.{FormulaStands, ActionStands, TaskAt}
 
 -- ---- from a reader to the bytes
 
 module _ {F : Limits} (S : Sensible F) {s : List ℕ} {facts : ℕ} (b : Bytes s) (most : facts ≤ F .facts) where
-  pub formula-stands : {p : ℕ} {f : Formula} → FormulaStands s facts p f → (q : ℕ) × FormulaAt s facts p f q
+  formula-stands : {p : ℕ} {f : Formula} → FormulaStands s facts p f → (q : ℕ) × FormulaAt s facts p f q
   formula-stands {p} {f} k =
       let (o, r) = formula-got s facts (omega (arith, S .facts)) p f (k .next) b (k .read) in
       (k .next, record { ok = o; bytes = r })
 
-  pub action-stands : {p : ℕ} {a : Action} → ActionStands F s facts p a → (q : ℕ) × ActionAt s facts p a q
+  action-stands : {p : ℕ} {a : Action} → ActionStands F s facts p a → (q : ℕ) × ActionAt s facts p a q
   action-stands {p} {a} k =
       let (o, r) = action-got F s facts (omega (arith, S .facts)) p a (k .next) b (k .read) in
       (k .next, record { precondition = o .precondition; few = omega (arith, o .count, S .effects); effects = o .effects; bytes = r })
@@ -43,59 +41,43 @@ step-action as′ [] i h = absurd (not-suc-le-zero h)
 step-action as′ (b ∷ bs) zero h = refl
 step-action as′ (b ∷ bs) (suc i) h = step-action as′ bs i (le-of-suc-le-suc h)
 
-module _ {F : Limits} (S : Sensible F) (s t : List ℕ) (r : found.Task) (b : Bytes s) (o : TaskAt F s t r) where
-  abbrev task : Task
-  task = taskOf F (o .problem) (o .steps)
-
-  read-task : readTask F s t ≡ answered task
-  unfolding readTask Answer._>>=_
-  read-task = rw (o .problem-read, Answer._>>=_, o .plan-read)
-
-  -- a step in the plan's block
-  at-step : (i : ℕ) → i < length (drop headBytes t) →
-      (i < length (o .steps)) × (getD (drop headBytes t) i 0 ≡ getD (o .steps) i 0) × (getD (o .steps) i 0 < length (o .problem .actions))
-  at-step i h =
-      let l : i < r .steps = omega (arith, length-drop headBytes t, o .fits) in
-      let (e, k) = o .step i l in
-      (omega (arith, o .count), getD-drop headBytes t i 0 ∙ e, k)
-
-  task-stands : TaskStands s (drop headBytes t) (r .problem .action) (r .problem .initial) (r .problem .goal) task
-  unfolding taskOf
-  task-stands =
-      record {
-        most = omega (arith, o .placed .most, S .facts);
-        starting = formula-stands S b (o .placed .most) (o .placed .initial);
-        reaching = formula-stands S b (o .placed .most) (o .placed .goal);
-        counted = length-map (o .steps) (actionAt (o .problem .actions)) ∙ omega (arith, length-drop headBytes t, o .fits, o .count);
-        named = λ i h. let (l, e, k) = at-step i h in omega (arith, o .placed .few);
-        acting =
-            λ i h.
-            let (l, e, k) = at-step i h in
-            rw (e, step-action (o .problem .actions) (o .steps) i l) (action-stands S b (o .placed .most) (o .placed .action (getD (o .steps) i 0) k));
-      }
-
-  pub stands-found : r .limits ≡ F → StandsFound F s t r
-  unfolding taskOf
-  stands-found e =
-      record {
-        task = task;
-        read = read-task;
-        sensible = subst Sensible (sym e) S;
-        width = ap (λ (G : Limits). G .width) (sym e);
-        few = subst (λ (G : Limits). o .problem .facts ≤ G .facts) (sym e) (o .placed .most);
-        facts = o .placed .facts;
-        fits = o .fits;
-        stands = task-stands;
-      }
-
--- ---- what a slice has from p on
-
-pub part-from : (s : List ℕ) (p : ℕ) → take (length s - p) (drop p s) ≡ drop p s
-part-from s p = take-all (length s - p) (drop p s) (omega (arith, length-drop p s))
+-- a task whose steps are all that follows the plan's header
+pub stands-found :
+    {F : Limits} {s t : List ℕ} {r : found.Task} → Sensible F → Bytes s → (o : TaskAt F s t r) → drop headBytes t ≡ o .steps → r .limits ≡ F →
+    StandsFound F s t r
+unfolding taskOf readTask Answer._>>=_
+stands-found {F} S b o body e =
+    let w = o .placed in
+    record {
+      task = taskOf F (o .problem) (o .steps);
+      read = rw (o .problem-read, Answer._>>=_, o .plan-read);
+      sensible = subst Sensible (sym e) S;
+      width = ap (λ (G : Limits). G .width) (sym e);
+      few = subst (λ (G : Limits). o .problem .facts ≤ G .facts) (sym e) (w .most);
+      facts = w .facts;
+      fits = o .fits;
+      stands =
+          rw body
+          record {
+            most = omega (arith, w .most, S .facts);
+            starting = formula-stands S b (w .most) (w .initial);
+            reaching = formula-stands S b (w .most) (w .goal);
+            counted = length-map (o .steps) (actionAt (o .problem .actions));
+            named = λ i l. omega (arith, o .step i (omega (arith, o .count)) .1, w .few);
+            acting =
+                λ i l.
+                rw (step-action (o .problem .actions) (o .steps) i l)
+                (action-stands S b (w .most) (w .action (getD (o .steps) i 0) (o .step i (omega (arith, o .count)) .1)));
+          };
+    }
 
 -- a task that was found is the one in the blocks, with the plan's steps as their own slice
 pub found-in :
     (F : Limits) (problem plan : List ℕ) (r : found.Task) (o : StandsFound F problem plan r) (steps : List ℕ) →
     steps ≡ take (length plan - headBytes) (drop headBytes plan) → TaskIn (r .limits) problem steps (r .problem) (o .task)
 found-in F problem plan r o steps e =
-    record { width = o .width; few = o .few; facts = o .facts; stands = rw (e, part-from plan headBytes) (o .stands) }
+    let all = take-all (length plan - headBytes) (drop headBytes plan) (omega (arith, length-drop headBytes plan)) in
+    record { width = o .width; few = o .few; facts = o .facts; stands = rw (e, all) (o .stands) }
+
+pub few-facts : (F : Limits) (problem plan : List ℕ) (r : found.Task) → StandsFound F problem plan r → r .problem .facts ≤ r .limits .facts
+few-facts F problem plan r o = omega (arith, o .facts, o .few)

@@ -1,202 +1,126 @@
 -- What is found of a problem and a plan, as the operations have it. Assumes nothing.
-use mathlib.Core.Path.{_≡_, refl, sym, ap, _∙_, subst}
+use mathlib.Core.Path.{_≡_, refl, sym, ap, _∙_}
 use mathlib.Core.Bool.{true, false, true≢false}
-use mathlib.Core.List.{List, _∷_}
-use Prim.Native.Nat.{ℕ, zero, suc, _+_, _-_, _≤_, _<_}
+use mathlib.Core.List.{List, [], _∷_}
+use Prim.Native.Nat.{ℕ, zero, suc, _+_, _-_, _<_}
+use native.Mathlib.Nat.{not-suc-le-zero}
 use native.Mathlib.Omega.{arith}
-use lib.ListN.{length, getD}
-use borrow.Author.Tests.{ltb-true}
+use lib.ListN.{length, getD, drop}
+use lib.Seq.{getD-drop}
 use Rattle.model.specs.declared.Limits.{Limits}
-use Rattle.model.specs.Limits.{maxSteps}
-use Rattle.model.specs.Answer as Answer
-use Rattle.model.specs.Answer.{refused, answered}
-use Rattle.model.specs.Answers.{refusal}
-use Rattle.model.specs.Read.{Read, got, andThen, _>>=_, _>>_, done, position, headBytes, counted, answerOf}
-use Rattle.model.specs.ProblemBytes as bytes
-use Rattle.model.specs.ProblemBytes.{problemOf, steps, plan, planOf}
-use Rattle.model.specs.Operations.{readProblem, readPlan, readTask, taskOf}
-use Rattle.model.specs.WellFormed.{Bytes, Sensible}
-use Rattle.model.proofs.Laws.Reading.{then-got, got-inj, needed}
+use Rattle.model.specs.declared.Problem as declared
 use Rattle.model.specs.declared.Refusal.{Refusal}
-use Rattle.formula.specs.Readings.{refusalAt, rejected, nextOf}
-use Rattle.formula.specs.declared.read.Reading.the-variants.{Refused, Next}
-use Rattle.formula.proofs.Readers.{next-got, next-refused}
+use Rattle.model.specs.Answer.{Answer, refused, answered, _>>=_}
+use Rattle.model.specs.Answers.{refusal}
+use Rattle.model.specs.Read.{got, headBytes, bytesOf, block, answerOf}
+use Rattle.model.specs.ProblemBytes.{Problem, problem, problemOf, plan, planOf, encodePlan}
+use Rattle.model.specs.Operations.{readProblem, readPlan, readTask}
+use Rattle.model.specs.WellFormed.{Bytes, Each, Sensible}
+use Rattle.model.proofs.Laws.Reading.{length-block}
+use Rattle.model.proofs.Laws.ProblemCodec.{plan-gives}
+use Rattle.formula.specs.Readings.{refusalAt, rejected}
+use Rattle.formula.proofs.Readers.{Got}
 use Rattle.blocks.specs.declared.problem.Found.{Found}
 use Rattle.blocks.specs.declared.plan.Task.{Task}
 use Rattle.blocks.specs.Parts.{Placed, Finds, TaskAt, FindsTask}
-use Rattle.blocks.proofs.Headers.{header-got}
 use Rattle.blocks.proofs.Standing.{stands-found}
+use Rattle.blocks.proofs.Promise.{not-refused}
 
--- ---- a plan's steps
+-- ---- the problem
 
--- n steps were read from p on
-pub record Stepped (s : List ℕ) (m n p : ℕ) (bs : List ℕ) (q : ℕ) : Type 0 where
-  pub size : length bs ≡ n
-  pub end : q ≡ p + n
-  pub step : (i : ℕ) → i < n → (getD s (p + i) 0 ≡ getD bs i 0) × (getD bs i 0 < m)
+module _ {F : Limits} {s : List ℕ} {r : Found} (f : Finds F s (problem F s 0) r) where
+  problem-found : r .refused ≡ false → (p : Problem) × (problemOf F s ≡ answered p) × Placed F s (r .problem) p
+  unfolding problemOf answerOf
+  problem-found h = let (p, q, e, w) = f .found h in (p, ap answerOf e, w)
 
-stepped-more :
-    (s : List ℕ) (m n p : ℕ) (bs : List ℕ) (q : ℕ) → getD s p 0 < m → Stepped s m n (p + 1) bs q →
-    Stepped s m (suc n) p (getD s p 0 ∷ bs) q
-stepped-more s m n p bs q h r =
-    record { size = ap suc (r .size); end = omega (arith, r .end); step = at-step }
-  where
-    at-step : (i : ℕ) → i < suc n → (getD s (p + i) 0 ≡ getD (getD s p 0 ∷ bs) i 0) × (getD (getD s p 0 ∷ bs) i 0 < m)
-    at-step zero l = (ap (λ (x : ℕ). getD s x 0) (omega arith), h)
-    at-step (suc i) l =
-        let k = r .step i (omega arith) in
-        (ap (λ (x : ℕ). getD s x 0) (omega arith) ∙ k .0, k .1)
+  pub read-problem-refused : r .refused ≡ true → refusal (r .refusal) ≡ readProblem F s
+  unfolding readProblem problemOf answerOf _>>=_
+  read-problem-refused h = rw (f .refusal h)
 
-steps-got : (s : List ℕ) (m n p : ℕ) (bs : List ℕ) (q : ℕ) → steps s m n p ≡ got bs q → Stepped s m n p bs q
-unfolding steps _>>=_ _>>_ position counted done andThen
-steps-got s m zero p bs q e =
-    let (a, b) = got-inj e in
-    record { size = ap length (sym a); end = omega (arith, b); step = λ i l. absurd (omega arith) }
-steps-got s m (suc n) p bs q e =
-    needed _ _ _ _ _ e λ t h.
-    then-got h λ rest k e₁ g.
-    let (a, b) = got-inj g in
-    let r = steps-got s m n (p + 1) rest k e₁ in
-    subst (λ (x : List ℕ). Stepped s m (suc n) p x q) a
-    (subst (Stepped s m (suc n) p (getD s p 0 ∷ rest)) b (stepped-more s m n p rest k (ltb-true _ _ t) r))
+  pub read-problem-found : r .refused ≡ false → answered (record { facts = r .problem .facts; actions = r .problem .actions }) ≡ readProblem F s
+  unfolding readProblem _>>=_
+  read-problem-found h = let (p, e, w) = problem-found h in rw e (λ i. answered (record { facts = w .facts i; actions = w .actions i }))
 
-pub plan-stepped :
-    (t : List ℕ) (m : ℕ) (bs : List ℕ) (q : ℕ) → plan t m 0 ≡ got bs q → (headBytes ≤ length t) × Stepped t m (length t - headBytes) headBytes bs q
-unfolding plan _>>_
-plan-stepped t m bs q e =
-    then-got e λ u k e₁ h.
-    let (a, b) = header-got t 30 (headBytes + maxSteps) 1 k u e₁ in
-    (a, steps-got t m (length t - headBytes) headBytes bs q (subst (λ (x : ℕ). steps t m (length t - headBytes) x ≡ got bs q) b h))
+-- ---- a plan that was read
 
--- ---- the problem alone
+each-below : {m : ℕ} (bs : List ℕ) → Each (λ b. b < m) bs → (i : ℕ) → i < length bs → getD bs i 0 < m
+each-below [] k i l = absurd (not-suc-le-zero l)
+each-below (b ∷ bs) (h, k) zero l = h
+each-below (b ∷ bs) (h, k) (suc i) l = each-below bs k i (omega arith)
 
-module _ (F : Limits) (s : List ℕ) (r : Found) (f : Finds F s (bytes.problem F s 0) r) where
-  module _ (h : r .refused ≡ true) where
-    problem-refused : problemOf F s ≡ refusal (r .refusal)
-    unfolding problemOf answerOf
-    problem-refused = rw (f .refusal h)
+-- it ends with its block, and its steps are all that follows the header
+pub plan-read :
+    (t : List ℕ) (m : ℕ) {bs : List ℕ} {q : ℕ} → Bytes t → plan t m 0 ≡ got bs q →
+    (q ≡ length t) × (length t ≡ headBytes + length bs) × (drop headBytes t ≡ bs) × Each (λ b. b < m) bs
+unfolding encodePlan block bytesOf
+plan-read t m {bs} {q} b e =
+    let (k, z, end) = plan-gives t m b .of bs q e in
+    (end, ap length z ∙ length-block 1 bs, rw z, k .actions)
 
-    pub read-problem-refused : refusal (r .refusal) ≡ readProblem F s
-    unfolding readProblem Answer._>>=_
-    read-problem-refused = rw problem-refused
+-- ---- the task
 
-    task-refused : (t : List ℕ) → readTask F s t ≡ refusal (r .refusal)
-    unfolding readTask Answer._>>=_
-    task-refused t = rw problem-refused
+pub finds-none :
+    {F l : Limits} {s t : List ℕ} {p : declared.Problem} {k : ℕ} {y : Refusal} → l ≡ F → readTask F s t ≡ refusal y →
+    FindsTask F s t (record { refused = true; refusal = y; limits = l; problem = p; steps = k })
+finds-none v e = record { limits = v; refusal = λ z. e; found = λ z. absurd (true≢false z); stands = λ z. absurd (true≢false z) }
 
-    pub finds-no-problem :
-        (t : List ℕ) (k : ℕ) →
-        FindsTask F s t (record { refused = true; refusal = r .refusal; limits = F; problem = r .problem; steps = k })
-    finds-no-problem t k =
-        record { limits = refl; refusal = λ z. task-refused t; found = λ z. absurd (true≢false z); stands = λ z. absurd (true≢false z) }
-
-  -- the problem that was found
-  pub record Holds : Type 0 where
-    pub problem : bytes.Problem
-    pub read : problemOf F s ≡ answered problem
-    pub placed : Placed F s (r .problem) problem
+module _ {F : Limits} {s : List ℕ} {r : Found} (f : Finds F s (problem F s 0) r) (t : List ℕ) where
+  pub no-problem : r .refused ≡ true → readTask F s t ≡ refusal (r .refusal)
+  unfolding readTask problemOf answerOf _>>=_
+  no-problem h = rw (f .refusal h)
 
   module _ (h : r .refused ≡ false) where
-    holds : Holds
-    unfolding problemOf answerOf
-    holds = let (p, q, e, w) = f .found h in record { problem = p; read = ap answerOf e; placed = w }
+    pub no-plan : {y : Refusal} → plan t (r .problem .actions) 0 ≡ rejected y → readTask F s t ≡ refusal y
+    unfolding readTask planOf answerOf _>>=_
+    no-plan e = let (p, o, w) = problem-found f h in rw (o, ← w .actions, e)
 
-    pub read-problem-found :
-        answered (record { facts = r .problem .facts; actions = r .problem .actions }) ≡ readProblem F s
-    unfolding readProblem Answer._>>=_
-    read-problem-found =
-        let o = holds in
-        let w = o .placed in
-        rw (o .read) (λ i. answered (record { facts = w .facts i; actions = w .actions i }))
+    module _ {l : Limits} {q : ℕ} (v : l ≡ F) (S : Sensible F) (a : Bytes s) (b : Bytes t) (g : Got (plan t (r .problem .actions) 0) q) where
+      abbrev result : Task
+      result = record { refused = false; refusal = refusalAt 0 0; limits = l; problem = r .problem; steps = q - headBytes }
 
-    module _ (t : List ℕ) where
-      abbrev pub plan-as : Read (List ℕ)
-      plan-as = plan t (r .problem .actions) 0
-
-      plan-is : (p : bytes.Problem) → Placed F s (r .problem) p → plan t (length (p .actions)) 0 ≡ plan-as
-      plan-is p w = ap (λ (m : ℕ). plan t m 0) (sym (w .actions))
-
-      task-plan-refused : (y : Refusal) → plan-as ≡ rejected y → readTask F s t ≡ refusal y
-      unfolding readTask planOf answerOf Answer._>>=_
-      task-plan-refused y e = let o = holds in rw (o .read, plan-is (o .problem) (o .placed) ∙ e)
-
-      pub finds-no-plan :
-          (y : Refusal) (k : ℕ) → Refused y ≡ nextOf plan-as →
-          FindsTask F s t (record { refused = true; refusal = y; limits = F; problem = r .problem; steps = k })
-      finds-no-plan y k e =
+      task-at : TaskAt F s t result
+      unfolding planOf answerOf
+      task-at =
+          let (p, o, w) = problem-found f h in
+          let (end, size, body, below) = plan-read t (r .problem .actions) b (g .is) in
           record {
-            limits = refl;
-            refusal = λ z. task-plan-refused y (next-refused plan-as y (sym e));
-            found = λ z. absurd (true≢false z);
-            stands = λ z. absurd (true≢false z);
+            problem = p;
+            steps = g .value;
+            problem-read = o;
+            plan-read = rw (← w .actions, g .is);
+            placed = w;
+            count = omega arith;
+            fits = omega arith;
+            step = λ i n. (rw (← getD-drop headBytes t i 0, body), omega (arith, each-below (g .value) below i (omega arith), w .actions));
           }
 
-      module _ (q : ℕ) (e : Next q ≡ nextOf plan-as) where
-        pub found-plan : (bs : List ℕ) × (plan-as ≡ got bs q) × (headBytes ≤ length t) × Stepped t (r .problem .actions) (length t - headBytes) headBytes bs q
-        found-plan =
-            let o = next-got plan-as q (sym e) in
-            let (a, b) = plan-stepped t (r .problem .actions) (o .value) q (o .is) in
-            (o .value, o .is, a, b)
-
-        pub head-first : headBytes ≤ q
-        head-first = let (bs, a, b, d) = found-plan in omega (arith, d .end)
-
-        plan-read : (p : bytes.Problem) → Placed F s (r .problem) p → (bs : List ℕ) → plan-as ≡ got bs q → planOf t (length (p .actions)) ≡ answered bs
-        unfolding planOf answerOf
-        plan-read p w bs a = rw (plan-is p w ∙ a)
-
-        abbrev pub result : Task
-        result = record { refused = false; refusal = refusalAt 0 0; limits = F; problem = r .problem; steps = q - headBytes }
-
-        task-at : TaskAt F s t result
-        task-at =
-            let o = holds in
-            let (bs, a, b, d) = found-plan in
-            let w = o .placed in
-            record {
-              problem = o .problem;
-              steps = bs;
-              problem-read = o .read;
-              plan-read = plan-read (o .problem) w bs a;
-              placed = w;
-              count = omega (arith, d .size, d .end);
-              fits = omega (arith, d .end);
-              step = λ i l. let k = d .step i (omega (arith, d .end)) in (k .0, omega (arith, k .1, w .actions));
-            }
-
-        pub finds-task : Sensible F → Bytes s → FindsTask F s t result
-        finds-task S b =
-            record {
-              limits = refl;
-              refusal = λ z. absurd (true≢false (sym z));
-              found = λ z. task-at;
-              stands = λ z. stands-found S s t result b task-at refl;
-            }
-
--- what is found by numbers that are a version's
-pub finds-by : {F G : Limits} {s t : List ℕ} {r : Task} → F ≡ G → FindsTask F s t r → FindsTask G s t r
-finds-by {s = s} {t = t} {r = r} e = subst (λ (H : Limits). FindsTask H s t r) e
+      pub finds-task : FindsTask F s t result
+      unfolding task-at
+      finds-task =
+          let (end, size, body, below) = plan-read t (r .problem .actions) b (g .is) in
+          record {
+            limits = v;
+            refusal = λ z. absurd (true≢false (sym z));
+            found = λ z. task-at;
+            stands = λ z. stands-found S a task-at body v;
+          }
 
 -- ---- the plan beside its problem
 
-module _ (F : Limits) (s t : List ℕ) (r : Task) (f : FindsTask F s t r) where
-  -- a task is refused with the problem's refusal or the plan's, and so is a plan
-  plan-as-task : (x : Answer.Answer bytes.Problem) (y : bytes.Problem → Answer.Answer (List ℕ)) (n q : ℕ) →
-      Answer._>>=_ x (λ p. Answer._>>=_ (y p) (λ bs. answered (taskOf F p bs))) ≡ refused n q →
-      Answer._>>=_ x (λ p. Answer._>>=_ (y p) (λ bs. answered (length bs))) ≡ refused n q
-  unfolding Answer._>>=_
-  plan-as-task (refused m k) y n q e = cc
-  plan-as-task (answered p) y n q e = second (y p) e
-    where
-      second : (z : Answer.Answer (List ℕ)) → Answer._>>=_ z (λ bs. answered (taskOf F p bs)) ≡ refused n q →
-          Answer._>>=_ z (λ bs. answered (length bs)) ≡ refused n q
-      second (refused m k) g = cc
-      second (answered bs) g = let z : _≡_ {A = ℕ} 0 1 = cc in absurd (omega arith)
+-- what is refused before it is made is refused whatever is made of it
+alike :
+    {A B C : Type 0} {n q : ℕ} (x : Answer A) (j : A → Answer B) (k : A → Answer C) → ((a : A) → j a ≡ refused n q → k a ≡ refused n q) →
+    (x >>= j) ≡ refused n q → (x >>= k) ≡ refused n q
+unfolding _>>=_
+alike (refused m p) j k h e = cc
+alike (answered a) j k h e = h a e
 
+module _ {F : Limits} {s t : List ℕ} {r : Task} (f : FindsTask F s t r) where
   pub read-plan-refused : r .refused ≡ true → refusal (r .refusal) ≡ readPlan F s t
   unfolding readPlan readTask
-  read-plan-refused h = sym (plan-as-task (problemOf F s) (λ p. planOf t (length (p .actions))) (r .refusal .number) (r .refusal .place) (f .refusal h))
+  read-plan-refused h =
+      sym (alike (problemOf F s) _ _ (λ p. alike (planOf t (length (p .actions))) _ _ (λ bs e. absurd (not-refused refl e))) (f .refusal h))
 
   pub read-plan-found : r .refused ≡ false → answered (r .steps) ≡ readPlan F s t
-  unfolding readPlan Answer._>>=_
-  read-plan-found h = let o = f .found h in rw (o .problem-read, Answer._>>=_, o .plan-read) (ap answered (o .count))
+  unfolding readPlan _>>=_
+  read-plan-found h = let o = f .found h in rw (o .problem-read, _>>=_, o .plan-read) (ap answered (o .count))

@@ -107,9 +107,6 @@ unfolding runState Answer._>>=_
 run-refused problem plan r f h s = rw (f .refusal h)
 
 module _ (problem plan : List ℕ) (r : blocks.Task) (o : StandsFound version1 problem plan r) where
-  pub few-facts : r .problem .facts ≤ r .limits .facts
-  few-facts = omega (arith, o .facts, o .few)
-
   pub run-found :
       (s : ℕ) (steps : List ℕ) → steps ≡ take (length plan - headBytes) (drop headBytes plan) → (a : RunAnswer) →
       RunsTask (r .limits) problem steps (r .problem) s a → runAnswer a ≡ runState version1 problem plan s

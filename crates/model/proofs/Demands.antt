@@ -23,7 +23,7 @@ module _ (F : Limits) (S : Sensible F) where
   reading =
       record {
         problem-sound = λ s b p e. let (q, h) = answer-got (problem F s 0) e in problem-gives F S s b .of p q h;
-        plan-sound = λ s b m steps e. let (q, h) = answer-got (plan s m 0) e in plan-gives s m b .of steps q h;
+        plan-sound = λ s b m steps e. let (q, h) = answer-got (plan s m 0) e in let (k, z, _) = plan-gives s m b .of steps q h in (k, z);
         list-sound = list-sound F S;
         problem-accepted = λ p k. problem-ok F S (encodeProblem F p) p k refl;
         plan-accepted = λ m steps k. plan-ok (encodePlan steps) m steps k refl;

@@ -1,8 +1,9 @@
 -- Numbers in bytes, one byte more at a time. Assumes nothing.
-use mathlib.Core.Path.{_≡_, refl, sym, ap, _∙_}
+use mathlib.Core.Path.{_≡_, refl, _∙_}
 use mathlib.Core.List.{List, [], _∷_, _++_}
 use Prim.Native.Nat.{ℕ, suc, _+_, _-_, _*_, _/_, _%_, _^_, _≤_, _<_}
 use native.Mathlib.Nat.{pow-suc, pow-le-pow-right, div-div-eq-div-mul}
+use native.Mathlib.Numerals.{add-one}
 use native.Mathlib.Omega.{arith}
 use lib.ListN.{length, getD, take, drop, set, length-drop}
 use lib.Pow.{shl-exact}
@@ -21,12 +22,7 @@ pub one-more :
     x * 256 + getD s (at + i) 0 ≡ bigEndian (take (i + 1) (drop at s))
 one-more s at i x h e =
     let l : i < length (drop at s) = omega (arith, length-drop at s) in
-    let z : i + 1 ≡ suc i = omega arith in
-    sym
-    (ap (λ (j : ℕ). bigEndian (take j (drop at s))) z ∙
-    ap bigEndian (take-suc (drop at s) i 0 l ∙ ap (λ (b : ℕ). take i (drop at s) ++ (b ∷ [])) (getD-drop at s i 0)) ∙
-    from-last (take i (drop at s)) 0 (getD s (at + i) 0) ∙
-    ap (λ (y : ℕ). y * 256 + getD s (at + i) 0) (sym e))
+    rw (add-one, take-suc (drop at s) i 0, getD-drop, from-last, e)
 
 -- i bytes, and one more
 pub grows : (i x b : ℕ) → x < 256 ^ i → b < 256 → x * 256 + b < 256 ^ (i + 1)
@@ -39,25 +35,20 @@ fits i x b l h k = omega (arith, grows i x b h k, pow-le-pow-right {n = 256} (om
 
 sets-before : (vs l : List ℕ) (i j b : ℕ) → j < i → set (sets l i vs) j b ≡ sets (set l j b) i vs
 sets-before [] l i j b h = refl
-sets-before (v ∷ vs) l i j b h =
-    sets-before vs (set l i v) (suc i) j b (omega arith) ∙
-    ap (λ (m : List ℕ). sets m (suc i) vs) (set-comm l i j v b (λ e. omega arith))
+sets-before (v ∷ vs) l i j b h = rw (sets-before vs (set l i v) (suc i) j b (omega arith), set-comm l i j v b (λ e. omega arith))
 
--- the byte before m bytes of x that were stored
+-- the byte before m bytes of x that were stored, and what is left of x
 pub byte-before :
     (l : List ℕ) (at i n x rest : ℕ) → 0 < i → i ≤ n → rest ≡ x / 256 ^ (n - i) →
-    set (sets l (at + i) (bytesOf (n - i) x)) (at + (i - 1)) (rest % 256) ≡ sets l (at + (i - 1)) (bytesOf (n - (i - 1)) x)
+    (set (sets l (at + i) (bytesOf (n - i) x)) (at + (i - 1)) (rest % 256) ≡ sets l (at + (i - 1)) (bytesOf (n - (i - 1)) x)) ×
+    (rest / 256 ≡ x / 256 ^ (n - (i - 1)))
 unfolding bytesOf
 byte-before l at i n x rest p q e =
     let m : n - (i - 1) ≡ suc (n - i) = omega arith in
-    let o : at + i ≡ suc (at + (i - 1)) = omega arith in
-    sets-before (bytesOf (n - i) x) l (at + i) (at + (i - 1)) (rest % 256) (omega arith) ∙
-    rw (m, o, e)
-
-pub rest-before : (i n x rest : ℕ) → 0 < i → i ≤ n → rest ≡ x / 256 ^ (n - i) → rest / 256 ≡ x / 256 ^ (n - (i - 1))
-rest-before i n x rest p q e =
-    let m : n - (i - 1) ≡ suc (n - i) = omega arith in
-    rw (m, pow-suc 256 (n - i), e) (div-div-eq-div-mul x (256 ^ (n - i)) 256)
+    let o : at + i ≡ suc (at + (i - 1)) = omega arith in (
+      rw (sets-before (bytesOf (n - i) x) l (at + i) (at + (i - 1)) (rest % 256) (omega arith), m, o, e),
+      rw (m, pow-suc 256 (n - i), e) (div-div-eq-div-mul x (256 ^ (n - i)) 256),
+    )
 
 -- ---- bits
 

@@ -170,13 +170,13 @@ module _ (s : List ℕ) where
       let (_, e, v) = first r in
       rw (e, lt-ltb b m l, steps-ok m bs (p + 1) q k v)
 
-  pub plan-gives : (m : ℕ) → Bytes s → Gives (plan s m 0) (λ bs q. PlanOk m bs × (s ≡ encodePlan bs))
+  pub plan-gives : (m : ℕ) → Bytes s → Gives (plan s m 0) (λ bs q. PlanOk m bs × (s ≡ encodePlan bs) × (q ≡ length s))
   unfolding plan _>>_ encodePlan
   plan-gives m sound =
       reads (header-gives s 30 (5 + maxSteps) 1 0 sound) λ _ o (i, l, z, law).
       ends (steps-give m (length s - 5) o (omega arith)) λ bs q (a, b, c).
       let e : q ≡ length s = omega arith in
-      (record { count = omega (arith, span-length b); actions = a }, law bs (rw (i, e) at b))
+      (record { count = omega (arith, span-length b); actions = a }, law bs (rw (i, e) at b), e)
 
   pub plan-ok : (m : ℕ) (bs : List ℕ) → PlanOk m bs → s ≡ encodePlan bs → planOf s m ≡ answered bs
   unfolding planOf answerOf plan _>>_ encodePlan andThen

@@ -6,7 +6,7 @@ use borrow.Author.Needs.{needs}
 use lib.ListN.{length}
 use lib.Seq.{sets, length-sets}
 use Rattle.model.specs.Read.{bytesOf}
-use Rattle.numbers.proofs.Bytes.{byte-before, rest-before}
+use Rattle.numbers.proofs.Bytes.{byte-before}
 use Rattle.numbers.proofs.put_number.Statement.{statement}
 use Rattle.numbers.proofs.put_number.Tie as tie
 
@@ -28,11 +28,10 @@ slice-write-out c =
 
 loop-again : tie.Need-loop-again Inv-loop μ-loop
 loop-again c =
-    let l = c .before .before .loop in (
-      rw (l .inv .0, c .low-byte .ensures) (byte-before _ _ (l .i) _ _ (l .rest) (omega arith) (omega arith) (l .inv .1)),
-      rest-before (l .i) _ _ (l .rest) (omega arith) (omega arith) (l .inv .1),
-      omega arith,
-    )
+    let l = c .before .before .loop in
+    let a = c .before .before .before .before .args in
+    let (b, r) = byte-before (a .out .now) (a .at) (l .i) (a .n) (a .x) (l .rest) (omega arith) (omega arith) (l .inv .1) in
+    (rw (l .inv .0, c .low-byte .ensures) b, r, omega arith)
 
 same-length : tie.Need-same-length Inv-loop μ-loop
 same-length c = ap length (c .before .loop .inv .0) ∙ simp length-sets

@@ -3,13 +3,20 @@ use borrow.Author.Needs.{needs}
 use Rattle.blocks.proofs.action.read_action.Statement.{statement}
 use Rattle.blocks.proofs.action.read_action.Tie as tie
 use mathlib.Core.Path.{_∙_, sym}
-use Rattle.blocks.proofs.Effects.{action-refused, action-next}
+use Rattle.model.specs.Read.{andThen, _>>=_, done}
+use Rattle.model.specs.ProblemBytes.{action}
+use Rattle.formula.proofs.Readers.{then-next}
+use Rattle.blocks.proofs.Headers.{was-got, stays-refused}
 
 returns : tie.Need-returns
-returns c = action-refused _ _ _ _ _ (sym (c .before .r .given .1) ∙ c .before .before .before .read-formula .ensures)
+unfolding action _>>=_
+returns c = stays-refused _ _ (c .before .before .before .read-formula .ensures) (c .before .r .given .1)
 
 returns-2 : tie.Need-returns-2
-returns-2 c = c .read-effect-list .ensures ∙ action-next _ _ _ _ _ (sym (c .before .before .next .given .1) ∙ c .before .before .before .before .read-formula .ensures)
+unfolding action _>>=_ andThen done
+returns-2 c =
+    let g = was-got (c .before .before .before .before .read-formula .ensures) (c .before .before .next .given .1) in
+    rw (g .is) (c .read-effect-list .ensures ∙ sym (then-next _ _))
 
 pub read-action-spec : {M : Type 1} → statement M
 read-action-spec =

@@ -3,21 +3,37 @@ use borrow.Author.Needs.{needs}
 use Rattle.blocks.proofs.action.read_effect.Statement.{statement}
 use Rattle.blocks.proofs.action.read_effect.Tie as tie
 use mathlib.Core.Path.{_∙_, sym}
-use native.Mathlib.Omega.{arith}
-use borrow.Author.Tests.{not-true, not-false}
-use Rattle.blocks.proofs.Effects.{effect-past, effect-undeclared, effect-low, effect-formula}
+use borrow.Author.Tests.{lt-ltb, le-ltb, lt-leb, not-true, not-false}
+use Rattle.model.specs.Read.{andThen, _>>=_, _>>_, position, require, byte}
+use Rattle.model.specs.ProblemBytes.{effect}
+use Rattle.blocks.proofs.Effects.{effect-formula}
 
 returns : tie.Need-returns
-returns c = rw (c .refusal .ensures) (effect-past _ _ _ _ (omega arith))
+unfolding effect _>>=_ _>>_ andThen position byte
+returns c = rw (c .refusal .ensures, le-ltb _ _ (c .before .if1 .taken))
 
 returns-2 : tie.Need-returns-2
-returns-2 c = rw (c .refusal2 .ensures) (effect-undeclared _ _ _ _ (omega arith) (sym (c .before .before .is-literal .ensures) ∙ not-true _ (c .before .if2 .taken)))
+unfolding effect _>>=_ _>>_ andThen position byte require
+returns-2 c =
+    let a = c .before .before in
+    let k = sym (a .is-literal .ensures) ∙ not-true _ (c .before .if2 .taken) in
+    rw (c .refusal2 .ensures, lt-ltb _ _ (a .before .before .if1 .left), k)
 
 returns-3 : tie.Need-returns-3
-returns-3 c = rw (c .refusal3 .ensures) (effect-low _ _ _ _ (omega arith) (sym (c .before .before .before .before .is-literal .ensures) ∙ not-false _ (c .before .before .before .if2 .left)) (omega (arith, c .before .before .wide .ensures .0)))
+unfolding effect _>>=_ _>>_ andThen position byte require
+returns-3 c =
+    let w = c .before .before in
+    let a = w .before .before in
+    let k = sym (a .is-literal .ensures) ∙ not-false _ (w .before .if2 .left) in
+    let l = lt-leb _ _ (rw (w .wide .ensures .0) at (c .before .if3 .taken)) in
+    rw (c .refusal3 .ensures, lt-ltb _ _ (a .before .before .if1 .left), k, l)
 
 returns-4 : tie.Need-returns-4
-returns-4 c = effect-formula _ _ _ _ (omega arith) (sym (c .before .before .before .before .is-literal .ensures) ∙ not-false _ (c .before .before .before .if2 .left)) (omega (arith, c .before .before .wide .ensures .0)) _ (c .read-formula .ensures)
+returns-4 c =
+    let w = c .before .before in
+    let a = w .before .before in
+    let k = sym (a .is-literal .ensures) ∙ not-false _ (w .before .if2 .left) in
+    effect-formula _ _ _ _ (a .before .before .if1 .left) k (rw (w .wide .ensures .0) at (c .before .if3 .left)) _ (c .read-formula .ensures)
 
 pub read-effect-spec : {M : Type 1} → statement M
 read-effect-spec =

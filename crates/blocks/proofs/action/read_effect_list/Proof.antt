@@ -2,19 +2,23 @@
 use borrow.Author.Needs.{needs}
 use Rattle.blocks.proofs.action.read_effect_list.Statement.{statement}
 use Rattle.blocks.proofs.action.read_effect_list.Tie as tie
-use mathlib.Core.Path.{_∙_}
 use native.Mathlib.Omega.{arith}
-use Rattle.blocks.proofs.Headers.{count-refused, count-got, count-within}
-use Rattle.blocks.proofs.Effects.{list-refused, list-next}
+use Rattle.model.specs.Read.{andThen, _>>=_}
+use Rattle.model.specs.ProblemBytes.{effectList}
+use Rattle.formula.specs.Readings.{nextOf}
 
 add-read-effects : tie.Need-add-read-effects
-add-read-effects c = omega (arith, count-within _ _ _ _ _ _ (c .before .before .before .count-at .ensures) _ (c .before .n .given .1) .1)
+add-read-effects c = let k = rw (c .before .n .given .1) at (c .before .before .before .count-at .ensures) in omega arith
 
 returns : tie.Need-returns
-returns c = list-refused _ _ _ _ _ (count-refused _ _ _ _ _ _ (c .before .before .before .count-at .ensures) _ (c .before .r .given .1))
+unfolding effectList _>>=_ andThen nextOf
+returns c = let k = rw (c .before .r .given .1) at (c .before .before .before .count-at .ensures) in rw (← k .is)
 
 returns-2 : tie.Need-returns-2
-returns-2 c = c .read-effects .ensures ∙ list-next _ _ _ _ _ _ (count-got _ _ _ _ _ _ (c .before .before .before .before .count-at .ensures) _ (c .before .before .n .given .1))
+unfolding effectList _>>=_ andThen
+returns-2 c =
+    let k = rw (c .before .before .n .given .1) at (c .before .before .before .before .count-at .ensures) in
+    rw (← k .is) (c .read-effects .ensures)
 
 pub read-effect-list-spec : {M : Type 1} → statement M
 read-effect-list-spec =

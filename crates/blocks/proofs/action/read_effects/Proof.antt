@@ -2,12 +2,12 @@
 use borrow.Author.Needs.{needs}
 use Rattle.blocks.proofs.action.read_effects.Statement.{statement}
 use Rattle.blocks.proofs.action.read_effects.Tie as tie
-use mathlib.Core.Path.{_≡_, refl, sym, ap, _∙_}
+use mathlib.Core.Path.{_≡_, sym, _∙_}
 use native.Mathlib.Omega.{arith}
-use Prim.Native.Nat.{ℕ, _+_, _-_}
+use Rattle.model.specs.Read.{done}
 use Rattle.model.specs.ProblemBytes.{effects}
 use Rattle.formula.specs.Readings.{nextOf}
-use Rattle.blocks.proofs.Effects.{effects-none, effects-next, answered-refused, answered-next}
+use Rattle.blocks.proofs.Effects.{effects-refused, effects-next}
 
 abbrev Inv-loop : tie.InvT-loop
 Inv-loop s at facts n p₀ k₀ least₀ p k least = nextOf (effects s facts n 0 at) ≡ nextOf (effects s facts k least p)
@@ -15,23 +15,27 @@ Inv-loop s at facts n p₀ k₀ least₀ p k least = nextOf (effects s facts n 0
 abbrev μ-loop : tie.MeasureT-loop
 μ-loop s at facts n p₀ k₀ least₀ p k least = k
 
-loop-holds : tie.Need-loop-holds Inv-loop μ-loop
-loop-holds c = refl
-
 returns : tie.Need-returns Inv-loop μ-loop
-returns c = sym (c .before .before .before .before .before .loop .inv ∙ sym (answered-refused _ _ _ _ _ _ (omega arith) (c .before .before .before .read-effect .ensures) _ (c .before .r .given .1)))
+returns c =
+    let k = c .before .before .before in
+    effects-refused _ _ _ _ (omega arith) (rw (c .before .r .given .1) at (k .read-effect .ensures)) ∙
+    sym (k .before .before .loop .inv)
 
 shared-slice-read-wide : tie.Need-shared-slice-read-wide Inv-loop μ-loop
-shared-slice-read-wide c = answered-next _ _ _ _ _ (c .before .before .before .before .read-effect .ensures) _ (c .before .before .next .given .1) .inside
-
-add-least : tie.Need-add-least Inv-loop μ-loop
-add-least c = omega (arith, c .wide .ensures .1)
+shared-slice-read-wide c = let g = rw (c .before .before .next .given .1) at (c .before .before .before .before .read-effect .ensures) in g .inside
 
 loop-again : tie.Need-loop-again Inv-loop μ-loop
-loop-again c = c .before .before .before .before .before .before .before .loop .inv ∙ effects-next _ _ _ _ _ _ (omega arith) (answered-next _ _ _ _ _ (c .before .before .before .before .before .read-effect .ensures) _ (c .before .before .before .next .given .1)) ∙ ap (λ (x : ℕ). nextOf (effects (c .before .before .before .before .before .before .before .before .before .args .s .now) (c .before .before .before .before .before .before .before .before .before .args .facts) (c .before .before .before .before .before .before .before .loop .k - 1) (x + 1) (c .before .before .before .next .given .0 .0))) (sym (c .wide .ensures .0))
+loop-again c =
+    let k = c .before .before .before .before .before in
+    let g = rw (c .before .before .before .next .given .1) at (k .read-effect .ensures) in
+    rw (c .wide .ensures .0) (k .before .before .loop .inv ∙ effects-next _ _ _ _ (omega arith) g)
 
 returns-2 : tie.Need-returns-2 Inv-loop μ-loop
-returns-2 c = sym (c .before .loop .inv ∙ sym (effects-none _ _ _ _ _ (omega arith)))
+unfolding effects done nextOf
+returns-2 c =
+    let l = c .before .loop in
+    let e : l .k ≡ 0 = omega arith in
+    sym (rw e at (l .inv))
 
 pub read-effects-spec : {M : Type 1} → statement M
 read-effects-spec =
@@ -39,14 +43,14 @@ read-effects-spec =
     (tie.spec
     Inv-loop
     μ-loop
-    loop-holds
+    (λ c. search needs)
     (λ c κs. search needs)
     (λ c. search needs)
     returns
     (λ c. search needs)
     shared-slice-read-wide
     (λ c κs. search needs)
-    add-least
+    (λ c. omega arith)
     (λ c. omega arith)
     (λ c. omega arith)
     loop-again

@@ -3,23 +3,39 @@ use borrow.Author.Needs.{needs}
 use Rattle.blocks.proofs.header.check_header.Statement.{statement}
 use Rattle.blocks.proofs.header.check_header.Tie as tie
 use mathlib.Core.Path.{_∙_, sym}
-use native.Mathlib.Omega.{arith}
-use Rattle.blocks.proofs.Headers.{header-long, header-short, header-version, header-length, header-ok}
+use borrow.Author.Tests.{le-leb, lt-leb, eq-eqb, ne-eqb}
+use Rattle.model.specs.Read.{andThen, _>>_, require, header}
+use Rattle.formula.specs.Readings.{nextOf}
 
 returns : tie.Need-returns
-returns c = rw (c .refusal .ensures) (header-long _ _ _ _ (omega arith))
+unfolding header _>>_ andThen require nextOf
+returns c = rw (c .refusal .ensures, lt-leb _ _ (c .before .if1 .taken))
 
 returns-2 : tie.Need-returns-2
-returns-2 c = rw (c .refusal2 .ensures) (header-short _ _ _ _ (omega arith) (omega arith))
+unfolding header _>>_ andThen require nextOf
+returns-2 c = rw (c .refusal2 .ensures, le-leb _ _ (c .before .before .if1 .left), lt-leb _ _ (c .before .if2 .taken))
 
 returns-3 : tie.Need-returns-3
-returns-3 c = rw (c .refusal3 .ensures) (header-version _ _ _ _ (omega arith) (omega arith) (c .before .if3 .taken))
+unfolding header _>>_ andThen require nextOf
+returns-3 c =
+    let k = c .before .before .before in
+    rw (c .refusal3 .ensures, le-leb _ _ (k .before .if1 .left), le-leb _ _ (k .if2 .left), ne-eqb _ _ (c .before .if3 .taken))
 
 returns-4 : tie.Need-returns-4
-returns-4 c = rw (c .refusal4 .ensures) (header-length _ _ _ _ (omega arith) (omega arith) (c .before .before .before .if3 .left) (λ e. c .before .if4 .taken (c .before .before .read-number .ensures .0 ∙ e)))
+unfolding header _>>_ andThen require nextOf
+returns-4 c =
+    let n = c .before .before in
+    let k = n .before .before .before in
+    let l = ne-eqb _ _ (λ e. c .before .if4 .taken (n .read-number .ensures .0 ∙ e)) in
+    rw (c .refusal4 .ensures, le-leb _ _ (k .before .if1 .left), le-leb _ _ (k .if2 .left), eq-eqb _ _ (n .before .if3 .left), l)
 
 returns-5 : tie.Need-returns-5
-returns-5 c = header-ok _ _ _ _ (omega arith) (omega arith) (c .before .before .if3 .left) (sym (c .before .read-number .ensures .0) ∙ c .if4 .left)
+unfolding header _>>_ andThen require nextOf
+returns-5 c =
+    let n = c .before in
+    let k = n .before .before .before in
+    let l = eq-eqb _ _ (sym (n .read-number .ensures .0) ∙ c .if4 .left) in
+    rw (le-leb _ _ (k .before .if1 .left), le-leb _ _ (k .if2 .left), eq-eqb _ _ (n .before .if3 .left), l)
 
 pub check-header-spec : {M : Type 1} → statement M
 check-header-spec =

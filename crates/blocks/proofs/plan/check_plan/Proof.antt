@@ -2,14 +2,19 @@
 use borrow.Author.Needs.{needs}
 use Rattle.blocks.proofs.plan.check_plan.Statement.{statement}
 use Rattle.blocks.proofs.plan.check_plan.Tie as tie
-use mathlib.Core.Path.{_∙_, sym}
-use Rattle.blocks.proofs.Steps.{plan-refused, plan-next}
+use Rattle.model.specs.Read.{andThen, _>>_}
+use Rattle.model.specs.ProblemBytes.{plan}
+use Rattle.blocks.proofs.Headers.{was-got, stays-refused, header-got}
 
 returns : tie.Need-returns
-returns c = plan-refused _ _ _ (sym (c .before .r .given .1) ∙ c .before .before .before .check-header .ensures)
+unfolding plan _>>_
+returns c = stays-refused _ _ (c .before .before .before .check-header .ensures) (c .before .r .given .1)
 
 returns-2 : tie.Need-returns-2
-returns-2 c = c .check-steps .ensures ∙ plan-next _ _ _ (sym (c .before .before .at .given .1) ∙ c .before .before .before .before .check-header .ensures)
+unfolding plan _>>_ andThen
+returns-2 c =
+    let g = was-got (c .before .before .before .before .check-header .ensures) (c .before .before .at .given .1) in
+    rw (g .is, ← header-got _ _ _ _ _ _ (g .is) .1) (c .check-steps .ensures)
 
 pub check-plan-spec : {M : Type 1} → statement M
 check-plan-spec =

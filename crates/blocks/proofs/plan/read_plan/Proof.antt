@@ -7,14 +7,14 @@ use Rattle.blocks.proofs.Promise.{of-slice, plan-promised}
 
 returns : tie.Need-returns
 returns c =
-    let e = read-plan-refused _ _ _ _ (c .before .before .find-task .ensures) (c .before .if1 .taken) in
+    let e = read-plan-refused (c .before .before .find-task .ensures) (c .before .if1 .taken) in
     let k = c .before .before .before in
     let a = k .before .before .args in
     (e, plan-promised _ _ (of-slice (a .problem .now) (k .before .shared-slice-known .given)) (of-slice (a .plan .now) (k .shared-slice-known2 .given)) _ e)
 
 returns-2 : tie.Need-returns-2
 returns-2 c =
-    let e = read-plan-found _ _ _ _ (c .before .find-task .ensures) (c .if1 .left) in
+    let e = read-plan-found (c .before .find-task .ensures) (c .if1 .left) in
     let k = c .before .before in
     let a = k .before .before .args in
     (e, plan-promised _ _ (of-slice (a .problem .now) (k .before .shared-slice-known .given)) (of-slice (a .plan .now) (k .shared-slice-known2 .given)) _ e)

@@ -2,28 +2,49 @@
 use borrow.Author.Needs.{needs}
 use Rattle.blocks.proofs.problem.find_body.Statement.{statement}
 use Rattle.blocks.proofs.problem.find_body.Tie as tie
-use mathlib.Core.Path.{refl}
+use mathlib.Core.Path.{_≡_}
+use Prim.Native.Nat.{_+_}
 use native.Mathlib.Omega.{arith}
-use Rattle.blocks.proofs.Headers.{count-refused, count-got, count-within}
-use Rattle.blocks.proofs.Problems.{finds-refused, finds-as, body-refused, body-actions-refused, body-got}
+use Rattle.model.specs.Read.{andThen, _>>=_}
+use Rattle.model.specs.ProblemBytes.{body}
+use Rattle.blocks.proofs.Problems.{finds-refused}
 
 add-count-at : tie.Need-add-count-at
-add-count-at c = omega (arith, count-within _ _ _ _ _ _ (c .before .before .before .count-at .ensures) _ (c .before .facts .given .1) .1)
+add-count-at c = let k = rw (c .before .facts .given .1) at (c .before .before .before .count-at .ensures) in omega arith
 
 add-find-parts : tie.Need-add-find-parts
-add-find-parts c = omega (arith, count-within _ _ _ _ _ _ (c .before .before .before .count-at2 .ensures) _ (c .before .m .given .1) .1)
+add-find-parts c = let k = rw (c .before .m .given .1) at (c .before .before .before .count-at2 .ensures) in omega arith
 
 find-parts-requires : tie.Need-find-parts-requires
-find-parts-requires c κs = (count-within _ _ _ _ _ _ (c .before .before .before .before .before .before .before .count-at .ensures) _ (c .before .before .before .before .before .facts .given .1) .0, count-within _ _ _ _ _ _ (c .before .before .before .count-at2 .ensures) _ (c .before .m .given .1) .0)
+find-parts-requires c κs =
+    let b = c .before .before .before .before in
+    let k = rw (b .before .facts .given .1) at (b .before .before .before .count-at .ensures) in
+    let l = rw (c .before .m .given .1) at (c .before .before .before .count-at2 .ensures) in
+    (k .bounded .0, l .bounded .0)
 
 returns : tie.Need-returns
-returns c = finds-refused _ _ _ _ _ (c .refused .ensures) (body-refused _ _ _ _ (count-refused _ _ _ _ _ _ (c .before .before .before .before .count-at .ensures) _ (c .before .before .r .given .1)))
+unfolding body _>>=_ andThen
+returns c =
+    let k = rw (c .before .before .r .given .1) at (c .before .before .before .before .count-at .ensures) in
+    finds-refused (c .refused .ensures) (rw (← k .is))
 
 returns-2 : tie.Need-returns-2
-returns-2 c = finds-refused _ _ _ _ _ (c .refused2 .ensures) (body-actions-refused _ _ _ _ _ (count-got _ _ _ _ _ _ (c .before .before .before .before .before .before .before .before .count-at .ensures) _ (c .before .before .before .before .before .before .facts .given .1)) _ (count-refused _ _ _ _ _ _ (c .before .before .before .before .count-at2 .ensures) _ (c .before .before .r2 .given .1)))
+unfolding body _>>=_ andThen
+returns-2 c =
+    let b = c .before .before .before .before .before in
+    let k = rw (b .before .facts .given .1) at (b .before .before .before .count-at .ensures) in
+    let l = rw (c .before .before .r2 .given .1) at (c .before .before .before .before .count-at2 .ensures) in
+    finds-refused (c .refused2 .ensures) (rw (← k .is, ← l .is))
 
 returns-3 : tie.Need-returns-3
-returns-3 c = finds-as _ _ _ _ _ (body-got _ _ _ _ _ (count-got _ _ _ _ _ _ (c .before .before .before .before .before .before .before .before .count-at .ensures) _ (c .before .before .before .before .before .before .facts .given .1)) _ refl (count-got _ _ _ _ _ _ (c .before .before .before .before .count-at2 .ensures) _ (c .before .before .m .given .1))) (c .find-parts .ensures)
+unfolding body _>>=_ andThen
+returns-3 c =
+    let b = c .before .before .before .before .before in
+    let a = b .before .before .before .before .before .args in
+    let k = rw (b .before .facts .given .1) at (b .before .before .before .count-at .ensures) in
+    let l = rw (c .before .before .m .given .1) at (c .before .before .before .before .count-at2 .ensures) in
+    let e : (a .at + 1) + 1 ≡ a .at + 2 = omega arith in
+    rw (← k .is, ← l .is, e) (c .find-parts .ensures)
 
 pub find-body-spec : {M : Type 1} → statement M
 find-body-spec =

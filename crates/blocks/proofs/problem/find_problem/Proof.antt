@@ -2,14 +2,22 @@
 use borrow.Author.Needs.{needs}
 use Rattle.blocks.proofs.problem.find_problem.Statement.{statement}
 use Rattle.blocks.proofs.problem.find_problem.Tie as tie
-use mathlib.Core.Path.{_∙_, sym}
-use Rattle.blocks.proofs.Problems.{finds-refused, finds-as, problem-refused, problem-got}
+use Rattle.model.specs.Read.{andThen, _>>_}
+use Rattle.model.specs.ProblemBytes.{problem}
+use Rattle.blocks.proofs.Headers.{was-refused, was-got}
+use Rattle.blocks.proofs.Problems.{finds-refused}
 
 returns : tie.Need-returns
-returns c = finds-refused _ _ _ _ _ (c .refused .ensures) (problem-refused _ _ _ (sym (c .before .before .r .given .1) ∙ c .before .before .before .before .check-header .ensures))
+unfolding problem _>>_ andThen
+returns c =
+    let e = was-refused (c .before .before .before .before .check-header .ensures) (c .before .before .r .given .1) in
+    finds-refused (c .refused .ensures) (rw e)
 
 returns-2 : tie.Need-returns-2
-returns-2 c = finds-as _ _ _ _ _ (problem-got _ _ _ (sym (c .before .before .at .given .1) ∙ c .before .before .before .before .check-header .ensures)) (c .find-body .ensures)
+unfolding problem _>>_ andThen
+returns-2 c =
+    let g = was-got (c .before .before .before .before .check-header .ensures) (c .before .before .at .given .1) in
+    rw (g .is) (c .find-body .ensures)
 
 pub find-problem-spec : {M : Type 1} → statement M
 find-problem-spec =

@@ -2,7 +2,7 @@
 use mathlib.Core.Path.{refl}
 use native.Mathlib.Omega.{arith}
 use borrow.Author.Needs.{needs}
-use Rattle.execute.proofs.Starting.{few-facts}
+use Rattle.blocks.proofs.Standing.{few-facts}
 use Rattle.certificate.proofs.Lists.{left-as, body-small, list-refused, list-undecided, list-wrong, list-over, list-short, list-written}
 use Rattle.certificate.proofs.write.write_list.Statement.{statement}
 use Rattle.certificate.proofs.write.write_list.Tie as tie
@@ -23,7 +23,7 @@ write-list-spec =
     (λ c. sub-walk-task c)
     (λ c. search needs)
     (λ c. search needs)
-    (λ c κs. let o = c .before .before .before .before .before .find-task .ensures .stands (c .before .before .before .before .if1 .left) in (o .sensible, few-facts _ _ _ o))
+    (λ c κs. let o = c .before .before .before .before .before .find-task .ensures .stands (c .before .before .before .before .if1 .left) in (o .sensible, few-facts _ _ _ _ o))
     (λ c. search needs)
     (λ c κs. search needs)
     (λ c. search needs)
@@ -38,7 +38,7 @@ write-list-spec =
     sub-write-task
     (λ c. sub-write-task c)
     (λ c. search needs)
-    (λ c κs. let o = c .before .before .before .before .before .before .before .before .before .before .before .before .before .before .before .find-task .ensures .stands (c .before .before .before .before .before .before .before .before .before .before .before .before .before .before .if1 .left) in (o .sensible, few-facts _ _ _ o, omega arith))
+    (λ c κs. let o = c .before .before .before .before .before .before .before .before .before .before .before .before .before .before .before .find-task .ensures .stands (c .before .before .before .before .before .before .before .before .before .before .before .before .before .before .if1 .left) in (o .sensible, few-facts _ _ _ _ o, omega arith))
     (λ c. left-as (c .refusal2 .ensures) (list-undecided _ _ _ (c .before .before .before .before .before .before .before .before .before .before .find-task .ensures) (c .before .before .before .before .before .before .before .before .before .before .find-task .ensures .stands (c .before .before .before .before .before .before .before .before .before .if1 .left)) _ _ _ refl _ _ _ _ (c .before .before .before .before .walk-task .ensures) (c .before .enum-told .given .1)))
     (λ c. left-as (c .refusal3 .ensures) (list-wrong _ _ _ (c .before .before .before .before .before .before .before .before .before .before .before .find-task .ensures) (c .before .before .before .before .before .before .before .before .before .before .before .find-task .ensures .stands (c .before .before .before .before .before .before .before .before .before .before .if1 .left)) _ _ _ refl _ _ _ _ (c .before .before .before .before .before .walk-task .ensures) _ _ (c .before .before .visits .given .1)))
     (λ c. search needs)

@@ -2,7 +2,8 @@
 use mathlib.Core.Path.{refl}
 use native.Mathlib.Omega.{arith}
 use borrow.Author.Needs.{needs}
-use Rattle.execute.proofs.Starting.{run-refused, few-facts, run-found}
+use Rattle.execute.proofs.Starting.{run-refused, run-found}
+use Rattle.blocks.proofs.Standing.{few-facts}
 use Rattle.execute.proofs.Promise.{run-promised}
 use Rattle.execute.proofs.operation.run.Statement.{statement}
 use Rattle.execute.proofs.operation.run.Tie as tie
@@ -14,7 +15,7 @@ run-task-requires : tie.Need-run-task-requires
 run-task-requires c κs =
     let k = c .before .before .before in
     let o = k .before .find-task .ensures .stands (k .if1 .left) in
-    (o .sensible, few-facts _ _ _ o)
+    (o .sensible, few-facts _ _ _ _ o)
 
 returns-2 : tie.Need-returns-2
 returns-2 c =

@@ -3,7 +3,7 @@ use mathlib.Core.Path.{refl}
 use native.Mathlib.Omega.{arith}
 use borrow.Author.Needs.{needs}
 use Rattle.judge.proofs.Verdicts.{judge-refused, judge-found}
-use Rattle.execute.proofs.Starting.{few-facts}
+use Rattle.blocks.proofs.Standing.{few-facts}
 use Rattle.judge.proofs.Promise.{judge-promised}
 use Rattle.judge.proofs.operation.judge.Statement.{statement}
 use Rattle.judge.proofs.operation.judge.Tie as tie
@@ -15,7 +15,7 @@ judge-task-requires : tie.Need-judge-task-requires
 judge-task-requires c κs =
     let k = c .before .before .before .before in
     let o = k .before .find-task .ensures .stands (k .if1 .left) in
-    (o .sensible, few-facts _ _ _ o)
+    (o .sensible, few-facts _ _ _ _ o)
 
 returns-2 : tie.Need-returns-2
 returns-2 c =

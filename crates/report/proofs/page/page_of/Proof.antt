@@ -2,7 +2,7 @@
 use mathlib.Core.Path.{refl}
 use native.Mathlib.Omega.{arith}
 use borrow.Author.Needs.{needs}
-use Rattle.execute.proofs.Starting.{few-facts}
+use Rattle.blocks.proofs.Standing.{few-facts}
 use Rattle.report.proofs.Pages.{page-refused, page-found}
 use Rattle.report.proofs.page.page_of.Statement.{statement}
 use Rattle.report.proofs.page.page_of.Tie as tie
@@ -13,7 +13,7 @@ sub-judge-task c = omega (arith, c .before .before .before .find-task .ensures .
 judge-task-requires : tie.Need-judge-task-requires
 judge-task-requires c κs =
     let o = c .before .before .before .before .before .find-task .ensures .stands (c .before .before .before .if1 .left) in
-    (o .sensible, few-facts _ _ _ o)
+    (o .sensible, few-facts _ _ _ _ o)
 
 returns-2 : tie.Need-returns-2
 returns-2 c =

@@ -3,32 +3,31 @@ use Rattle.table.proofs.block.fix_path.Statement.{statement}
 use Rattle.table.proofs.block.fix_path.Tie as tie
 use native.Mathlib.Omega.{arith}
 use borrow.Author.Needs.{needs}
-use Prim.Native.Nat.{_-_, _≤_}
-use Rattle.table.proofs.Blocks.{Copied, copied-none, copied-next, copied-end}
+use Prim.Native.Nat.{_+_, _-_, _≤_}
+use Rattle.table.proofs.Facts.{Sets, sets-none}
+use Rattle.table.proofs.Blocks.{copied, copied-next, copied-ends}
 
 abbrev Inv-loop : tie.InvT-loop
-Inv-loop c₀ k d lane i₀ c i = (i ≤ d) × Copied c₀ k i lane c
+Inv-loop c₀ k d lane i₀ c i = (i ≤ d) × Sets c₀ k (k + i) (copied lane) c
 
 abbrev μ-loop : tie.MeasureT-loop
 μ-loop c₀ k d lane i₀ c i = d - i
 
 loop-holds : tie.Need-loop-holds Inv-loop μ-loop
-loop-holds c = (omega arith, copied-none _ _ _ (c .pre .0))
-
-set-fact-requires : tie.Need-set-fact-requires Inv-loop μ-loop
-set-fact-requires c κs = (c .before .before .before .before .before .before .loop .inv .1 .size, omega arith)
+loop-holds c = (omega arith, sets-none (omega arith) (c .pre .0))
 
 loop-again : tie.Need-loop-again Inv-loop μ-loop
 loop-again c =
     let second = c .before .before in
     let first = second .before .before in
-    let now = first .before .before .before in
-    let more =
-    copied-next _ _ _ _ _ _ _ _ (now .before .pre .1) (omega arith) (now .loop .inv .1) (first .spread .ensures) (second .spread2 .ensures) (c .set-fact .ensures) in
-    (omega arith, more)
+    let now = first .before .before .before in (
+      omega arith,
+      copied-next (now .before .pre .1) (omega arith) (omega arith) (now .loop .inv .1) (first .spread .ensures)
+          (second .spread2 .ensures) (c .set-fact .ensures),
+    )
 
 returns : tie.Need-returns Inv-loop μ-loop
-returns c = copied-end _ _ _ _ _ _ (c .before .loop .inv .0) (omega arith) (c .before .loop .inv .1)
+returns c = copied-ends (omega arith) (c .before .loop .inv .1)
 
 pub fix-path-spec : {M : Type 1} → statement M
 fix-path-spec =
@@ -47,7 +46,7 @@ fix-path-spec =
     (λ c. search needs)
     (λ c. search needs)
     (λ c κs. search needs)
-    set-fact-requires
+    (λ c κs. omega arith)
     (λ c. search needs)
     (λ c. search needs)
     loop-again

@@ -4,7 +4,7 @@ use Rattle.table.proofs.case.common.Tie as tie
 use native.Mathlib.Omega.{arith}
 use mathlib.Core.Logic.{⊎-elim}
 use Prim.Native.Nat.{_≤_}
-use Rattle.table.proofs.Cases.{common-ends}
+use Rattle.table.proofs.Cases.{alike-bits}
 
 abbrev Inv-loop : tie.InvT-loop
 Inv-loop k0 v0 k v m₀ m = (m ≤ k0) × (m ≤ k)
@@ -16,7 +16,7 @@ loop-holds : tie.Need-loop-holds Inv-loop μ-loop
 loop-holds c = ⊎-elim (λ w. omega arith) (λ w. omega arith) (c .if1 .came)
 
 returns : tie.Need-returns Inv-loop μ-loop
-returns c = common-ends _ _ _ _ _ (omega arith) (omega arith) (omega arith) (c .if2 .taken)
+returns c = record { first = omega arith; second = omega arith; alike = λ f l. alike-bits _ _ _ f (omega arith) (c .if2 .taken) l }
 
 returns-2 : tie.Need-returns-2 Inv-loop μ-loop
 returns-2 c = record { first = omega arith; second = omega arith; alike = λ f l. absurd (omega arith) }

@@ -4,31 +4,27 @@ use Rattle.table.proofs.case.fix_bits.Tie as tie
 use native.Mathlib.Omega.{arith}
 use borrow.Author.Needs.{needs}
 use Prim.Native.Nat.{_-_, _≤_, max}
-use Rattle.table.specs.Tables.{SetsFacts}
 use Rattle.table.specs.Cases.{bitsOf}
-use Rattle.table.proofs.Facts.{sets-none, sets-next, sets-ends}
+use Rattle.table.proofs.Facts.{Sets, sets-none, sets-next, sets-ends}
 use Rattle.table.proofs.Cases.{bits-lanes}
 
 abbrev Inv-loop : tie.InvT-loop
-Inv-loop c₀ from to word f₀ c f = (from ≤ f) × (f ≤ max from to) × SetsFacts c₀ from f (bitsOf word) c
+Inv-loop c₀ from to word f₀ c f = (f ≤ max from to) × Sets c₀ from f (λ case. bitsOf word) c
 
 abbrev μ-loop : tie.MeasureT-loop
 μ-loop c₀ from to word f₀ c f = to - f
 
 loop-holds : tie.Need-loop-holds Inv-loop μ-loop
-loop-holds c = (omega arith, omega arith, sets-none _ _ _ (c .pre .0))
-
-set-fact-requires : tie.Need-set-fact-requires Inv-loop μ-loop
-set-fact-requires c κs = (c .before .before .before .loop .inv .2 .size, omega arith)
+loop-holds c = (omega arith, sets-none (omega arith) (c .pre .0))
 
 loop-again : tie.Need-loop-again Inv-loop μ-loop
 loop-again c =
     let now = c .before .before .before .before .loop in
-    let lanes = bits-lanes _ _ _ (omega arith) (c .before .before .spread .ensures) in
-    (omega arith, omega arith, sets-next _ _ _ _ _ _ _ _ (omega arith) (omega arith) (now .inv .2) (c .set-fact .ensures) lanes)
+    let lanes = bits-lanes (omega arith) (c .before .before .spread .ensures) in
+    (omega arith, sets-next (omega arith) (omega arith) (now .inv .1) (c .set-fact .ensures) (λ case old. lanes))
 
 returns : tie.Need-returns Inv-loop μ-loop
-returns c = sets-ends _ _ _ _ _ _ (omega arith) (omega arith) (c .before .loop .inv .2)
+returns c = sets-ends (omega arith) (omega arith) (c .before .loop .inv .1)
 
 pub fix-bits-spec : {M : Type 1} → statement M
 fix-bits-spec =
@@ -40,7 +36,7 @@ fix-bits-spec =
     (λ c. search needs)
     (λ c. search needs)
     (λ c κs. search needs)
-    set-fact-requires
+    (λ c κs. omega arith)
     (λ c. search needs)
     (λ c. search needs)
     loop-again

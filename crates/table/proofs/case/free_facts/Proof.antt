@@ -4,32 +4,28 @@ use Rattle.table.proofs.case.free_facts.Tie as tie
 use native.Mathlib.Omega.{arith}
 use borrow.Author.Needs.{needs}
 use Prim.Native.Nat.{_-_, _≤_, max}
-use Rattle.table.specs.Tables.{SetsFacts}
+use Rattle.model.proofs.Laws.Planes.{all-unknown}
 use Rattle.table.specs.Cases.{unfixed}
-use Rattle.table.proofs.Facts.{sets-none, sets-next, sets-ends}
-use Rattle.table.proofs.Cases.{unfixed-lanes}
+use Rattle.table.proofs.Facts.{Sets, sets-none, sets-next, sets-ends}
 
 abbrev Inv-loop : tie.InvT-loop
-Inv-loop c₀ from to f₀ c f = (from ≤ f) × (f ≤ max from to) × SetsFacts c₀ from f unfixed c
+Inv-loop c₀ from to f₀ c f = (f ≤ max from to) × Sets c₀ from f (λ case. unfixed) c
 
 abbrev μ-loop : tie.MeasureT-loop
 μ-loop c₀ from to f₀ c f = to - f
 
 loop-holds : tie.Need-loop-holds Inv-loop μ-loop
-loop-holds c = (omega arith, omega arith, sets-none _ _ _ (c .pre .0))
-
-set-fact-requires : tie.Need-set-fact-requires Inv-loop μ-loop
-set-fact-requires c κs = (c .before .before .loop .inv .2 .size, omega arith)
+loop-holds c = (omega arith, sets-none (omega arith) (c .pre .0))
 
 loop-again : tie.Need-loop-again Inv-loop μ-loop
 loop-again c =
     let now = c .before .before .before .loop in
-    (omega arith, omega arith, sets-next _ _ _ _ _ _ _ _ (omega arith) (omega arith) (now .inv .2) (c .set-fact .ensures) (unfixed-lanes (now .f)))
+    (omega arith, sets-next (omega arith) (omega arith) (now .inv .1) (c .set-fact .ensures) (λ case old. record { lane = λ j l. all-unknown l }))
 
 returns : tie.Need-returns Inv-loop μ-loop
-returns c = sets-ends _ _ _ _ _ _ (omega arith) (omega arith) (c .before .loop .inv .2)
+returns c = sets-ends (omega arith) (omega arith) (c .before .loop .inv .1)
 
 pub free-facts-spec : {M : Type 1} → statement M
 free-facts-spec =
     tie.close
-    (tie.spec Inv-loop μ-loop loop-holds set-fact-requires (λ c. search needs) (λ c. search needs) loop-again returns)
+    (tie.spec Inv-loop μ-loop loop-holds (λ c κs. omega arith) (λ c. search needs) (λ c. search needs) loop-again returns)

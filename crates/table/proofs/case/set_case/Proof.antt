@@ -8,7 +8,7 @@ returns : tie.Need-returns
 returns c =
     let fixed = c .before .before in
     let found = fixed .before .before in
-    case-ends _ _ _ _ _ _ _ _ (found .before .pre .1) (found .before .pre .2) (found .common .ensures) (fixed .fix-bits .ensures) (c .free-facts .ensures)
+    case-ends (found .before .pre .1) (found .before .pre .2) (found .common .ensures) (fixed .fix-bits .ensures) (c .free-facts .ensures)
 
 pub set-case-spec : {M : Type 1} → statement M
 set-case-spec = tie.close (tie.spec (λ c κs. search needs) (λ c κs. search needs) (λ c κs. search needs) returns)

@@ -4,30 +4,29 @@ use Rattle.table.proofs.fact.none_fixed.Tie as tie
 use native.Mathlib.Omega.{arith}
 use borrow.Author.Needs.{needs}
 use Prim.Native.Nat.{_-_, _≤_}
-use Rattle.table.specs.Tables.{SetsFacts}
-use Rattle.table.proofs.Facts.{never, never-lanes, sets-none, sets-next, sets-ends, none-ends}
+use Rattle.model.specs.Limits.{maxFacts}
+use Rattle.model.specs.Kleene.{No}
+use Rattle.model.proofs.Laws.Planes.{all-no}
+use Rattle.table.proofs.Facts.{Sets, sets-none, sets-next, sets-ends, none-ends}
 
 abbrev Inv-loop : tie.InvT-loop
-Inv-loop facts c₀ f₀ c f = (facts ≤ f) × (f ≤ 64) × SetsFacts c₀ facts f never c
+Inv-loop facts c₀ f₀ c f = (f ≤ maxFacts) × Sets c₀ facts f (λ case g j. No) c
 
 abbrev μ-loop : tie.MeasureT-loop
-μ-loop facts c₀ f₀ c f = 64 - f
+μ-loop facts c₀ f₀ c f = maxFacts - f
 
 loop-holds : tie.Need-loop-holds Inv-loop μ-loop
-loop-holds c = (omega arith, omega arith, sets-none _ _ _ (c .unknown .ensures .size))
-
-set-fact-requires : tie.Need-set-fact-requires Inv-loop μ-loop
-set-fact-requires c κs = (c .before .before .loop .inv .2 .size, omega arith)
+loop-holds c = (omega arith, sets-none (omega arith) (c .unknown .ensures .size))
 
 loop-again : tie.Need-loop-again Inv-loop μ-loop
 loop-again c =
     let now = c .before .before .before .loop in
-    (omega arith, omega arith, sets-next _ _ _ _ _ _ _ _ (omega arith) (omega arith) (now .inv .2) (c .set-fact .ensures) (never-lanes (now .f)))
+    (omega arith, sets-next (omega arith) (omega arith) (now .inv .1) (c .set-fact .ensures) (λ case old. record { lane = λ j l. all-no }))
 
 returns : tie.Need-returns Inv-loop μ-loop
 returns c =
     let made = c .before .before in
-    none-ends _ _ _ (made .before .pre) (made .unknown .ensures) (sets-ends _ _ _ _ _ _ (omega arith) (omega arith) (c .before .loop .inv .2))
+    none-ends _ _ _ (made .before .pre) (made .unknown .ensures) (sets-ends (omega arith) (omega arith) (c .before .loop .inv .1))
 
 pub none-fixed-spec : {M : Type 1} → statement M
 none-fixed-spec =
@@ -37,7 +36,7 @@ none-fixed-spec =
     μ-loop
     (λ c κs. search needs)
     loop-holds
-    set-fact-requires
+    (λ c κs. omega arith)
     (λ c. search needs)
     (λ c. search needs)
     loop-again

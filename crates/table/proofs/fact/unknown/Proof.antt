@@ -3,8 +3,11 @@ use Rattle.table.proofs.fact.unknown.Statement.{statement}
 use Rattle.table.proofs.fact.unknown.Tie as tie
 use native.Mathlib.Omega.{arith}
 use borrow.Author.Needs.{needs}
-use Prim.Native.Nat.{_-_}
-use Rattle.table.proofs.Facts.{Opened, opened-begins, opened-next, opened-ends}
+use Prim.Native.Nat.{ℕ, _+_, _*_, _-_}
+use lib.ListN.{length-replicate}
+use borrow.Author.Count.{below-none}
+use Rattle.model.proofs.Laws.Held.{zeros}
+use Rattle.table.proofs.Facts.{Opened, opened-next, opened-ends}
 
 abbrev Inv-loop : tie.InvT-loop
 Inv-loop c₀ b₀ c b = Opened c b
@@ -13,7 +16,7 @@ abbrev μ-loop : tie.MeasureT-loop
 μ-loop c₀ b₀ c b = 128 - b
 
 loop-holds : tie.Need-loop-holds Inv-loop μ-loop
-loop-holds c = opened-begins
+loop-holds c = record { size = length-replicate {A = ℕ} 256 0; some = below-none _; sure = λ b. zeros 256 (2 * b + 1) }
 
 loop-again : tie.Need-loop-again Inv-loop μ-loop
 loop-again c = opened-next _ _ (c .before .loop .inv) (omega arith)
