@@ -6,20 +6,11 @@ use native.Mathlib.Omega.{arith}
 use Rattle.model.specs.FormulaBytes.{conjunction, disjunction}
 use Rattle.evaluate.proofs.Evaluating.{other, item-here, item-counted, literal-met, group-met, empty-met, formula-nothing, formula-met, tells-all, tells-any}
 
-returns : tie.Need-returns
-returns c = formula-nothing _ _ _ _ (λ facts g m q i. omega (arith, item-here i))
-
-returns-2 : tie.Need-returns-2
-returns-2 c = formula-nothing _ _ _ _ (λ facts g m q i. omega (arith, item-here i))
-
 returns-3 : tie.Need-returns-3
 returns-3 c =
     let w = c .before .before .before in
     formula-met _ _ _ _ _ _ _ (λ g. literal-met _ _ g _ _ (c .before .if3 .taken) _ (c .literal-planes .ensures))
     (rw (w .before .before .wide .ensures .0, w .wide2 .ensures .0))
-
-returns-4 : tie.Need-returns-4
-returns-4 c = formula-nothing _ _ _ _ (λ facts g m q i. omega (arith, item-counted (c .before .before .if3 .left) i))
 
 returns-5 : tie.Need-returns-5
 returns-5 c =
@@ -49,10 +40,10 @@ formula-planes-spec =
     tie.close
     (tie.spec
     (λ c κs. search needs)
-    returns
+    (λ c. formula-nothing _ _ _ _ (λ facts g m q i. omega (arith, item-here i)))
     (λ c. search needs)
     (λ c κs. search needs)
-    returns-2
+    (λ c. formula-nothing _ _ _ _ (λ facts g m q i. omega (arith, item-here i)))
     (λ c. search needs)
     (λ c. search needs)
     (λ c κs. search needs)
@@ -67,7 +58,7 @@ formula-planes-spec =
     returns-3
     (λ c. search needs)
     (λ c κs. search needs)
-    returns-4
+    (λ c. formula-nothing _ _ _ _ (λ facts g m q i. omega (arith, item-counted (c .before .before .if3 .left) i)))
     (λ c. search needs)
     (λ c. search needs)
     (λ c κs. search needs)

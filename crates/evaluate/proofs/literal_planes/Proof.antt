@@ -3,9 +3,6 @@ use borrow.Author.Needs.{needs}
 use Rattle.evaluate.proofs.literal_planes.Statement.{statement}
 use Rattle.evaluate.proofs.literal_planes.Tie as tie
 
-returns : tie.Need-returns
-returns c = let e = c .before .before .wide .ensures .0 in record { is-some = rw e; is-sure = rw e }
-
 pub literal-planes-spec : {M : Type 1} → statement M
 literal-planes-spec =
     tie.close
@@ -17,4 +14,4 @@ literal-planes-spec =
     (λ c. search needs)
     (λ c. search needs)
     (λ c. search needs)
-    returns)
+    (λ c. let e = c .before .before .wide .ensures .0 in record { is-some = rw e; is-sure = rw e }))

@@ -33,9 +33,6 @@ loop-again c =
     let (b, r) = byte-before (a .out .now) (a .at) (l .i) (a .n) (a .x) (l .rest) (omega arith) (omega arith) (l .inv .1) in
     (rw (l .inv .0, c .low-byte .ensures) b, r, omega arith)
 
-same-length : tie.Need-same-length Inv-loop μ-loop
-same-length c = ap length (c .before .loop .inv .0) ∙ simp length-sets
-
 returns : tie.Need-returns Inv-loop μ-loop
 returns c =
     let l = c .before .loop in
@@ -57,5 +54,5 @@ put-number-spec =
     slice-write-out
     (λ c. omega arith)
     loop-again
-    same-length
+    (λ c. ap length (c .before .loop .inv .0) ∙ simp length-sets)
     returns)

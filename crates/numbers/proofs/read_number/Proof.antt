@@ -19,9 +19,6 @@ loop-holds : tie.Need-loop-holds Inv-loop μ-loop
 unfolding bigEndianFrom
 loop-holds c = (refl, omega arith, omega arith)
 
-mul-x : tie.Need-mul-x Inv-loop μ-loop
-mul-x c = omega (arith, fits (c .before .loop .i) (c .before .loop .x) 0 (omega arith) (c .before .loop .inv .2) (omega arith))
-
 add-x : tie.Need-add-x Inv-loop μ-loop
 add-x c =
     let l = c .before .before .before .loop in
@@ -37,9 +34,6 @@ loop-again c =
       grows (l .i) (l .x) (c .digit .result) (l .inv .2) (omega arith),
     )
 
-returns : tie.Need-returns Inv-loop μ-loop
-returns c = let e : c .before .loop .i ≡ c .before .before .before .args .n = omega arith in rw (← e) (c .before .loop .inv .0, c .before .loop .inv .2)
-
 pub read-number-spec : {M : Type 1} → statement M
 read-number-spec =
     tie.close
@@ -47,7 +41,7 @@ read-number-spec =
     Inv-loop
     μ-loop
     loop-holds
-    mul-x
+    (λ c. omega (arith, fits (c .before .loop .i) (c .before .loop .x) 0 (omega arith) (c .before .loop .inv .2) (omega arith)))
     (λ c. omega arith)
     (λ c. omega arith)
     (λ c κs. search needs)
@@ -55,4 +49,4 @@ read-number-spec =
     (λ c. omega arith)
     (λ c. omega arith)
     loop-again
-    returns)
+    (λ c. let e : c .before .loop .i ≡ c .before .before .before .args .n = omega arith in rw (← e) (c .before .loop .inv .0, c .before .loop .inv .2)))

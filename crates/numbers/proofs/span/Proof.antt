@@ -6,8 +6,5 @@ use Rattle.numbers.proofs.Bytes.{one-shifted}
 use Rattle.numbers.proofs.span.Statement.{statement}
 use Rattle.numbers.proofs.span.Tie as tie
 
-returns : tie.Need-returns
-returns c = one-shifted (c .args .width - c .args .k) (omega arith)
-
 pub span-spec : {M : Type 1} → statement M
-span-spec = tie.close (tie.spec (λ c. search needs) (λ c. search needs) returns)
+span-spec = tie.close (tie.spec (λ c. search needs) (λ c. search needs) (λ c. one-shifted (c .args .width - c .args .k) (omega arith)))

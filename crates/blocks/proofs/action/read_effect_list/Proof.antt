@@ -7,9 +7,6 @@ use Rattle.model.specs.Read.{andThen, _>>=_}
 use Rattle.model.specs.ProblemBytes.{effectList}
 use Rattle.formula.specs.Readings.{nextOf}
 
-add-read-effects : tie.Need-add-read-effects
-add-read-effects c = let k = rw (c .before .n .given .1) at (c .before .before .before .count-at .ensures) in omega arith
-
 returns : tie.Need-returns
 unfolding effectList _>>=_ andThen nextOf
 returns c = let k = rw (c .before .r .given .1) at (c .before .before .before .count-at .ensures) in rw (← k .is)
@@ -27,7 +24,7 @@ read-effect-list-spec =
     (λ c κs. search needs)
     (λ c. search needs)
     (λ c. search needs)
-    add-read-effects
+    (λ c. let k = rw (c .before .n .given .1) at (c .before .before .before .count-at .ensures) in omega arith)
     (λ c κs. search needs)
     returns
     returns-2)

@@ -21,9 +21,6 @@ returns c =
     effects-refused _ _ _ _ (omega arith) (rw (c .before .r .given .1) at (k .read-effect .ensures)) ∙
     sym (k .before .before .loop .inv)
 
-shared-slice-read-wide : tie.Need-shared-slice-read-wide Inv-loop μ-loop
-shared-slice-read-wide c = let g = rw (c .before .before .next .given .1) at (c .before .before .before .before .read-effect .ensures) in g .inside
-
 loop-again : tie.Need-loop-again Inv-loop μ-loop
 loop-again c =
     let k = c .before .before .before .before .before in
@@ -48,7 +45,7 @@ read-effects-spec =
     (λ c. search needs)
     returns
     (λ c. search needs)
-    shared-slice-read-wide
+    (λ c. let g = rw (c .before .before .next .given .1) at (c .before .before .before .before .read-effect .ensures) in g .inside)
     (λ c κs. search needs)
     (λ c. omega arith)
     (λ c. omega arith)

@@ -9,12 +9,6 @@ use Rattle.model.specs.Read.{andThen, _>>=_}
 use Rattle.model.specs.ProblemBytes.{body}
 use Rattle.blocks.proofs.Problems.{finds-refused}
 
-add-count-at : tie.Need-add-count-at
-add-count-at c = let k = rw (c .before .facts .given .1) at (c .before .before .before .count-at .ensures) in omega arith
-
-add-find-parts : tie.Need-add-find-parts
-add-find-parts c = let k = rw (c .before .m .given .1) at (c .before .before .before .count-at2 .ensures) in omega arith
-
 find-parts-requires : tie.Need-find-parts-requires
 find-parts-requires c κs =
     let b = c .before .before .before .before in
@@ -54,13 +48,13 @@ find-body-spec =
     (λ c. search needs)
     (λ c κs. search needs)
     (λ c. search needs)
-    add-count-at
+    (λ c. let k = rw (c .before .facts .given .1) at (c .before .before .before .count-at .ensures) in omega arith)
     (λ c. search needs)
     (λ c κs. search needs)
     (λ c. search needs)
     (λ c κs. search needs)
     (λ c. search needs)
-    add-find-parts
+    (λ c. let k = rw (c .before .m .given .1) at (c .before .before .before .count-at2 .ensures) in omega arith)
     find-parts-requires
     returns
     returns-2

@@ -13,9 +13,6 @@ Inv-loop s limits at facts m stand₀ p₀ i₀ stand p i = (i ≤ m) × Sofar l
 abbrev μ-loop : tie.MeasureT-loop
 μ-loop s limits at facts m stand₀ p₀ i₀ stand p i = m - i
 
-loop-holds : tie.Need-loop-holds Inv-loop μ-loop
-loop-holds c = (omega arith, sofar-none)
-
 returns : tie.Need-returns Inv-loop μ-loop
 returns c =
     let k = c .before .before .before in
@@ -27,16 +24,13 @@ loop-again c =
     let g = was-got (k .read-action .ensures) (c .before .next .given .1) in
     (omega arith, sofar-next (k .before .before .loop .inv .1) (omega arith) (omega arith) g)
 
-returns-2 : tie.Need-returns-2 Inv-loop μ-loop
-returns-2 c = sofar-all (c .before .loop .inv .1) (omega arith)
-
 pub read-actions-spec : {M : Type 1} → statement M
 read-actions-spec =
     tie.close
     (tie.spec
     Inv-loop
     μ-loop
-    loop-holds
+    (λ c. (omega arith, sofar-none))
     (λ c. omega arith)
     (λ c. omega arith)
     (λ c κs. search needs)
@@ -46,4 +40,4 @@ read-actions-spec =
     (λ c. omega arith)
     (λ c. omega arith)
     loop-again
-    returns-2)
+    (λ c. sofar-all (c .before .loop .inv .1) (omega arith)))

@@ -5,12 +5,6 @@ use Rattle.formula.proofs.read.head_at.Tie as tie
 use native.Mathlib.Omega.{arith}
 use Rattle.formula.proofs.Heads.{head-end, head-literal, head-repeated, head-unmarked, head-deep, head-cut, head-all, head-any}
 
-returns : tie.Need-returns
-returns c = head-end _ _ _ _ _ _ (c .before .refusal .ensures) (c .if1 .taken)
-
-returns-2 : tie.Need-returns-2
-returns-2 c = head-literal _ _ _ _ _ _ (c .before .before .before .if1 .left) (c .before .is-literal .ensures) (c .if2 .taken)
-
 returns-3 : tie.Need-returns-3
 returns-3 c =
     let d = c .before .before in
@@ -66,10 +60,10 @@ head-at-spec =
     tie.close
     (tie.spec
     (λ c κs. search needs)
-    returns
+    (λ c. head-end _ _ _ _ _ _ (c .before .refusal .ensures) (c .if1 .taken))
     (λ c. search needs)
     (λ c κs. search needs)
-    returns-2
+    (λ c. head-literal _ _ _ _ _ _ (c .before .before .before .if1 .left) (c .before .is-literal .ensures) (c .if2 .taken))
     (λ c κs. search needs)
     returns-3
     (λ c κs. search needs)

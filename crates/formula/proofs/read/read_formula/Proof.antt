@@ -6,12 +6,6 @@ use native.Mathlib.Omega.{arith}
 use mathlib.Core.Path.{_∙_}
 use Rattle.formula.proofs.Lengths.{formula-next}
 
-returns : tie.Need-returns
-returns c = formula-next _ _ _ _ _ (c .before .before .before .stated-end .ensures) (c .before .r .given .1)
-
-returns-2 : tie.Need-returns-2
-returns-2 c = c .read-stated .ensures ∙ formula-next _ _ _ _ _ (c .before .before .before .before .stated-end .ensures) (c .before .before .end .given .1)
-
 pub read-formula-spec : {M : Type 1} → statement M
 read-formula-spec =
     tie.close
@@ -21,5 +15,5 @@ read-formula-spec =
     (λ c. search needs)
     (λ c. let h = rw (c .before .end .given .1) at (c .before .before .before .stated-end .ensures .within) in omega arith)
     (λ c κs. let h = rw (c .before .end .given .1) at (c .before .before .before .stated-end .ensures .within) in h .1)
-    returns
-    returns-2)
+    (λ c. formula-next _ _ _ _ _ (c .before .before .before .stated-end .ensures) (c .before .r .given .1))
+    (λ c. c .read-stated .ensures ∙ formula-next _ _ _ _ _ (c .before .before .before .before .stated-end .ensures) (c .before .before .end .given .1)))

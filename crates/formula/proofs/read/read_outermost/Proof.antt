@@ -5,12 +5,6 @@ use Rattle.formula.proofs.read.read_outermost.Tie as tie
 use native.Mathlib.Omega.{arith}
 use Rattle.formula.proofs.Items.{item-next}
 
-returns : tie.Need-returns
-returns c = rw (c .before .r .given .1) at (item-next _ _ _ _ _ _ _ (c .before .before .before .head-at .ensures))
-
-returns-2 : tie.Need-returns-2
-returns-2 c = rw (c .enum-told .given .1) at (item-next _ _ _ _ _ _ _ (c .before .before .head-at .ensures))
-
 returns-3 : tie.Need-returns-3
 returns-3 c =
     rw (c .before .before .m .given .1, ← c .read-all .ensures) at (item-next _ _ _ _ _ _ _ (c .before .before .before .before .head-at .ensures))
@@ -35,7 +29,7 @@ read-outermost-spec =
     (λ c. let h = rw (c .before .m2 .given .1) at (c .before .before .before .head-at .ensures .placed) in omega arith)
     (λ c. search needs)
     (λ c κs. search needs)
-    returns
-    returns-2
+    (λ c. rw (c .before .r .given .1) at (item-next _ _ _ _ _ _ _ (c .before .before .before .head-at .ensures)))
+    (λ c. rw (c .enum-told .given .1) at (item-next _ _ _ _ _ _ _ (c .before .before .head-at .ensures)))
     returns-3
     returns-4)

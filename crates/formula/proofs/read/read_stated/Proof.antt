@@ -7,9 +7,6 @@ use Rattle.formula.proofs.read.read_stated.Statement.{statement}
 use Rattle.formula.proofs.read.read_stated.Tie as tie
 use Rattle.formula.proofs.Lengths.{after-next}
 
-returns : tie.Need-returns
-returns c = rw (c .before .r .given .1) at (after-next _ _ _ _ _ (c .before .before .before .read-outermost .ensures))
-
 returns-2 : tie.Need-returns-2
 unfolding require nextOf
 returns-2 c =
@@ -30,6 +27,6 @@ read-stated-spec =
     (λ c. search needs)
     (λ c. search needs)
     (λ c κs. search needs)
-    returns
+    (λ c. rw (c .before .r .given .1) at (after-next _ _ _ _ _ (c .before .before .before .read-outermost .ensures)))
     returns-2
     returns-3)

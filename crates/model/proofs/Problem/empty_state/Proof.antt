@@ -5,8 +5,5 @@ use Rattle.model.proofs.Laws.Held.{shows-tabulate, zeros}
 use Rattle.model.proofs.Problem.empty_state.Statement.{statement}
 use Rattle.model.proofs.Problem.empty_state.Tie as tie
 
-returns : tie.Need-returns
-returns c = λ n. shows-tabulate (replicate 64 0) n (λ i. No) (λ i h. zeros 64 i) (λ i h. zeros 64 i)
-
 pub empty-state-spec : {M : Type 1} → statement M
-empty-state-spec = tie.close (tie.spec returns)
+empty-state-spec = tie.close (tie.spec (λ c. λ n. shows-tabulate (replicate 64 0) n (λ i. No) (λ i h. zeros 64 i) (λ i h. zeros 64 i)))

@@ -12,12 +12,6 @@ Inv-loop facts values₀ i₀ values i = (i ≤ facts) × Marked values i
 abbrev μ-loop : tie.MeasureT-loop
 μ-loop facts values₀ i₀ values i = facts - i
 
-loop-holds : tie.Need-loop-holds Inv-loop μ-loop
-loop-holds c = (omega arith, marked-none)
-
-loop-again : tie.Need-loop-again Inv-loop μ-loop
-loop-again c = (omega arith, marked-next (c .before .loop .values) (c .before .loop .i) (omega arith) (c .before .loop .inv .1))
-
 returns : tie.Need-returns Inv-loop μ-loop
 returns c =
     let m = c .before .loop .inv .1 in
@@ -26,4 +20,4 @@ returns c =
 pub first-case-spec : {M : Type 1} → statement M
 first-case-spec =
     tie.close
-    (tie.spec Inv-loop μ-loop loop-holds (λ c. omega arith) (λ c. omega arith) (λ c. omega arith) loop-again returns)
+    (tie.spec Inv-loop μ-loop (λ c. (omega arith, marked-none)) (λ c. omega arith) (λ c. omega arith) (λ c. omega arith) (λ c. (omega arith, marked-next (c .before .loop .values) (c .before .loop .i) (omega arith) (c .before .loop .inv .1))) returns)

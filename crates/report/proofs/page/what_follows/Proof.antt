@@ -4,14 +4,5 @@ use Rattle.report.proofs.Pages.{none-follows, too-long-follows, lines-f
 use Rattle.report.proofs.page.what_follows.Statement.{statement}
 use Rattle.report.proofs.page.what_follows.Tie as tie
 
-returns : tie.Need-returns
-returns c = none-follows (c .before .args .page) (c .match .keys2)
-
-returns-2 : tie.Need-returns-2
-returns-2 c = too-long-follows (c .before .before .before .before .args .page) _ _ (c .before .before .answer .given .1) (c .if1 .taken)
-
-returns-3 : tie.Need-returns-3
-returns-3 c = lines-follow (c .before .before .before .before .args .page) _ _ (c .before .before .answer .given .1) (c .if1 .left)
-
 pub what-follows-spec : {M : Type 1} → statement M
-what-follows-spec = tie.close (tie.spec (λ c. search needs) returns returns-2 returns-3)
+what-follows-spec = tie.close (tie.spec (λ c. search needs) (λ c. none-follows (c .before .args .page) (c .match .keys2)) (λ c. too-long-follows (c .before .before .before .before .args .page) _ _ (c .before .before .answer .given .1) (c .if1 .taken)) (λ c. lines-follow (c .before .before .before .before .args .page) _ _ (c .before .before .answer .given .1) (c .if1 .left)))

@@ -18,9 +18,6 @@ loop-holds : tie.Need-loop-holds Inv-loop μ-loop
 unfolding blockCase
 loop-holds c = (omega arith, record { size = c .pre .0; is = λ root room old. old })
 
-loop-again : tie.Need-loop-again Inv-loop μ-loop
-loop-again c = (omega arith, levels-next (omega arith) (c .before .before .before .loop .inv .1) (c .set-fact .ensures))
-
 returns : tie.Need-returns Inv-loop μ-loop
 returns c =
     let now = c .before .loop in
@@ -42,5 +39,5 @@ fix-levels-spec =
     (λ c κs. omega arith)
     (λ c. search needs)
     (λ c. search needs)
-    loop-again
+    (λ c. (omega arith, levels-next (omega arith) (c .before .before .before .loop .inv .1) (c .set-fact .ensures)))
     returns)

@@ -13,9 +13,6 @@ Inv-loop c₀ k d lane i₀ c i = (i ≤ d) × Sets c₀ k (k + i) (copied lane)
 abbrev μ-loop : tie.MeasureT-loop
 μ-loop c₀ k d lane i₀ c i = d - i
 
-loop-holds : tie.Need-loop-holds Inv-loop μ-loop
-loop-holds c = (omega arith, sets-none (omega arith) (c .pre .0))
-
 loop-again : tie.Need-loop-again Inv-loop μ-loop
 loop-again c =
     let second = c .before .before in
@@ -26,16 +23,13 @@ loop-again c =
           (second .spread2 .ensures) (c .set-fact .ensures),
     )
 
-returns : tie.Need-returns Inv-loop μ-loop
-returns c = copied-ends (omega arith) (c .before .loop .inv .1)
-
 pub fix-path-spec : {M : Type 1} → statement M
 fix-path-spec =
     tie.close
     (tie.spec
     Inv-loop
     μ-loop
-    loop-holds
+    (λ c. (omega arith, sets-none (omega arith) (c .pre .0)))
     (λ c. search needs)
     (λ c. search needs)
     (λ c. search needs)
@@ -50,4 +44,4 @@ fix-path-spec =
     (λ c. search needs)
     (λ c. search needs)
     loop-again
-    returns)
+    (λ c. copied-ends (omega arith) (c .before .loop .inv .1)))

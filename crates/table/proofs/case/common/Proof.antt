@@ -12,28 +12,19 @@ Inv-loop k0 v0 k v m₀ m = (m ≤ k0) × (m ≤ k)
 abbrev μ-loop : tie.MeasureT-loop
 μ-loop k0 v0 k v m₀ m = m
 
-loop-holds : tie.Need-loop-holds Inv-loop μ-loop
-loop-holds c = ⊎-elim (λ w. omega arith) (λ w. omega arith) (c .if1 .came)
-
-returns : tie.Need-returns Inv-loop μ-loop
-returns c = record { first = omega arith; second = omega arith; alike = λ f l. alike-bits _ _ _ f (omega arith) (c .if2 .taken) l }
-
-returns-2 : tie.Need-returns-2 Inv-loop μ-loop
-returns-2 c = record { first = omega arith; second = omega arith; alike = λ f l. absurd (omega arith) }
-
 pub common-spec : {M : Type 1} → statement M
 common-spec =
     tie.close
     (tie.spec
     Inv-loop
     μ-loop
-    loop-holds
+    (λ c. ⊎-elim (λ w. omega arith) (λ w. omega arith) (c .if1 .came))
     (λ c. omega arith)
     (λ c. omega arith)
     (λ c. omega arith)
     (λ c. omega arith)
-    returns
+    (λ c. record { first = omega arith; second = omega arith; alike = λ f l. alike-bits _ _ _ f (omega arith) (c .if2 .taken) l })
     (λ c. omega arith)
     (λ c. omega arith)
     (λ c. omega arith)
-    returns-2)
+    (λ c. record { first = omega arith; second = omega arith; alike = λ f l. absurd (omega arith) }))

@@ -14,17 +14,11 @@ Inv-loop c₀ from to word f₀ c f = (f ≤ max from to) × Sets c₀ from f (�
 abbrev μ-loop : tie.MeasureT-loop
 μ-loop c₀ from to word f₀ c f = to - f
 
-loop-holds : tie.Need-loop-holds Inv-loop μ-loop
-loop-holds c = (omega arith, sets-none (omega arith) (c .pre .0))
-
 loop-again : tie.Need-loop-again Inv-loop μ-loop
 loop-again c =
     let now = c .before .before .before .before .loop in
     let lanes = bits-lanes (omega arith) (c .before .before .spread .ensures) in
     (omega arith, sets-next (omega arith) (omega arith) (now .inv .1) (c .set-fact .ensures) (λ case old. lanes))
-
-returns : tie.Need-returns Inv-loop μ-loop
-returns c = sets-ends (omega arith) (omega arith) (c .before .loop .inv .1)
 
 pub fix-bits-spec : {M : Type 1} → statement M
 fix-bits-spec =
@@ -32,7 +26,7 @@ fix-bits-spec =
     (tie.spec
     Inv-loop
     μ-loop
-    loop-holds
+    (λ c. (omega arith, sets-none (omega arith) (c .pre .0)))
     (λ c. search needs)
     (λ c. search needs)
     (λ c κs. search needs)
@@ -40,4 +34,4 @@ fix-bits-spec =
     (λ c. search needs)
     (λ c. search needs)
     loop-again
-    returns)
+    (λ c. sets-ends (omega arith) (omega arith) (c .before .loop .inv .1)))

@@ -14,18 +14,12 @@ Inv-loop c₀ from to f₀ c f = (f ≤ max from to) × Sets c₀ from f (λ cas
 abbrev μ-loop : tie.MeasureT-loop
 μ-loop c₀ from to f₀ c f = to - f
 
-loop-holds : tie.Need-loop-holds Inv-loop μ-loop
-loop-holds c = (omega arith, sets-none (omega arith) (c .pre .0))
-
 loop-again : tie.Need-loop-again Inv-loop μ-loop
 loop-again c =
     let now = c .before .before .before .loop in
     (omega arith, sets-next (omega arith) (omega arith) (now .inv .1) (c .set-fact .ensures) (λ case old. record { lane = λ j l. all-unknown l }))
 
-returns : tie.Need-returns Inv-loop μ-loop
-returns c = sets-ends (omega arith) (omega arith) (c .before .loop .inv .1)
-
 pub free-facts-spec : {M : Type 1} → statement M
 free-facts-spec =
     tie.close
-    (tie.spec Inv-loop μ-loop loop-holds (λ c κs. omega arith) (λ c. search needs) (λ c. search needs) loop-again returns)
+    (tie.spec Inv-loop μ-loop (λ c. (omega arith, sets-none (omega arith) (c .pre .0))) (λ c κs. omega arith) (λ c. search needs) (λ c. search needs) loop-again (λ c. sets-ends (omega arith) (omega arith) (c .before .loop .inv .1)))

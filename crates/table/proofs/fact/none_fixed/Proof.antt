@@ -15,9 +15,6 @@ Inv-loop facts c₀ f₀ c f = (f ≤ maxFacts) × Sets c₀ facts f (λ case g 
 abbrev μ-loop : tie.MeasureT-loop
 μ-loop facts c₀ f₀ c f = maxFacts - f
 
-loop-holds : tie.Need-loop-holds Inv-loop μ-loop
-loop-holds c = (omega arith, sets-none (omega arith) (c .unknown .ensures .size))
-
 loop-again : tie.Need-loop-again Inv-loop μ-loop
 loop-again c =
     let now = c .before .before .before .loop in
@@ -35,7 +32,7 @@ none-fixed-spec =
     Inv-loop
     μ-loop
     (λ c κs. search needs)
-    loop-holds
+    (λ c. (omega arith, sets-none (omega arith) (c .unknown .ensures .size)))
     (λ c κs. omega arith)
     (λ c. search needs)
     (λ c. search needs)

@@ -15,26 +15,17 @@ Inv-loop c₀ b₀ c b = Opened c b
 abbrev μ-loop : tie.MeasureT-loop
 μ-loop c₀ b₀ c b = 128 - b
 
-loop-holds : tie.Need-loop-holds Inv-loop μ-loop
-loop-holds c = record { size = length-replicate {A = ℕ} 256 0; some = below-none _; sure = λ b. zeros 256 (2 * b + 1) }
-
-loop-again : tie.Need-loop-again Inv-loop μ-loop
-loop-again c = opened-next _ _ (c .before .loop .inv) (omega arith)
-
-returns : tie.Need-returns Inv-loop μ-loop
-returns c = opened-ends _ _ (c .before .loop .inv) (omega arith)
-
 pub unknown-spec : {M : Type 1} → statement M
 unknown-spec =
     tie.close
     (tie.spec
     Inv-loop
     μ-loop
-    loop-holds
+    (λ c. record { size = length-replicate {A = ℕ} 256 0; some = below-none _; sure = λ b. zeros 256 (2 * b + 1) })
     (λ c. search needs)
     (λ c. search needs)
     (λ c. search needs)
     (λ c. search needs)
     (λ c. search needs)
-    loop-again
-    returns)
+    (λ c. opened-next _ _ (c .before .loop .inv) (omega arith))
+    (λ c. opened-ends _ _ (c .before .loop .inv) (omega arith)))

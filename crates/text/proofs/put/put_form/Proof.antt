@@ -27,9 +27,6 @@ loop-again c =
     let inv = t .before .loop .inv in
     (omega arith, search needs, room-more _ _ _ _ _ _ (t .loop-test .taken) (x .end) (inv .2), form-more _ _ _ _ (t .loop-test .taken) (inv .3) x)
 
-returns : tie.Need-returns Inv-loop μ-loop
-returns c = (rw (take-all _ _ (c .loop-test .left)) at (c .before .loop .inv .3), omega arith)
-
 pub put-form-spec : {M : Type 1} → statement M
 put-form-spec =
     tie.close
@@ -43,4 +40,4 @@ put-form-spec =
     (λ c. omega arith)
     loop-again
     (λ c. c .before .loop .inv .1)
-    returns)
+    (λ c. (rw (take-all _ _ (c .loop-test .left)) at (c .before .loop .inv .3), omega arith)))

@@ -19,12 +19,6 @@ loop-holds : tie.Need-loop-holds Inv-loop μ-loop
 unfolding marks
 loop-holds c = (omega arith, omega arith, refl, nothing (omega arith))
 
-loop-again : tie.Need-loop-again Inv-loop μ-loop
-loop-again c = (omega arith, omega arith, simp length-set (c .before .before .loop .inv .2), marks-more _ _ _ _ _ (c .mark .ensures) (c .before .before .loop .inv .3) (omega arith))
-
-returns : tie.Need-returns Inv-loop μ-loop
-returns c = let e : c .before .loop .i ≡ c .before .before .before .args .facts = omega arith in (rw e at (c .before .loop .inv .3), omega arith)
-
 pub put-marks-spec : {M : Type 1} → statement M
 put-marks-spec =
     tie.close
@@ -37,6 +31,6 @@ put-marks-spec =
     (λ c. omega arith)
     (λ c. omega arith)
     (λ c. omega arith)
-    loop-again
+    (λ c. (omega arith, omega arith, simp length-set (c .before .before .loop .inv .2), marks-more _ _ _ _ _ (c .mark .ensures) (c .before .before .loop .inv .3) (omega arith)))
     (λ c. c .before .loop .inv .2)
-    returns)
+    (λ c. let e : c .before .loop .i ≡ c .before .before .before .args .facts = omega arith in (rw e at (c .before .loop .inv .3), omega arith)))
