@@ -1,7 +1,6 @@
 -- `walk_block`, `walk_node`, `walk_parts` meet their contracts. Assumes nothing.
-use Prim.Native.Nat.{ℕ, _+_, _*_, _-_, _<_}
-use borrow.Fn.Kinds.{In}
-use borrow.Fn.PlainCycle.{Measures, is, falls, and}
+use Prim.Native.Nat.{ℕ, _+_, _*_, _-_}
+use borrow.Fn.PlainCycle.{Measures}
 use Rattle.walk.proofs.cases.walk_block.Reads as walk-block
 use Rattle.walk.proofs.cases.walk_block.Kinds as walk-block-kinds
 use Rattle.walk.proofs.cases.+walk_block+walk_node+walk_parts.Lts-walk_block as walk-block-lts
@@ -35,50 +34,16 @@ abbrev μ-walk-node : Measures 5 walk-node-kinds.ps ℕ
 abbrev μ-walk-parts : Measures 5 walk-parts-kinds.ps ℕ
 μ-walk-parts κs a = 4 * a .1 .1 .1 .1 .1 .1 .1 .0 .left
 
-abbrev walk-block-at : ℕ → In 5 walk-block-kinds.ps
-walk-block-at t =
-    and 5 walk-block-kinds.ps (is 5 walk-block-kinds.ps μ-walk-block t) walk-block.Pre
-
-abbrev walk-block-below : ℕ → In 5 walk-block-kinds.ps
-walk-block-below t =
-    and 5 walk-block-kinds.ps (falls 5 walk-block-kinds.ps _<_ μ-walk-block t) walk-block.Pre
-
-abbrev walk-node-at : ℕ → In 5 walk-node-kinds.ps
-walk-node-at t = and 5 walk-node-kinds.ps (is 5 walk-node-kinds.ps μ-walk-node t) walk-node.Pre
-
-abbrev walk-node-below : ℕ → In 5 walk-node-kinds.ps
-walk-node-below t =
-    and 5 walk-node-kinds.ps (falls 5 walk-node-kinds.ps _<_ μ-walk-node t) walk-node.Pre
-
-abbrev walk-parts-at : ℕ → In 5 walk-parts-kinds.ps
-walk-parts-at t =
-    and 5 walk-parts-kinds.ps (is 5 walk-parts-kinds.ps μ-walk-parts t) walk-parts.Pre
-
-abbrev walk-parts-below : ℕ → In 5 walk-parts-kinds.ps
-walk-parts-below t =
-    and 5 walk-parts-kinds.ps (falls 5 walk-parts-kinds.ps _<_ μ-walk-parts t) walk-parts.Pre
-
-abbrev walk-block-calls : ℕ → walk-block-lts.Claims
-walk-block-calls t = (look-at-cases-reads.Asked, look-at-cases-reads.Learnt, walk-node-below t, walk-node.Post)
-
-abbrev walk-node-calls : ℕ → walk-node-lts.Claims
-walk-node-calls t = (lane-bit-reads.Asked, lane-bit-reads.Learnt, add-line-reads.Asked, add-line-reads.Learnt, walk-parts-below t, walk-parts.Post, fix-path-reads.Asked, fix-path-reads.Learnt, levels-of-reads.Asked, levels-of-reads.Learnt, fix-levels-reads.Asked, fix-levels-reads.Learnt, walk-block-below t, walk-block.Post)
-
-abbrev walk-parts-calls : ℕ → walk-parts-lts.Claims
-walk-parts-calls t = (walk-node-below t, walk-node.Post, span-reads.Asked, span-reads.Learnt, joined-reads.Asked, joined-reads.Learnt)
-
 pub +walk-block+walk-node+walk-parts-spec : {M : Type 1} → statement M
 +walk-block+walk-node+walk-parts-spec =
-    close μ-walk-block μ-walk-node μ-walk-parts (λ t. walk-block-lts.spec (walk-block-calls t)
-    (walk-block-at t)
-    walk-block.Post
+    close μ-walk-block μ-walk-node μ-walk-parts (λ t. walk-block-lts.spec (_, look-at-cases-reads.Learnt, _, walk-node.Post) _ walk-block.Post
     (λ c κs. c .before .before .before .pre .1 .0)
-    (λ c κs. (omega (arith, c .before .before .before .before .before .pre .0), (c .before .before .before .before .before .pre .1 .0, block-fits _ _ _ _ _ (c .before .before .before .before .before .pre .1 .1))))
+    (λ c κs. let p = c .before .before .before .before .before .pre in (omega (arith, p .0), (p .1 .0, block-fits _ _ _ _ _ (p .1 .1))))
     (λ c. search needs)
     (λ c. block-walks _ _ _ _ _ _ _ _ _ _ _ (c .before .before .before .before .before .before .before .before .pre .1 .1) _ (c .before .before .before .before .look-at-cases .ensures) _ _ (c .before .before .walk-node .ensures)))
-    (λ t. walk-node-lts.spec (walk-node-calls t)
-    (walk-node-at t)
-    walk-node.Post
+    (λ t. walk-node-lts.spec
+    (_, lane-bit-reads.Learnt, _, add-line-reads.Learnt, _, walk-parts.Post, _, fix-path-reads.Learnt, _, levels-of-reads.Learnt, _, fix-levels-reads.Learnt, _, walk-block.Post)
+    _ walk-node.Post
     (λ c. node-out _ _ _ _ _ _ _ _ _ _ _ _ (c .if1 .taken))
     (λ c κs. lane-small _ _ _ _ (c .before .before .before .before .pre .1 .1))
     (λ c κs. omega (arith, c .before .before .before .before .before .before .before .pre .1 .1 .fits .slots))
@@ -88,23 +53,21 @@ pub +walk-block+walk-node+walk-parts-spec : {M : Type 1} → statement M
     (λ c κs. omega (arith, c .before .before .before .before .before .before .before .before .before .pre .1 .1 .fits .slots))
     (λ c. search needs)
     (λ c. node-carries _ _ _ _ _ _ _ _ _ _ _ _ (lane-small _ _ _ _ (c .before .before .before .before .before .before .before .before .before .before .before .before .pre .1 .1)) (omega (arith, c .before .before .before .before .before .before .before .before .if1 .left)) (λ e. c .before .before .before .before .before .before .if2 .left (c .before .before .before .before .before .before .before .lane-bit .ensures ∙ e)) (sym (c .before .before .before .before .before .lane-bit2 .ensures) ∙ c .before .before .before .before .if3 .taken) _ _ (c .before .before .add-line2 .ensures))
-    (λ c. omega (arith, c .before .before .before .before .before .before .before .before .before .pre .1 .1 .inside, c .before .before .before .before .before .before .before .before .before .pre .1 .1 .fits .slots))
+    (λ c. let p = c .before .before .before .before .before .before .before .before .before .pre in omega (arith, p .1 .1 .inside, p .1 .1 .fits .slots))
     (λ c. omega (arith, c .before .before .before .before .before .before .before .if1 .left))
-    (λ c κs. (omega (arith, c .before .before .before .before .before .before .before .before .before .before .before .before .pre .0), (c .before .before .before .before .before .before .before .before .before .before .before .before .pre .1 .0, c .before .before .before .before .before .before .before .before .before .before .before .before .pre .1 .1, c .before .if4 .taken, omega (arith, c .before .before .before .before .before .before .before .before .if1 .left))))
+    (λ c κs. let p = c .before .before .before .before .before .before .before .before .before .before .before .before .pre in (omega (arith, p .0), (p .1 .0, p .1 .1, c .before .if4 .taken, omega (arith, c .before .before .before .before .before .before .before .before .if1 .left))))
     (λ c. search needs)
-    (λ c. node-splits _ _ _ _ _ _ _ _ _ _ _ _ (lane-small _ _ _ _ (c .before .before .before .before .before .before .before .before .before .before .before .before .before .before .before .pre .1 .1)) (omega (arith, c .before .before .before .before .before .before .before .before .before .before .before .if1 .left)) (λ e. c .before .before .before .before .before .before .before .before .before .if2 .left (c .before .before .before .before .before .before .before .before .before .before .lane-bit .ensures ∙ e)) (λ e. c .before .before .before .before .before .before .before .if3 .left (c .before .before .before .before .before .before .before .before .lane-bit2 .ensures ∙ e)) (omega (arith, c .before .before .before .before .if4 .taken, c .before .before .before .before .before .before .before .before .before .before .before .before .before .before .before .pre .1 .1 .inside)) _ _ (c .before .before .walk-parts .ensures))
+    (λ c. let p = c .before .before .before .before .before .before .before .before .before .before .before .before .before .before .before .pre in node-splits _ _ _ _ _ _ _ _ _ _ _ _ (lane-small _ _ _ _ (p .1 .1)) (omega (arith, c .before .before .before .before .before .before .before .before .before .before .before .if1 .left)) (λ e. c .before .before .before .before .before .before .before .before .before .if2 .left (c .before .before .before .before .before .before .before .before .before .before .lane-bit .ensures ∙ e)) (λ e. c .before .before .before .before .before .before .before .if3 .left (c .before .before .before .before .before .before .before .before .lane-bit2 .ensures ∙ e)) (omega (arith, c .before .before .before .before .if4 .taken, p .1 .1 .inside)) _ _ (c .before .before .walk-parts .ensures))
     (λ c. node-fails _ _ _ _ _ _ _ _ _ _ _ _ (lane-small _ _ _ _ (c .before .before .before .before .before .before .before .before .before .before .before .before .before .pre .1 .1)) (omega (arith, c .before .before .before .before .before .before .before .before .before .if1 .left)) (λ e. c .before .before .before .before .before .before .before .if2 .left (c .before .before .before .before .before .before .before .before .lane-bit .ensures ∙ e)) (λ e. c .before .before .before .before .before .if3 .left (c .before .before .before .before .before .before .lane-bit2 .ensures ∙ e)) (c .if5 .taken))
-    (λ c κs. (c .before .before .before .before .before .before .before .before .before .before .before .before .before .before .before .pre .1 .0, lane-small _ _ _ _ (c .before .before .before .before .before .before .before .before .before .before .before .before .before .before .before .pre .1 .1), omega (arith, c .before .before .before .before .before .before .before .before .before .before .before .before .before .before .before .pre .1 .1 .inside, c .before .before .before .before .before .before .before .before .before .before .before .before .before .before .before .pre .1 .1 .fits .slots)))
+    (λ c κs. let p = c .before .before .before .before .before .before .before .before .before .before .before .before .before .before .before .pre in (p .1 .0, lane-small _ _ _ _ (p .1 .1), omega (arith, p .1 .1 .inside, p .1 .1 .fits .slots)))
     (λ c κs. search needs)
     (λ c κs. (c .before .before .fix-path .ensures .size, c .before .levels-of .ensures .few, omega (arith, c .before .levels-of .ensures .inside, c .before .before .before .before .before .before .before .before .before .before .before .before .before .before .before .before .before .before .pre .1 .1 .fits .slots)))
-    (λ c κs. (omega (arith, c .before .before .before .before .before .before .before .before .before .before .before .before .before .before .before .before .before .before .before .before .before .pre .0, c .before .before .before .before .levels-of .ensures .some (omega (arith, c .before .before .before .before .before .before .before .before .if5 .left)), c .before .before .before .before .before .before .before .before .before .before .if4 .left, c .before .before .before .before .before .before .before .before .before .before .before .before .before .before .before .before .before .before .before .before .before .pre .1 .1 .within), (c .before .before .fix-levels .ensures .size, edge-fits _ _ _ _ _ (c .before .before .before .before .before .before .before .before .before .before .before .before .before .before .before .before .before .before .before .before .before .pre .1 .1) (c .before .before .before .before .levels-of .ensures))))
+    (λ c κs. let p = c .before .before .before .before .before .before .before .before .before .before .before .before .before .before .before .before .before .before .before .before .before .pre in (omega (arith, p .0, c .before .before .before .before .levels-of .ensures .some (omega (arith, c .before .before .before .before .before .before .before .before .if5 .left)), c .before .before .before .before .before .before .before .before .before .before .if4 .left, p .1 .1 .within), (c .before .before .fix-levels .ensures .size, edge-fits _ _ _ _ _ (p .1 .1) (c .before .before .before .before .levels-of .ensures))))
     (λ c. search needs)
     (λ c. node-edge _ _ _ _ _ _ _ _ _ _ _ _ (c .before .before .before .before .before .before .before .before .before .before .before .before .before .before .before .before .before .before .before .before .before .before .before .before .pre .1 .1) _ _ _ (c .before .before .before .before .before .before .before .before .fix-path .ensures) (c .before .before .before .before .before .fix-levels .ensures) (c .before .before .before .before .before .before .before .levels-of .ensures) _ _ (c .before .before .walk-block .ensures)))
-    λ t. walk-parts-lts.spec (walk-parts-calls t)
-    (walk-parts-at t)
-    walk-parts.Post
+    λ t. walk-parts-lts.spec (_, walk-node.Post, _, span-reads.Learnt, _, joined-reads.Learnt) _ walk-parts.Post
     (λ c. let f = c .before .before .before .before .pre .1 .1 .fits in omega (arith, f .slots, f .most))
-    (λ c. omega (arith, c .before .before .before .before .before .pre .1 .1 .inside, c .before .before .before .before .before .pre .1 .2))
+    (λ c. let p = c .before .before .before .before .before .pre in omega (arith, p .1 .1 .inside, p .1 .2))
     (λ c. omega (arith, lane-small _ _ _ _ (c .before .before .before .before .before .pre .1 .1)))
     (λ c κs. let p = c .before .before .before .before .before .before .pre in (omega (arith, p .0, p .1 .1 .inside, p .1 .2), (p .1 .0, first-fits _ _ _ _ (p .1 .1) (p .1 .2))))
     (λ c. search needs)
@@ -124,8 +87,8 @@ pub +walk-block+walk-node+walk-parts-spec : {M : Type 1} → statement M
     (λ c κs. let p = c .before .before .before .before .before .before .before .before .before .before .before .before .before .before .before .before .before .before .pre in (omega (arith, p .0, p .1 .1 .inside, p .1 .2), (p .1 .0, second-fits _ _ _ _ (p .1 .1) (p .1 .2) _ (half-is _ _ _ _ (p .1 .1) (p .1 .2) _ (c .before .before .before .before .span .ensures)))))
     (λ c κs. let k = closed-count _ _ _ _ _ (c .before .before .before .before .before .before .before .before .before .before .before .before .before .before .walk-node .ensures .counted) (c .before .before .before .before .before .before .before .before .before .before .lines .given .1) in addable _ _ _ (c .before .before .walk-node2 .result) (c .before .before .before .before .before .before .before .before .before .before .before .before .before .before .before .before .before .before .before .before .before .pre .1 .3) (k .0) (k .1) (c .before .before .walk-node2 .ensures .counted))
     (λ c. search needs)
-    (λ c. parts-out _ _ _ _ _ _ _ _ _ _ _ _ (c .before .before .before .before .before .before .before .before .before .before .before .pre .1 .1) (c .before .before .before .before .before .before .before .before .before .before .before .pre .1 .2) _ _ (c .before .before .before .before .walk-node .ensures) (c .enum-told .given .1))
+    (λ c. let p = c .before .before .before .before .before .before .before .before .before .before .before .pre in parts-out _ _ _ _ _ _ _ _ _ _ _ _ (p .1 .1) (p .1 .2) _ _ (c .before .before .before .before .walk-node .ensures) (c .enum-told .given .1))
     (λ c. search needs)
-    (λ c. parts-failed _ _ _ _ _ _ _ _ _ _ _ _ (c .before .before .before .before .before .before .before .before .before .before .before .before .pre .1 .1) (c .before .before .before .before .before .before .before .before .before .before .before .before .pre .1 .2) _ _ (c .before .before .before .before .before .walk-node .ensures) _ _ (c .before .state .given .1))
+    (λ c. let p = c .before .before .before .before .before .before .before .before .before .before .before .before .pre in parts-failed _ _ _ _ _ _ _ _ _ _ _ _ (p .1 .1) (p .1 .2) _ _ (c .before .before .before .before .before .walk-node .ensures) _ _ (c .before .state .given .1))
     (λ c. search needs)
     (λ c. let p = c .before .before .before .before .before .before .before .before .before .before .before .before .before .before .before .before .before .before .before .before .before .before .pre in parts-joined _ _ _ _ _ _ _ _ _ _ _ _ (p .1 .1) (p .1 .2) _ _ (c .before .before .before .before .before .before .before .before .before .before .before .before .before .before .before .walk-node .ensures) _ _ _ (c .before .before .before .before .before .before .before .before .before .before .before .lines .given .1) _ (half-is _ _ _ _ (p .1 .1) (p .1 .2) _ (c .before .before .before .before .before .before .before .before .span .ensures)) _ _ (c .before .before .before .walk-node2 .ensures) _ (c .joined .ensures))

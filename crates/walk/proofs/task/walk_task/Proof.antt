@@ -17,6 +17,6 @@ walk-task-spec =
     (λ c κs. search needs)
     (λ c κs. search needs)
     (λ c κs. search needs)
-    (λ c κs. (search needs, whole-fits _ _ _ (c .before .before .before .before .before .before .before .before .before .before .before .before .pre .0) (omega (arith, c .before .before .before .before .before .before .before .before .wide .ensures .0, c .before .before .before .before .before .before .before .before .before .before .before .before .pre .1)) (c .before .before .before .before .before .before .first-levels .ensures)))
+    (λ c κs. let p = c .before .before .before .before .before .before .before .before .before .before .before .before .pre in (search needs, whole-fits _ _ _ (p .0) (omega (arith, c .before .before .before .before .before .before .before .before .wide .ensures .0, p .1)) (c .before .before .before .before .before .before .first-levels .ensures)))
     (λ c. search needs)
     returns)
