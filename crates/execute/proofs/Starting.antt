@@ -3,7 +3,7 @@ use mathlib.Core.Path.{_≡_, sym, ap, ap₂, _∙_, subst}
 use mathlib.Core.Bool.{true, false, _&&_, false≢true}
 use mathlib.Core.List.{List}
 use Prim.Native.Nat.{ℕ, _-_, _%_, _^_, _≤_, _<_}
-use native.Mathlib.Nat.{mod-eq-of-lt}
+use native.Mathlib.Nat.{mod-lt, mod-eq-of-lt}
 use native.Mathlib.Omega.{arith}
 use native.Mathlib.Decide.{decLt}
 use lib.ListN.{length, getD, take, drop, replicate, length-replicate, List·getD-eq-default}
@@ -59,7 +59,7 @@ module _ (F : Limits) (S : Sensible F) (s n w low : ℕ) (e : w ≡ F .width) (l
       record { is = rw (← e, le-ltb s (2 ^ w) b); table = λ i. absurd (false≢true i) }
 
   pub state-small : low ≡ s → s < 2 ^ w
-  state-small h = omega (arith, native.Mathlib.Nat.mod-lt s (pow-pos w))
+  state-small h = omega (arith, mod-lt s (pow-pos w))
 
   pub state-fixed :
       (c d : List ℕ) (rest word : ℕ) → n ≤ F .facts → low ≡ s → word ≡ raised w s → NoneFixed n c → SetsFacts c 0 n (bitsOf word) d →

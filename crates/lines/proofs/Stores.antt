@@ -1,7 +1,7 @@
 -- Runs of stores, and the bytes of lines that they leave. Assumes nothing.
 use mathlib.Core.Path.{_≡_, refl, sym, ap, _∙_}
 use mathlib.Core.List.{List, [], _∷_, _++_, append-assoc, append-nil}
-use Prim.Native.Nat.{ℕ, suc, _+_, _-_, _*_, _≤_, _<_}
+use Prim.Native.Nat.{ℕ, suc, _+_, _-_, _*_, _<_}
 use native.Mathlib.Nat.{add-zero, add-suc, suc-add, mul-zero, mul-suc, mul-add}
 use native.Mathlib.Omega.{arith}
 use lib.ListN.{length, set, length-append}

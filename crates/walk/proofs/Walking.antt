@@ -31,7 +31,7 @@ use Rattle.walk.specs.declared.cases.Case.{Case}
 use Rattle.walk.specs.declared.cases.Block as walk
 use Rattle.walk.specs.declared.cases.Ending.{Ending}
 use Rattle.walk.specs.declared.cases.Ending.the-variants.{Out, Failed, Closed}
-use Rattle.walk.specs.Walks.{Ended, Counted, walkOf, CaseAt, valuesOf, LevelsOf, BlockFits, WalksBlock, NodeFits, NodeAt, WalksNode, WalksParts, Addable, joins}
+use Rattle.walk.specs.Walks.{Ended, Counted, walkOf, valuesOf, LevelsOf, BlockFits, WalksBlock, NodeFits, NodeAt, WalksNode, WalksParts, Addable, joins}
 
 -- ---- a walk after a walk
 
@@ -243,7 +243,7 @@ counted-joins g n a Out h k c = tt
 counted-joins g n a (Failed s b) h k c = omega arith
 counted-joins g n a (Closed m b next) h k c = (omega arith, omega arith)
 
-pub addable : (g n a : ℕ) (r : Ending) → g < 18446744073709551615 → a ≤ g → n ≤ a → Counted (g - a) r → Addable n a r
+pub addable : (g n a : ℕ) (r : Ending) → g + 1 < 2 ^ 64 → a ≤ g → n ≤ a → Counted (g - a) r → Addable n a r
 addable g n a Out l h k c = tt
 addable g n a (Failed s b) l h k c = omega arith
 addable g n a (Closed m b next) l h k c = (omega arith, omega arith)

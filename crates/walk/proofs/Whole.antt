@@ -4,7 +4,7 @@ use mathlib.Core.List.{List}
 use Prim.Native.Nat.{ℕ, _-_, _^_, _≤_}
 use native.Mathlib.Nat.{zero-mod}
 use native.Mathlib.Omega.{arith}
-use lib.ListN.{length, replicate, length-replicate}
+use lib.ListN.{replicate, length-replicate}
 use Rattle.model.specs.declared.Limits.{Limits}
 use Rattle.model.specs.declared.Problem.{Problem}
 use Rattle.model.specs.WellFormed.{Sensible}

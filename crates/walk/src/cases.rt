@@ -2,7 +2,7 @@
 // walk goes through it depth first, and an open case at its edge begins a block of its own. The grant that is left goes in, the visits come
 // out, and each closed case is a line in the buffer, where that has room.
 ghost use mathlib.Core.Path.{_≡_};
-ghost use Prim.Native.Nat.{_+_, _<_};
+ghost use Prim.Native.Nat.{_+_, _^_, _<_};
 ghost use lib.ListN.{length};
 ghost use Rattle.walk.specs.Walks.{LevelsOf, BlockFits, NodeFits, WalksBlock, WalksNode, WalksParts, Addable, Joins};
 use blocks::Places;
@@ -214,7 +214,7 @@ fn walk_parts(
     out: &mut [u8],
     to: usize,
 ) -> Ending
-    requires { ⌜ (length (now c) ≡ 256) × NodeFits size block case lane × (case .k < block .first + block .levels) × (grant < 18446744073709551615) ⌝ }
+    requires { ⌜ (length (now c) ≡ 256) × NodeFits size block case lane × (case .k < block .first + block .levels) × (grant + 1 < 2 ^ 64) ⌝ }
     ensures { λ r. ⌜ WalksParts size (now (problem .entry)) (now (steps .entry)) (now (actions .entry)) at (now (c .entry)) block case lane grant r (now (out .entry)) to (now (out .exit)) ⌝ }
 {
     let first = Case {
