@@ -28,7 +28,7 @@ use Rattle.model.proofs.Laws.Tasks.{list-for-is}
 use Rattle.blocks.specs.declared.plan.Task as blocks
 use Rattle.blocks.specs.Parts.{FindsTask}
 use Rattle.blocks.specs.Standing.{StandsFound}
-use Rattle.lines.specs.Putting.{Put, Puts}
+use Rattle.lines.specs.Putting.{Laid, LinesLaid}
 use Rattle.lines.proofs.Stores.{sets-append}
 use Rattle.walk.specs.declared.cases.Ending.{Ending}
 use Rattle.walk.specs.declared.cases.Ending.the-variants.{Out, Failed, Closed}
@@ -58,11 +58,11 @@ block-written F S before after ls n e room h =
 -- a walk that closes within its grant laid its lines
 lays-covered :
     (size g : ℕ) (w : Walked) (r : Ending) (before : List ℕ) (to : ℕ) (after : List ℕ) → Ended size g w r before to after →
-    (ls : List Line) (a : ℕ) → w ≡ covered ls a → a ≤ g → (next : ℕ) × Puts size before to ls next after
+    (ls : List Line) (a : ℕ) → w ≡ covered ls a → a ≤ g → (next : ℕ) × LinesLaid size before to ls next after
 lays-covered size g w Out before to after E ls a e h = absurd (omega (arith, ap visits e))
 lays-covered size g w (Failed x b) before to after (i, j) ls a e h = let z : _≡_ {A = ℕ} 0 1 = cc in absurd (omega arith)
 lays-covered size g w (Closed n b next) before to after (ms, i, j, k, p) ls a e h =
-    let z : ms ≡ ls = cc in (next, subst (λ (l : List Line). Puts size before to l next after) z p)
+    let z : ms ≡ ls = cc in (next, subst (λ (l : List Line). LinesLaid size before to l next after) z p)
 
 pub writes-task :
     (F : Limits) → Sensible F → (problem steps : List ℕ) (parts : Problem) (g body : ℕ) (before m after : List ℕ) (r : Ending) →
@@ -73,7 +73,7 @@ writes-task F S problem steps parts g body before m after r room em W =
       is =
           λ T p ls a w h b.
           let (next, puts) = lays-covered (F .line) g (walked T) r m headBytes after (W .is T p) ls a w h in
-          let q : Put (F .line) m headBytes ls next after = puts (omega (arith, ap length em, length-sets before 0 (headOf F body))) in
+          let q : Laid (F .line) m headBytes ls next after = puts (omega (arith, ap length em, length-sets before 0 (headOf F body))) in
           block-written F S before after ls body b room (q .bytes F refl ∙ ap (λ (l : List ℕ). sets l headBytes (linesBytes F ls)) em);
     }
 

@@ -207,11 +207,11 @@ Left s c g whole some sure k p r =
     InLane j (r .some) (r .sure) (joinValues g x (evalGroup g (case j) ms)))
 
 -- so does the whole loop, over n members from `at` on
-pub record Held (s c : List ℕ) (g : Group) (whole : Bool) (n at some sure k p : ℕ) : Type 0 where
+pub record Evaluating (s c : List ℕ) (g : Group) (whole : Bool) (n at some sure k p : ℕ) : Type 0 where
   pub onward : at ≤ p
   pub goes : (r : Planes) → p ≤ r .next → Left s c g whole some sure k p r → GroupPlanes s c g n at whole r
 
-pub held-begins : (s c : List ℕ) (g : Group) (whole : Bool) (n at : ℕ) → Held s c g whole n at (unitWord g) (unitWord g) n at
+pub held-begins : (s c : List ℕ) (g : Group) (whole : Bool) (n at : ℕ) → Evaluating s c g whole n at (unitWord g) (unitWord g) n at
 held-begins s c g whole n at =
     record {
       onward = omega arith;
@@ -277,7 +277,7 @@ module _ (s c : List ℕ) (g : Group) (whole : Bool) (some sure k p : ℕ) where
         )
 
     pub held-more :
-        (n at : ℕ) → Held s c g whole n at some sure k p → Held s c g whole n at (joinWords g some some′) (joinWords g sure sure′) (k - 1) o
+        (n at : ℕ) → Evaluating s c g whole n at some sure k p → Evaluating s c g whole n at (joinWords g some some′) (joinWords g sure sure′) (k - 1) o
     held-more n at h = record { onward = omega (arith, h .onward); goes = λ r b t. h .goes r (omega arith) (left-more r t) }
 
 -- ---- a sound formula alternates

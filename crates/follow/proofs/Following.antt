@@ -48,7 +48,7 @@ use Rattle.blocks.specs.declared.problem.Places.{Places}
 use Rattle.follow.specs.declared.Before.{Before}
 use Rattle.follow.specs.declared.Followed.{Followed}
 use Rattle.follow.specs.declared.Followed.the-variants.{Fault, Next}
-use Rattle.lines.specs.Lines.{widthOf, lineOf, lineNumber, Reads, formFault, Found, ChecksForm}
+use Rattle.lines.specs.Lines.{widthOf, lineOf, lineNumber, Reads, formFault, FormIs, ChecksForm}
 use Rattle.follow.specs.Follows.{Followable, Lanes, Claims, Within, LineIs, NextWithin, FollowsLine, FollowsLines, FollowsBody}
 
 -- ---- a claim
@@ -121,7 +121,7 @@ module _ (w : ℕ) (n : ℕ) (l : model.Line) where
 -- a line whose form `check_at` found sound
 module _ (F : Limits) (facts : ℕ) (S : Followable F facts) (list : List ℕ) (i : ℕ) (r : Checked) (y : ChecksForm list i facts (F .line) r) (l : Line) (e : r ≡ Sound l) where
   sound : (formFault (widthOf (F .line)) facts (lineNumber (F .line) list i) ≡ 0) × Reads list i (F .line) l
-  sound = subst (Found list i facts (F .line)) e (y .found)
+  sound = subst (FormIs list i facts (F .line)) e (y .found)
 
   pub line-small : l .value < 2 ^ F .width
   line-small = rw (S .sensible .bits) (sound .1 .small)
@@ -143,7 +143,7 @@ module _ (F : Limits) (problem steps actions : List ℕ) (facts : ℕ) (S : Foll
 
   pub line-faulty : (f : ℕ) → r ≡ Faulty f → length c ≡ 256 → Follows (Fault f) c
   line-faulty f e g =
-      let (o, h) = subst (Found list i facts (F .line)) e (y .found) in
+      let (o, h) = subst (FormIs list i facts (F .line)) e (y .found) in
       record { is = λ T Q t. (fault-form (T .width) facts _ (lookAt T) (b .end) f (at-width T Q _ ∙ o) h, h); within = tt; size = g }
 
   module _ (l : Line) (e : r ≡ Sound l) where

@@ -13,14 +13,14 @@ use Rattle.model.specs.declared.Problem.{Problem}
 use Rattle.model.specs.declared.Outcome.{Outcome}
 use Rattle.model.specs.declared.JudgeAnswer.{JudgeAnswer}
 use Rattle.blocks.specs.Standing.{TaskIn}
-use Rattle.lines.specs.Putting.{Puts}
+use Rattle.lines.specs.Putting.{LinesLaid}
 
 pub record OutcomeOf (F : Limits) (problem steps : List ℕ) (parts : Problem) (x : ℕ) (r : Outcome) : Type 0 where
   pub is : (T : Task) → TaskIn F problem steps parts T → IsState T x → outcome r ≡ runOf T x
 
 -- the lines of a right verdict stand in the buffer from `to` on, if they fit
 abbrev pub LaysLines : Limits → Verdict (List Line) → List ℕ → ℕ → List ℕ → Type 0
-LaysLines F (right ls a) before to after = Puts (F .line) before to ls (to + F .line * length ls) after
+LaysLines F (right ls a) before to after = LinesLaid (F .line) before to ls (to + F .line * length ls) after
 LaysLines F (wrong s o a) before to after = Unit {0}
 LaysLines F (undecided a) before to after = Unit {0}
 

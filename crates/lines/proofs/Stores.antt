@@ -11,7 +11,7 @@ use Rattle.model.specs.Walk.{Line}
 use Rattle.model.specs.Read.{bytesOf}
 use Rattle.model.specs.ListBytes.{lineBytes, linesBytes}
 use Rattle.model.proofs.Laws.Reading.{length-bytesOf}
-use Rattle.lines.specs.Putting.{Puts, AddsLine}
+use Rattle.lines.specs.Putting.{LinesLaid, AddsLine}
 
 -- ---- stores
 
@@ -57,8 +57,8 @@ module _ (size : ℕ) where
 
   -- lines after lines
   pub puts-append :
-      2 < size → (l m n : List ℕ) (to p r : ℕ) (ls ms : List Line) → length m ≡ length l → Puts size l to ls p m → Puts size m p ms r n →
-      Puts size l to (ls ++ ms) r n
+      2 < size → (l m n : List ℕ) (to p r : ℕ) (ls ms : List Line) → length m ≡ length l → LinesLaid size l to ls p m → LinesLaid size m p ms r n →
+      LinesLaid size l to (ls ++ ms) r n
   puts-append few l m n to p r ls ms same a b h =
       let c : size * length (ls ++ ms) ≡ size * length ls + size * length ms = rw (length-append, mul-add) in
       let x = a (omega arith) in

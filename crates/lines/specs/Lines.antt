@@ -40,9 +40,9 @@ formFault w n l =
     (first (not (eqb (l .value % 2 ^ (w - l .k)) 0)) 67 0))
 
 -- what a check found
-abbrev pub Found : List ℕ → ℕ → ℕ → ℕ → Checked → Type 0
-Found list i n size (Fault f) = (formFault (widthOf size) n (lineNumber size list i) ≡ f) × (0 < f)
-Found list i n size (Sound l) = (formFault (widthOf size) n (lineNumber size list i) ≡ 0) × Reads list i size l
+abbrev pub FormIs : List ℕ → ℕ → ℕ → ℕ → Checked → Type 0
+FormIs list i n size (Fault f) = (formFault (widthOf size) n (lineNumber size list i) ≡ f) × (0 < f)
+FormIs list i n size (Sound l) = (formFault (widthOf size) n (lineNumber size list i) ≡ 0) × Reads list i size l
 
 pub record ChecksForm (list : List ℕ) (i n size : ℕ) (r : Checked) : Type 0 where
-  pub found : Found list i n size r
+  pub found : FormIs list i n size r

@@ -8,19 +8,16 @@ use Rattle.model.specs.declared.Limits.{Limits}
 use Rattle.model.specs.Walk.{Line}
 use Rattle.model.specs.ListBytes.{linesBytes}
 
-abbrev pub lineOf : ℕ → ℕ → ℕ → Line
-lineOf kind k value = record { kind = kind; k = k; value = value }
-
 -- the lines ls were put into `before` at `to`; they end at r, and the buffer is `after`: their bytes are those of every version whose
 -- lines have this size
-pub record Put (size : ℕ) (before : List ℕ) (to : ℕ) (ls : List Line) (r : ℕ) (after : List ℕ) : Type 0 where
+pub record Laid (size : ℕ) (before : List ℕ) (to : ℕ) (ls : List Line) (r : ℕ) (after : List ℕ) : Type 0 where
   pub end : r ≡ to + size * length ls
   pub bytes : (F : Limits) → F .line ≡ size → after ≡ sets before to (linesBytes F ls)
 
 -- so they were if they fit
-abbrev pub Puts : ℕ → List ℕ → ℕ → List Line → ℕ → List ℕ → Type 0
-Puts size before to ls r after = to + size * length ls ≤ length before → Put size before to ls r after
+abbrev pub LinesLaid : ℕ → List ℕ → ℕ → List Line → ℕ → List ℕ → Type 0
+LinesLaid size before to ls r after = to + size * length ls ≤ length before → Laid size before to ls r after
 
 pub record AddsLine (size : ℕ) (before : List ℕ) (to kind k value r : ℕ) (after : List ℕ) : Type 0 where
   pub same : length after ≡ length before
-  pub is : Puts size before to (lineOf kind k value ∷ []) r after
+  pub is : LinesLaid size before to (record { kind = kind; k = k; value = value } ∷ []) r after

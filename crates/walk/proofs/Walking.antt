@@ -22,7 +22,7 @@ use Rattle.model.proofs.Laws.Splitting.{length-case, case-unknown, case-no, cas
 use Rattle.table.specs.Blocks.{blockCase, FixesLevels, FixesPath}
 use Rattle.table.proofs.Blocks.{length-block, block-outside, block-root, part-no, part-yes}
 use Rattle.lines.specs.Lines.{widthOf}
-use Rattle.lines.specs.Putting.{Puts, AddsLine}
+use Rattle.lines.specs.Putting.{LinesLaid, AddsLine}
 use Rattle.lines.proofs.Stores.{puts-append}
 use Rattle.execute.specs.Cases.{lookBits, LooksAtCases}
 use Rattle.execute.specs.declared.cases.Looks.{Looks}
@@ -46,7 +46,7 @@ visits-join (failed s a) y = omega arith
 -- the first part closed: the second decides
 join-closed :
     (size : ℕ) → 2 < size → (g n a next to : ℕ) (ls : List Line) (y : Walked) (r : Ending) (before mid after : List ℕ) →
-    length mid ≡ length before → length ls ≡ n → a ≤ g → Puts size before to ls next mid → Ended size (g - a) y r mid next after →
+    length mid ≡ length before → length ls ≡ n → a ≤ g → LinesLaid size before to ls next mid → Ended size (g - a) y r mid next after →
     Ended size (g + 1) (join (covered ls a) y) (joins n a r) before to after
 join-closed size S g n a next to ls y Out before mid after same c h p q = omega (arith, visits-closed ls a y)
 join-closed size S g n a next to ls y (Failed s b) before mid after same c h p (e, k) =
@@ -82,8 +82,8 @@ module _ (size : ℕ) (problem steps actions : List ℕ) (at : Places) (c : List
   abbrev At : Task → Type 0
   At = NodeAt size problem steps actions at c b case lane
 
-  abbrev Found : Ending → List ℕ → Type 0
-  Found r after = WalksNode size problem steps actions at c b case lane g r before to after
+  abbrev Node : Ending → List ℕ → Type 0
+  Node r after = WalksNode size problem steps actions at c b case lane g r before to after
 
   -- what the lane's two bits say is what a visit finds
   node-look : lane < 64 → (T : Task) → At T → lookAt T (case .k) (case .number) ≡ lookBits (laneBit lane (b .empty)) (laneBit lane (b .carries))
@@ -93,14 +93,14 @@ module _ (size : ℕ) (problem steps actions : List ℕ) (at : Places) (c : List
       (N .looked lane l ∙
       ap (λ (x : List Kleene). lookOf (eval three x (T .initial)) (run three (T .facts) (T .goal) (T .plan) 0 x)) (N .lane-is))
 
-  pub node-out : g ≡ 0 → Found Out before
+  pub node-out : g ≡ 0 → Node Out before
   node-out z =
       record { counted = tt; same = refl; is = λ T N. omega (arith, visits-walk (T .width) (lookAt T) (case .left) (lookAt T (case .k) (case .number)) (case .k) (case .number)) }
 
   -- a lane that is closed
   node-closed :
       (κ : Kind) (next : ℕ) (after : List ℕ) → 0 < g → AddsLine size before to (kindNumber κ) (case .k) (case .number) next after →
-      ((T : Task) → At T → lookAt T (case .k) (case .number) ≡ Walk.closed κ) → Found (Closed 1 1 next) after
+      ((T : Task) → At T → lookAt T (case .k) (case .number) ≡ Walk.closed κ) → Node (Closed 1 1 next) after
   node-closed κ next after h A look =
       record {
         counted = (omega arith, omega arith);
@@ -110,12 +110,12 @@ module _ (size : ℕ) (problem steps actions : List ℕ) (at : Places) (c : List
 
   pub node-empty :
       lane < 64 → 0 < g → laneBit lane (b .empty) ≡ 1 → (next : ℕ) (after : List ℕ) → AddsLine size before to 0 (case .k) (case .number) next after →
-      Found (Closed 1 1 next) after
+      Node (Closed 1 1 next) after
   node-empty l h e next after A = node-closed empty next after h A (λ T N. node-look l T N ∙ rw e)
 
   pub node-carries :
       lane < 64 → 0 < g → (laneBit lane (b .empty) ≡ 1 → ⊥) → laneBit lane (b .carries) ≡ 1 → (next : ℕ) (after : List ℕ) →
-      AddsLine size before to 1 (case .k) (case .number) next after → Found (Closed 1 1 next) after
+      AddsLine size before to 1 (case .k) (case .number) next after → Node (Closed 1 1 next) after
   node-carries l h n e next after A =
       let z : laneBit lane (b .empty) ≡ 0 = zero-bit lane (b .empty) n in
       node-closed carries next after h A (λ T N. node-look l T N ∙ rw (z, e))
@@ -124,7 +124,7 @@ module _ (size : ℕ) (problem steps actions : List ℕ) (at : Places) (c : List
     node-open : (T : Task) → At T → lookAt T (case .k) (case .number) ≡ Walk.opened
     node-open T N = let y = zero-bit lane (b .empty) n in let z = zero-bit lane (b .carries) m in node-look l T N ∙ rw (y, z)
 
-    pub node-fails : case .left ≡ 0 → Found (Failed (case .number) 1) before
+    pub node-fails : case .left ≡ 0 → Node (Failed (case .number) 1) before
     node-fails z = record { counted = h; same = refl; is = λ T N. (rw (node-open T N, z, walk-failing), h) }
 
     abbrev parts : Task → Walked
@@ -133,7 +133,7 @@ module _ (size : ℕ) (problem steps actions : List ℕ) (at : Places) (c : List
         (walkOf T (case .left - 1) (suc (case .k)) (case .number + 2 ^ (T .width - suc (case .k))))
 
     pub node-splits :
-        0 < case .left → (r : Ending) (after : List ℕ) → WalksParts size problem steps actions at c b case lane (g - 1) r before to after → Found r after
+        0 < case .left → (r : Ending) (after : List ℕ) → WalksParts size problem steps actions at c b case lane (g - 1) r before to after → Node r after
     node-splits k r after P =
         let u : g - 1 + 1 ≡ g = omega arith in
         record {

@@ -14,7 +14,7 @@ use Rattle.model.specs.Planes.{laneBit, Table}
 use Rattle.blocks.specs.Standing.{TaskStands, TaskIn}
 use Rattle.table.specs.Blocks.{blockCase}
 use Rattle.lines.specs.Lines.{widthOf}
-use Rattle.lines.specs.Putting.{Puts}
+use Rattle.lines.specs.Putting.{LinesLaid}
 use Rattle.execute.specs.Cases.{lookBits}
 use Rattle.blocks.specs.declared.problem.Places.{Places}
 use Rattle.walk.specs.declared.cases.Case.{Case}
@@ -29,7 +29,7 @@ abbrev pub Ended : ℕ → ℕ → Walked → Ending → List ℕ → ℕ → Li
 Ended size g w Out before to after = g < visits w
 Ended size g w (Failed s a) before to after = (w ≡ failed s a) × (a ≤ g)
 Ended size g w (Closed n a next) before to after =
-    (ls : List Line) × (w ≡ covered ls a) × (length ls ≡ n) × (a ≤ g) × Puts size before to ls next after
+    (ls : List Line) × (w ≡ covered ls a) × (length ls ≡ n) × (a ≤ g) × LinesLaid size before to ls next after
 
 -- what may be added up, whatever stands in the blocks
 abbrev pub Counted : ℕ → Ending → Type 0

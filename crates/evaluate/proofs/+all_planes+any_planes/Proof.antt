@@ -17,14 +17,14 @@ use Rattle.evaluate.proofs.any_planes.Reads as any-planes
 use Rattle.evaluate.proofs.+all_planes+any_planes.Lts-any_planes as any-planes-lts
 use Rattle.evaluate.proofs.+all_planes+any_planes.{statement}
 use Rattle.evaluate.proofs.+all_planes+any_planes.Tie.{close}
-use Rattle.evaluate.proofs.Evaluating.{item-here, item-counted, literal-met, group-met, Held, held-begins, held-more, left-nothing, left-none, left-decided}
+use Rattle.evaluate.proofs.Evaluating.{item-here, item-counted, literal-met, group-met, Evaluating, held-begins, held-more, left-nothing, left-none, left-decided}
 
 -- the same for both, but for the kind of group
 abbrev μ : Measures 2 kinds.ps ℕ
 μ κs a = length (a .0 .now) - a .1 .0
 
 abbrev Inv-loop : Group → all-planes-lts.InvT-loop
-Inv-loop g s at n c whole some₀ sure₀ p₀ k₀ some sure p k = Held s c g whole n at some sure k p
+Inv-loop g s at n c whole some₀ sure₀ p₀ k₀ some sure p k = Evaluating s c g whole n at some sure k p
 
 abbrev μ-loop : all-planes-lts.MeasureT-loop
 μ-loop s at n c whole some₀ sure₀ p₀ k₀ some sure p k = k
