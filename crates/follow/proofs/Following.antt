@@ -22,6 +22,7 @@ use Rattle.model.specs.declared.FollowAnswer.{FollowAnswer}
 use Rattle.model.specs.declared.FollowAnswer.the-variants.{Refused as FollowRefused, Passes}
 use Rattle.model.specs.declared.Problem.{Problem}
 use Rattle.model.specs.Case.{Task}
+use Rattle.model.specs.WellFormed.{Sensible}
 use Rattle.model.specs.Walk as model
 use Rattle.model.specs.Walk.{empty, carries, closed, opened, lookAt}
 use Rattle.model.specs.Planes.{laneBit}
@@ -49,7 +50,7 @@ use Rattle.follow.specs.declared.Before.{Before}
 use Rattle.follow.specs.declared.Followed.{Followed}
 use Rattle.follow.specs.declared.Followed.the-variants.{Fault, Next}
 use Rattle.lines.specs.Lines.{widthOf, lineOf, lineNumber, Reads, formFault, FormIs, ChecksForm}
-use Rattle.follow.specs.Follows.{Followable, Lanes, Claims, Within, LineIs, NextWithin, FollowsLine, FollowsLines, FollowsBody}
+use Rattle.follow.specs.Follows.{Followable, LineTask, Lanes, Claims, Within, LineIs, NextWithin, FollowsLine, FollowsLines, FollowsBody}
 
 -- ---- a claim
 
@@ -119,49 +120,49 @@ module _ (w : ℕ) (n : ℕ) (l : model.Line) where
   form-fits e = ltb-false n (l .k) (form-none _ (ltb n (l .k)) _ 0 e .1)
 
 -- a line whose form `check_at` found sound
-module _ (F : Limits) (facts : ℕ) (S : Followable F facts) (list : List ℕ) (i : ℕ) (r : Checked) (y : ChecksForm list i facts (F .line) r) (l : Line) (e : r ≡ Sound l) where
-  sound : (formFault (widthOf (F .line)) facts (lineNumber (F .line) list i) ≡ 0) × Reads list i (F .line) l
-  sound = subst (FormIs list i facts (F .line)) e (y .found)
+module _ (size : ℕ) (facts : ℕ) (S : Followable size facts) (list : List ℕ) (i : ℕ) (r : Checked) (y : ChecksForm list i facts size r) (l : Line) (e : r ≡ Sound l) where
+  sound : (formFault (widthOf size) facts (lineNumber size list i) ≡ 0) × Reads list i size l
+  sound = subst (FormIs list i facts size) e (y .found)
 
-  pub line-small : l .value < 2 ^ F .width
-  line-small = rw (S .sensible .bits) (sound .1 .small)
+  pub line-small : l .value < 2 ^ widthOf size
+  line-small = sound .1 .small
 
   pub k-fits : l .k ≤ facts
-  k-fits = subst (λ (z : model.Line). z .k ≤ facts) (sym (sound .1 .is)) (form-fits (widthOf (F .line)) facts _ (sound .0))
+  k-fits = subst (λ (z : model.Line). z .k ≤ facts) (sym (sound .1 .is)) (form-fits (widthOf size) facts _ (sound .0))
 
 -- what `check_at` answered and the table did, of the line numbered i
-module _ (F : Limits) (problem steps actions : List ℕ) (facts : ℕ) (S : Followable F facts) (at : Places) (list : List ℕ) (i : ℕ) (b : Before) (c : List ℕ)
-    (r : Checked) (y : ChecksForm list i facts (F .line) r) where
+module _ (size : ℕ) (problem steps actions : List ℕ) (facts : ℕ) (S : Followable size facts) (at : Places) (list : List ℕ) (i : ℕ) (b : Before) (c : List ℕ)
+    (r : Checked) (y : ChecksForm list i facts size r) where
   abbrev Stands : Task → Type 0
-  Stands T = VersionTask F problem steps actions facts at T
+  Stands T = LineTask size problem steps actions facts at T
 
   abbrev Follows : Followed → List ℕ → Type 0
-  Follows q d = FollowsLine F problem steps actions facts at list i b c q d
+  Follows q d = FollowsLine size problem steps actions facts at list i b c q d
 
-  at-width : (T : Task) → Stands T → (l : model.Line) → formFault (T .width) facts l ≡ formFault (widthOf (F .line)) facts l
-  at-width T Q l = ap (λ (w : ℕ). formFault w facts l) (Q .width ∙ S .sensible .bits)
+  at-width : (T : Task) → Stands T → (l : model.Line) → formFault (T .width) facts l ≡ formFault (widthOf size) facts l
+  at-width T Q l = ap (λ (w : ℕ). formFault w facts l) (Q .width)
 
   pub line-faulty : (f : ℕ) → r ≡ Faulty f → length c ≡ 256 → Follows (Fault f) c
   line-faulty f e g =
-      let (o, h) = subst (FormIs list i facts (F .line)) e (y .found) in
-      record { is = λ T Q t. (fault-form (T .width) facts _ (lookAt T) (b .end) f (at-width T Q _ ∙ o) h, h); within = tt; size = g }
+      let (o, h) = subst (FormIs list i facts size) e (y .found) in
+      record { is = λ T Q t. (fault-form (T .width) facts _ (lookAt T) (b .end) f (at-width T Q _ ∙ o) h, h); within = tt; words = g }
 
   module _ (l : Line) (e : r ≡ Sound l) where
-    abbrev found : (formFault (widthOf (F .line)) facts (lineNumber (F .line) list i) ≡ 0) × Reads list i (F .line) l
-    found = sound F facts S list i r y l e
+    abbrev found : (formFault (widthOf size) facts (lineNumber size list i) ≡ 0) × Reads list i size l
+    found = sound size facts S list i r y l e
 
     placed-at :
         (T : Task) → Stands T →
-        fault (T .width) (lookAt T) facts (lineNumber (F .line) list i) (b .end) ≡ placed (T .width) facts (lineOf l) (lookAt T) (b .end)
+        fault (T .width) (lookAt T) facts (lineNumber size list i) (b .end) ≡ placed (T .width) facts (lineOf l) (lookAt T) (b .end)
     placed-at T Q =
         fault-placed (T .width) facts _ (lookAt T) (b .end) (at-width T Q _ ∙ found .0) ∙
         ap (λ (z : model.Line). placed (T .width) facts z (lookAt T) (b .end)) (sym (found .1 .is))
 
     pub line-apart : (l .value ≡ b .end → ⊥) → length c ≡ 256 → Follows (Fault 68) c
     unfolding first
-    line-apart h g = record { is = λ T Q t. (placed-at T Q ∙ rw (ne-eqb (l .value) (b .end) h), omega arith); within = tt; size = g }
+    line-apart h g = record { is = λ T Q t. (placed-at T Q ∙ rw (ne-eqb (l .value) (b .end) h), omega arith); within = tt; words = g }
 
-    module _ (begins : l .value ≡ b .end) (W : Within F facts b) (k : ℕ) (k-as : k ≡ l .k) (w : ℕ) (w-as : w ≡ F .width) (x x′ : ℕ)
+    module _ (begins : l .value ≡ b .end) (W : Within size facts b) (k : ℕ) (k-as : k ≡ l .k) (w : ℕ) (w-as : w ≡ widthOf size) (x x′ : ℕ)
         (x-is : x ≡ raised w (b .value)) (x′-is : x′ ≡ raised w (l .value)) (d : List ℕ) (D : SetsCase c (b .k) x k x′ d)
         (u : Bool) (C : Claims problem steps actions at (l .kind) d u) where
       width-as : (T : Task) → Stands T → w ≡ T .width
@@ -169,13 +170,13 @@ module _ (F : Limits) (problem steps actions : List ℕ) (facts : ℕ) (S : Foll
 
       moved : (T : Task) → Stands T → Lanes c T (b .k) (b .value) → Lanes d T k (l .value)
       moved T Q t =
-          D .is (T .width) (T .facts) (b .value) (l .value) (omega (arith, Q .width, S .word)) (omega (arith, Q .few, Q .width, S .sensible .width))
+          D .is (T .width) (T .facts) (b .value) (l .value) (omega (arith, Q .width, S .most)) (omega (arith, Q .facts, Q .width, S .facts))
           (x-is ∙ ap (λ (z : ℕ). raised z (b .value)) (width-as T Q)) (x′-is ∙ ap (λ (z : ℕ). raised z (l .value)) (width-as T Q))
-          (omega (arith, W .k, Q .facts)) (omega (arith, k-fits F facts S list i r y l e, Q .facts)) t
+          (omega (arith, W .k, Q .facts)) (omega (arith, k-fits size facts S list i r y l e, Q .facts)) t
 
       claimed :
           (T : Task) → Stands T → Lanes c T (b .k) (b .value) → (z : Bool) → u ≡ z →
-          fault (T .width) (lookAt T) facts (lineNumber (F .line) list i) (b .end) ≡ first (not z) 69 0
+          fault (T .width) (lookAt T) facts (lineNumber size list i) (b .end) ≡ first (not z) 69 0
       unfolding first
       claimed T Q t z h =
           let m : claims (l .kind) (lookAt T (l .k) (l .value)) ≡ z =
@@ -193,23 +194,23 @@ module _ (F : Limits) (problem steps actions : List ℕ) (facts : ℕ) (S : Foll
                   g ∙ (λ j. begins j + 2 ^ (width-as T Q j - (k-as ∙ ap (λ (q : model.Line). q .k) (found .1 .is)) j)),
                   moved T Q t,
                 );
-            within = record { k = omega (arith, k-fits F facts S list i r y l e); value = line-small F facts S list i r y l e };
-            size = D .size;
+            within = record { k = omega (arith, k-fits size facts S list i r y l e); value = line-small size facts S list i r y l e };
+            words = D .size;
           }
 
       pub line-denied : u ≡ false → Follows (Fault 69) d
       unfolding first
-      line-denied h = record { is = λ T Q t. (claimed T Q t false h, omega arith); within = tt; size = D .size }
+      line-denied h = record { is = λ T Q t. (claimed T Q t false h, omega arith); within = tt; words = D .size }
 
 -- numbers of so many bits, in a word
-pub word-fits : (F : Limits) (n : ℕ) → Followable F n → (w v : ℕ) → w ≡ F .width → v < 2 ^ F .width → (0 < w) × (w ≤ 64) × (v < 2 ^ w)
-word-fits F n S w v e h = (omega (arith, S .sensible .line, S .sensible .bits), omega (arith, S .word), rw e h)
+pub word-fits : (size n : ℕ) → Followable size n → (v : ℕ) → v < 2 ^ widthOf size → (0 < widthOf size) × (widthOf size ≤ 64) × (v < 2 ^ widthOf size)
+word-fits size n S v h = (omega (arith, S .least), omega (arith, S .most), h)
 
-pub span-small : (F : Limits) (n : ℕ) → Followable F n → (w k v half : ℕ) → w ≡ F .width → v < 2 ^ F .width → half ≡ 2 ^ (w - k) → v + half < 2 ^ 64
-span-small F n S w k v half e h g =
-    let i = pow-mono {i = F .width - k} {j = F .width} (omega arith) in
-    let j = pow-mono {i = suc (F .width)} {j = 64} (omega (arith, S .word)) in
-    omega (arith, pow-suc 2 (F .width), ap (λ (x : ℕ). 2 ^ (x - k)) e)
+pub span-small : (size n : ℕ) → Followable size n → (k v span : ℕ) → v < 2 ^ widthOf size → span ≡ 2 ^ (widthOf size - k) → v + span < 2 ^ 64
+span-small size n S k v span h g =
+    let i = pow-mono {i = widthOf size - k} {j = widthOf size} (omega arith) in
+    let j = pow-mono {i = suc (widthOf size)} {j = 64} (omega (arith, S .most)) in
+    omega (arith, pow-suc 2 (widthOf size))
 
 -- ---- the lines one by one
 
@@ -252,8 +253,9 @@ pub record Followed-so-far (F : Limits) (problem steps actions : List ℕ) (fact
       (follow (T .width) (lookAt T) facts (linesFrom F list m headBytes) 0 0 ≡
       follow (T .width) (lookAt T) facts (linesFrom F list (m - i) (headBytes + F .line * i)) i (b .end)) ×
       Lanes c T (b .k) (b .value)
+  pub sensible : Sensible F
   pub few : i ≤ m
-  pub within : Within F facts b
+  pub within : Within (F .line) facts b
   pub size : length c ≡ 256
 
 -- the bytes of a line that is not past the last
@@ -267,32 +269,36 @@ module _ (F : Limits) (problem steps actions : List ℕ) (facts : ℕ) (at : Pla
   abbrev Answers : FollowAnswer → Type 0
   Answers r = FollowsLines F problem steps actions facts at list m r
 
-  pub none-followed : (n : ℕ) → n ≡ facts → (c : List ℕ) → NoneFixed n c → So-far c (record { k = 0; value = 0; end = 0 }) 0
-  none-followed n e c N =
+  line-task : Sensible F → (T : Task) → VersionTask F problem steps actions facts at T → LineTask (F .line) problem steps actions facts at T
+  line-task S T Q = record { width = Q .width ∙ S .bits; facts = Q .facts; stands = Q .stands }
+
+  pub none-followed : Sensible F → (n : ℕ) → n ≡ facts → (c : List ℕ) → NoneFixed n c → So-far c (record { k = 0; value = 0; end = 0 }) 0
+  none-followed S n e c N =
       record {
         same =
-            λ T S. (
+            λ T Q. (
               ap₂ (λ (k p : ℕ). follow (T .width) (lookAt T) facts (linesFrom F list k p) 0 0) (omega arith) (omega (arith, mul-zero (F .line))),
-              rw (case-first (T .width) (T .facts), sym (S .facts), sym e) (N .is),
+              rw (case-first (T .width) (T .facts), sym (Q .facts), sym e) (N .is),
             );
+        sensible = S;
         few = omega arith;
-        within = record { k = omega arith; value = omega (arith, pow-pos (F .width)) };
+        within = record { k = omega arith; value = omega (arith, pow-pos (widthOf (F .line))) };
         size = N .size;
       }
 
   module _ (c : List ℕ) (b : Before) (i : ℕ) (o : So-far c b i) (r : Followed) (d : List ℕ) (h : i < m)
-      (y : FollowsLine F problem steps actions facts at list i b c r d) where
-    line-told : (T : Task) → VersionTask F problem steps actions facts at T → (q : Followed) → r ≡ q → LineIs F list facts i (b .end) T q d
-    line-told T S q e = subst (λ (q : Followed). LineIs F list facts i (b .end) T q d) e (y .is T S (o .same T S .1))
+      (y : FollowsLine (F .line) problem steps actions facts at list i b c r d) where
+    line-told : (T : Task) → VersionTask F problem steps actions facts at T → (q : Followed) → r ≡ q → LineIs (F .line) list facts i (b .end) T q d
+    line-told T Q q e = subst (λ (q : Followed). LineIs (F .line) list facts i (b .end) T q d) e (y .is T (line-task (o .sensible) T Q) (o .same T Q .1))
 
     pub lines-fault : (f : ℕ) → r ≡ Fault f → Answers (FollowRefused (record { number = f; place = i }))
     unfolding lineAt
     lines-fault f e =
         record {
           is =
-              λ T S.
-              let (a, l) = line-told T S (Fault f) e in
-              sym (o .same T S .0 ∙ follow-fault F (T .width) (lookAt T) facts list (m - i) (headBytes + F .line * i) i (b .end) f (omega arith) a l);
+              λ T Q.
+              let (a, l) = line-told T Q (Fault f) e in
+              sym (o .same T Q .0 ∙ follow-fault F (T .width) (lookAt T) facts list (m - i) (headBytes + F .line * i) i (b .end) f (omega arith) a l);
         }
 
     pub lines-next : (b′ : Before) → r ≡ Next b′ → So-far d b′ (i + 1)
@@ -300,16 +306,17 @@ module _ (F : Limits) (problem steps actions : List ℕ) (facts : ℕ) (at : Pla
     lines-next b′ e =
         record {
           same =
-              λ T S.
-              let (a, z, t) = line-told T S (Next b′) e in (
-                o .same T S .0 ∙
+              λ T Q.
+              let (a, z, t) = line-told T Q (Next b′) e in (
+                o .same T Q .0 ∙
                     follow-next F (T .width) (lookAt T) facts list (m - i) (headBytes + F .line * i) i (b .end) (b′ .end) (omega arith) a z ∙
                     ap₂ (λ (k p : ℕ). follow (T .width) (lookAt T) facts (linesFrom F list k p) (i + 1) (b′ .end)) (omega arith) (omega (arith, mul-add (F .line) i 1)),
                 t,
               );
+          sensible = o .sensible;
           few = omega arith;
-          within = subst (NextWithin F facts) e (y .within);
-          size = y .size;
+          within = subst (NextWithin (F .line) facts) e (y .within);
+          size = y .words;
         }
 
   module _ (c : List ℕ) (b : Before) (i : ℕ) (o : So-far c b i) (h : m ≤ i) (w whole : ℕ) (w-as : w ≡ F .width) (all : whole ≡ 2 ^ (w - 0)) where
@@ -317,16 +324,16 @@ module _ (F : Limits) (problem steps actions : List ℕ) (facts : ℕ) (at : Pla
     all-followed = omega (arith, o .few)
 
     whole-is : (T : Task) → VersionTask F problem steps actions facts at T → whole ≡ 2 ^ T .width
-    whole-is T S = all ∙ ap (λ (x : ℕ). 2 ^ x) (omega (arith, S .width))
+    whole-is T Q = all ∙ ap (λ (x : ℕ). 2 ^ x) (omega (arith, Q .width))
 
     pub lines-short : (b .end ≡ whole → ⊥) → Answers (FollowRefused (record { number = 70; place = m }))
     lines-short d =
         record {
           is =
-              λ T S.
+              λ T Q.
               sym
-              (o .same T S .0 ∙
-              follow-short F (T .width) (lookAt T) facts list (m - i) _ i (b .end) (omega arith) (λ e. d (e ∙ sym (whole-is T S))) ∙
+              (o .same T Q .0 ∙
+              follow-short F (T .width) (lookAt T) facts list (m - i) _ i (b .end) (omega arith) (λ e. d (e ∙ sym (whole-is T Q))) ∙
               ap (refused 70) all-followed);
         }
 
@@ -334,10 +341,10 @@ module _ (F : Limits) (problem steps actions : List ℕ) (facts : ℕ) (at : Pla
     lines-pass d =
         record {
           is =
-              λ T S.
+              λ T Q.
               sym
-              (o .same T S .0 ∙
-              follow-ends F (T .width) (lookAt T) facts list (m - i) _ i (b .end) (omega arith) (d ∙ whole-is T S) ∙
+              (o .same T Q .0 ∙
+              follow-ends F (T .width) (lookAt T) facts list (m - i) _ i (b .end) (omega arith) (d ∙ whole-is T Q) ∙
               ap answered all-followed);
         }
 
@@ -404,8 +411,10 @@ unfolding followList Answer._>>=_
 follow-refused s t list r f h = rw (f .refusal h)
 
 module _ (problem plan : List ℕ) (r : blocks.Task) (f : FindsTask version1 problem plan r) (o : StandsFound version1 problem plan r) where
-  pub followable : Followable (r .limits) (r .problem .facts)
-  followable = record { sensible = o .sensible; word = subst (λ (F : Limits). F .width < 64) (sym (f .limits)) (omega arith); facts = omega (arith, o .facts, o .few) }
+  pub followable : Followable (r .limits .line) (r .problem .facts)
+  followable =
+      let S = o .sensible in
+      record { least = S .line; most = subst (λ (F : Limits). F .line < 10) (sym (f .limits)) (omega arith); facts = omega (arith, o .facts, o .few, S .width, S .bits) }
 
   module _ (list : List ℕ) (most : ℕ) (most-is : most ≡ headBytes + r .limits .line * r .limits .lines) where
     -- the operation, by the numbers that were found

@@ -5,6 +5,7 @@ ghost use Prim.Native.Nat.{_+_, _*_, _≤_};
 ghost use lib.ListN.{length};
 ghost use Rattle.model.specs.Read.{headBytes};
 ghost use Rattle.model.specs.Limits.{version1};
+ghost use Rattle.model.specs.WellFormed.{Sensible};
 ghost use Rattle.model.specs.Operations.{followList};
 ghost use Rattle.model.specs.Answers.{followAnswer};
 ghost use Rattle.follow.specs.Follows.{Followable, Claims, Within, FollowsLine, FollowsLines, FollowsBody};
@@ -69,23 +70,23 @@ fn follow_line(
     actions: &[usize; 64],
     facts: u8,
     at: Places,
-    limits: Limits,
+    size: usize,
     list: &[u8],
     line: usize,
     before: Before,
     c: &mut [u64; 256],
 ) -> Followed
-    requires { ⌜ Followable limits facts × Within limits facts before × (headBytes + limits .line * line + limits .line ≤ length (now list)) × (length (now c) ≡ 256) ⌝ }
-    ensures { λ r. ⌜ FollowsLine limits (now (problem .entry)) (now (steps .entry)) (now (actions .entry)) facts at (now (list .entry)) line before (now (c .entry)) r (now (c .exit)) ⌝ }
+    requires { ⌜ Followable size facts × Within size facts before × (headBytes + size * line + size ≤ length (now list)) × (length (now c) ≡ 256) ⌝ }
+    ensures { λ r. ⌜ FollowsLine size (now (problem .entry)) (now (steps .entry)) (now (actions .entry)) facts at (now (list .entry)) line before (now (c .entry)) r (now (c .exit)) ⌝ }
 {
-    match check_at(list, line, facts, limits.line) {
+    match check_at(list, line, facts, size) {
         Checked::Fault(number) => Followed::Fault(number),
         Checked::Sound(l) => {
             if l.value != before.end {
                 return Followed::Fault(68);
             }
             let k = wide(l.k);
-            let width = wide(limits.width);
+            let width = 8 * (size - 2);
             let word = word_of(width, l.value);
             set_case(c, before.k, word_of(width, before.value), k, word);
             if check_claim(problem, steps, actions, at, l.kind, c) {
@@ -113,7 +114,7 @@ fn follow_lines(
     list: &[u8],
     lines: usize,
 ) -> FollowAnswer
-    requires { ⌜ Followable limits facts × (headBytes + limits .line * lines ≤ length (now list)) ⌝ }
+    requires { ⌜ Sensible limits × Followable (limits .line) facts × (headBytes + limits .line * lines ≤ length (now list)) ⌝ }
     ensures { λ r. ⌜ FollowsLines limits (now (problem .entry)) (now (steps .entry)) (now (actions .entry)) facts at (now (list .entry)) lines r ⌝ }
 {
     let mut c = none_fixed(wide(facts));
@@ -130,7 +131,7 @@ fn follow_lines(
             actions,
             facts,
             at,
-            limits,
+            limits.line,
             list,
             i,
             before,
@@ -165,7 +166,7 @@ fn follow_body(
     limits: Limits,
     list: &[u8],
 ) -> FollowAnswer
-    requires { ⌜ Followable limits (parts .facts) × (headBytes ≤ length (now list)) ⌝ }
+    requires { ⌜ Sensible limits × Followable (limits .line) (parts .facts) × (headBytes ≤ length (now list)) ⌝ }
     ensures { λ r. ⌜ FollowsBody limits (now (problem .entry)) (now (steps .entry)) parts (now (list .entry)) r ⌝ }
 {
     let body = list.len() - Limits::HEAD_BYTES;

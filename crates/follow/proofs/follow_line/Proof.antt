@@ -2,7 +2,7 @@
 use borrow.Author.Needs.{needs}
 use Rattle.follow.proofs.follow_line.Statement.{statement}
 use Rattle.follow.proofs.follow_line.Tie as tie
-use mathlib.Core.Path.{ap}
+use mathlib.Core.Path.{refl, ap}
 use Prim.Native.Nat.{ℕ, _+_}
 use native.Mathlib.Omega.{arith}
 use Rattle.follow.proofs.Following.{line-small, word-fits, span-small, k-fits, line-faulty, line-apart, line-claims, line-denied}
@@ -11,18 +11,19 @@ pub follow-line-spec : {M : Type 1} → statement M
 follow-line-spec =
     tie.close
     (tie.spec
-    (λ c κs. let p = c .before .before .before .pre in let f = p .0 .sensible in (f .line, omega (arith, f .bits, f .word), p .2, omega (arith, p .0 .facts, f .width, f .bits)))
+    (λ c κs. let p = c .before .before .before .pre in (p .0 .least, omega (arith, p .0 .most), p .2, p .0 .facts))
     (λ c. search needs)
     (λ c. search needs)
     (λ c. let p = c .before .before .before .before .before .before .before .before .before .before .pre in line-apart _ _ _ _ _ (p .0) _ _ _ _ _ _ (c .before .before .before .before .before .before .check-at .ensures) _ (c .before .before .before .before .l .given .1) (c .if1 .taken) (p .3))
     (λ c κs. search needs)
+    (λ c. let p = c .before .before .before .before .before .before .before .before .before .before .before .pre in omega (arith, p .0 .least))
+    (λ c. let p = c .before .before .before .before .before .before .before .before .before .before .before .pre in omega (arith, p .0 .most))
+    (λ c κs. let p = c .before .before .before .before .before .before .before .before .before .before .before .pre in word-fits _ _ (p .0) _ (line-small _ _ (p .0) _ _ _ (c .before .before .before .before .before .before .before .check-at .ensures) _ (c .before .before .before .before .before .l .given .1)))
+    (λ c κs. let p = c .before .before .before .before .before .before .before .before .before .before .before .before .before .pre in word-fits _ _ (p .0) _ (p .1 .value))
+    (λ c κs. let p = c .before .before .before .before .before .before .before .before .before .before .before .before .before .before .pre in (p .3, omega (arith, p .0 .most, p .0 .facts, p .1 .k), omega (arith, p .0 .most, p .0 .facts, c .before .before .before .wide .ensures .0, k-fits _ _ (p .0) _ _ _ (c .before .before .before .before .before .before .before .before .before .before .check-at .ensures) _ (c .before .before .before .before .before .before .before .before .l .given .1))))
     (λ c κs. search needs)
-    (λ c κs. let p = c .before .before .before .before .before .before .before .before .before .before .before .before .pre in word-fits _ _ (p .0) _ _ (c .wide2 .ensures .0) (line-small _ _ (p .0) _ _ _ (c .before .before .before .before .before .before .before .before .check-at .ensures) _ (c .before .before .before .before .before .before .l .given .1)))
-    (λ c κs. let p = c .before .before .before .before .before .before .before .before .before .before .before .before .before .before .pre in word-fits _ _ (p .0) _ _ (c .before .before .wide2 .ensures .0) (p .1 .value))
-    (λ c κs. let p = c .before .before .before .before .before .before .before .before .before .before .before .before .before .before .before .pre in (p .3, omega (arith, p .0 .sensible .facts, p .0 .facts, p .1 .k), omega (arith, p .0 .sensible .facts, p .0 .facts, c .before .before .before .before .wide .ensures .0, k-fits _ _ (c .before .before .before .before .before .before .before .before .before .before .before .before .before .before .before .pre .0) _ _ _ (c .before .before .before .before .before .before .before .before .before .before .before .check-at .ensures) _ (c .before .before .before .before .before .before .before .before .before .l .given .1))))
-    (λ c κs. search needs)
-    (λ c κs. let p = c .before .before .before .before .before .before .before .before .before .before .before .before .before .before .before .before .before .before .before .pre in let f = p .0 in omega (arith, f .sensible .width, f .facts, f .word, c .before .before .before .before .before .before .before .before .wide .ensures .0, c .before .before .before .before .before .before .before .wide2 .ensures .0, k-fits _ _ (p .0) _ _ _ (c .before .before .before .before .before .before .before .before .before .before .before .before .before .before .before .check-at .ensures) _ (c .before .before .before .before .before .before .before .before .before .before .before .before .before .l .given .1)))
-    (λ c. let p = c .before .before .before .before .before .before .before .before .before .before .before .before .before .before .before .before .before .before .before .before .before .pre in omega (arith, span-small _ _ (p .0) _ _ _ _ (c .before .before .before .before .before .before .before .before .before .wide2 .ensures .0) (line-small _ _ (p .0) _ _ _ (c .before .before .before .before .before .before .before .before .before .before .before .before .before .before .before .before .before .check-at .ensures) _ (c .before .before .before .before .before .before .before .before .before .before .before .before .before .before .before .l .given .1)) (c .before .span .ensures)))
+    (λ c κs. let p = c .before .before .before .before .before .before .before .before .before .before .before .before .before .before .before .before .before .before .pre in omega (arith, p .0 .most, p .0 .facts, c .before .before .before .before .before .before .before .wide .ensures .0, k-fits _ _ (p .0) _ _ _ (c .before .before .before .before .before .before .before .before .before .before .before .before .before .before .check-at .ensures) _ (c .before .before .before .before .before .before .before .before .before .before .before .before .l .given .1)))
+    (λ c. let p = c .before .before .before .before .before .before .before .before .before .before .before .before .before .before .before .before .before .before .before .before .pre in omega (arith, span-small _ _ (p .0) _ _ _ (line-small _ _ (p .0) _ _ _ (c .before .before .before .before .before .before .before .before .before .before .before .before .before .before .before .before .check-at .ensures) _ (c .before .before .before .before .before .before .before .before .before .before .before .before .before .before .l .given .1)) (c .before .span .ensures)))
     (λ c. let p = c .before .before .before .before .before .before .before .pre in line-faulty _ _ _ _ _ (p .0) _ _ _ _ _ _ (c .before .before .before .check-at .ensures) _ (c .before .number .given .1) (p .3))
-    (λ c. let p = c .before .before .before .before .before .before .before .before .before .before .before .before .before .before .before .before .before .before .before .before .before .pre in line-claims _ _ _ _ _ (p .0) _ _ _ _ _ _ (c .before .before .before .before .before .before .before .before .before .before .before .before .before .before .before .before .before .check-at .ensures) _ (c .before .before .before .before .before .before .before .before .before .before .before .before .before .before .before .l .given .1) (c .before .before .before .before .before .before .before .before .before .before .before .if1 .left) (p .1) _ (c .before .before .before .before .before .before .before .before .before .before .wide .ensures .0) _ (c .before .before .before .before .before .before .before .before .before .wide2 .ensures .0) _ _ (c .before .before .before .before .before .before .word-of2 .ensures) (c .before .before .before .before .before .before .before .before .word-of .ensures) _ (c .before .before .before .before .before .set-case .ensures) _ (c .before .before .before .check-claim .ensures) _ (c .before .before .if2 .taken) (ap (λ (x : ℕ). c .before .before .before .before .before .before .before .before .before .before .before .before .before .before .before .l .given .0 .0 .value + x) (c .before .span .ensures)))
-    (λ c. let p = c .before .before .before .before .before .before .before .before .before .before .before .before .before .before .before .before .before .before .before .pre in line-denied _ _ _ _ _ (p .0) _ _ _ _ _ _ (c .before .before .before .before .before .before .before .before .before .before .before .before .before .before .before .check-at .ensures) _ (c .before .before .before .before .before .before .before .before .before .before .before .before .before .l .given .1) (c .before .before .before .before .before .before .before .before .before .if1 .left) (p .1) _ (c .before .before .before .before .before .before .before .before .wide .ensures .0) _ (c .before .before .before .before .before .before .before .wide2 .ensures .0) _ _ (c .before .before .before .before .word-of2 .ensures) (c .before .before .before .before .before .before .word-of .ensures) _ (c .before .before .before .set-case .ensures) _ (c .before .check-claim .ensures) (c .if2 .left)))
+    (λ c. let p = c .before .before .before .before .before .before .before .before .before .before .before .before .before .before .before .before .before .before .before .before .pre in line-claims _ _ _ _ _ (p .0) _ _ _ _ _ _ (c .before .before .before .before .before .before .before .before .before .before .before .before .before .before .before .before .check-at .ensures) _ (c .before .before .before .before .before .before .before .before .before .before .before .before .before .before .l .given .1) (c .before .before .before .before .before .before .before .before .before .before .if1 .left) (p .1) _ (c .before .before .before .before .before .before .before .before .before .wide .ensures .0) _ refl _ _ (c .before .before .before .before .before .before .word-of2 .ensures) (c .before .before .before .before .before .before .before .before .word-of .ensures) _ (c .before .before .before .before .before .set-case .ensures) _ (c .before .before .before .check-claim .ensures) _ (c .before .before .if2 .taken) (ap (λ (x : ℕ). c .before .before .before .before .before .before .before .before .before .before .before .before .before .before .l .given .0 .0 .value + x) (c .before .span .ensures)))
+    (λ c. let p = c .before .before .before .before .before .before .before .before .before .before .before .before .before .before .before .before .before .before .pre in line-denied _ _ _ _ _ (p .0) _ _ _ _ _ _ (c .before .before .before .before .before .before .before .before .before .before .before .before .before .before .check-at .ensures) _ (c .before .before .before .before .before .before .before .before .before .before .before .before .l .given .1) (c .before .before .before .before .before .before .before .before .if1 .left) (p .1) _ (c .before .before .before .before .before .before .before .wide .ensures .0) _ refl _ _ (c .before .before .before .before .word-of2 .ensures) (c .before .before .before .before .before .before .word-of .ensures) _ (c .before .before .before .set-case .ensures) _ (c .before .check-claim .ensures) (c .if2 .left)))

@@ -16,7 +16,7 @@ follow-line-requires : tie.Need-follow-line-requires Inv-loop μ-loop
 follow-line-requires c κs =
     let o = c .before .before .loop .inv in
     let p = c .before .before .before .before .before .before .before .before .pre in
-    (p .0, o .within, line-inside _ _ _ _ (c .before .loop-test .taken) (p .1), o .size)
+    (p .1, o .within, line-inside _ _ _ _ (c .before .loop-test .taken) (p .2), o .size)
 
 returns : tie.Need-returns Inv-loop μ-loop
 returns c =
@@ -46,7 +46,7 @@ follow-lines-spec =
     μ-loop
     (λ c κs. search needs)
     (λ c κs. search needs)
-    (λ c. none-followed _ _ _ _ _ _ _ _ _ (c .before .wide .ensures .0) _ (c .none-fixed .ensures))
+    (λ c. none-followed _ _ _ _ _ _ _ _ (c .before .before .before .before .before .pre .0) _ (c .before .wide .ensures .0) _ (c .none-fixed .ensures))
     follow-line-requires
     (λ c. search needs)
     returns
@@ -55,6 +55,6 @@ follow-lines-spec =
     (λ c. search needs)
     loop-again
     (λ c κs. search needs)
-    (λ c κs. omega (arith, c .wide2 .ensures .0, c .before .before .before .before .before .before .before .before .pre .0 .word))
+    (λ c κs. let p = c .before .before .before .before .before .before .before .before .pre in omega (arith, c .wide2 .ensures .0, p .0 .bits, p .1 .most))
     returns-2
     returns-3)

@@ -20,7 +20,8 @@ sub-follow-body c = omega (arith, c .before .before .before .before .before .bef
 follow-body-requires : tie.Need-follow-body-requires
 follow-body-requires c κs =
     let f = c .before .before .before .before .before .before .before .before .find-task .ensures in
-    (followable _ _ _ f (f .stands (c .before .before .before .before .before .before .before .if1 .left)), header-five _ _ _ _ (sym (c .before .before .enum-told .given .1) ∙ c .before .before .before .before .check-header .ensures))
+    let o = f .stands (c .before .before .before .before .before .before .before .if1 .left) in
+    (o .sensible, followable _ _ _ f o, header-five _ _ _ _ (sym (c .before .before .enum-told .given .1) ∙ c .before .before .before .before .check-header .ensures))
 
 returns-2 : tie.Need-returns-2
 returns-2 c =
