@@ -1,7 +1,8 @@
 // The form of one line of a case list, by the list and the line's number. A line has so many bytes (`size`): kind, k and the value's.
-ghost use Prim.Native.Nat.{_+_, _-_, _*_, _≤_, _<_};
-ghost use lib.ListN.{length};
-ghost use Rattle.model.specs.Read.{headBytes};
+ghost use Prim.Native.Nat.{_+_, _-_, _*_, _^_, _≤_, _<_};
+ghost use mathlib.Core.Path.{_≡_};
+ghost use lib.ListN.{length, take, drop};
+ghost use Rattle.model.specs.Read.{headBytes, bigEndian};
 ghost use Rattle.lines.specs.Lines.{widthOf, Reads, ChecksForm};
 use model::Limits;
 use numbers::low_bits;
@@ -21,6 +22,17 @@ pub enum Checked {
     Sound(Line),
 }
 
+// A value of so many bytes. With six of them, as in version 1, the count is known to the compiler, and they are one load.
+fn read_value(list: &[u8], at: usize, n: usize) -> u64
+    requires { ⌜ (n ≤ 8) × (at + n ≤ length (now list)) ⌝ }
+    ensures { λ r. ⌜ (r ≡ bigEndian (take n (drop at (now (list .entry))))) × (r < 256 ^ n) ⌝ }
+{
+    if n == 6 {
+        return read_number(list, at, 6);
+    }
+    read_number(list, at, n)
+}
+
 // The line numbered `line`.
 pub fn read_line(list: &[u8], line: usize, size: usize) -> Line
     requires { ⌜ (2 < size) × (size ≤ 10) × (headBytes + size * line + size ≤ length (now list)) ⌝ }
@@ -30,7 +42,7 @@ pub fn read_line(list: &[u8], line: usize, size: usize) -> Line
     Line {
         kind: list[p],
         k: list[p + 1],
-        value: read_number(list, p + 2, size - 2),
+        value: read_value(list, p + 2, size - 2),
     }
 }
 
