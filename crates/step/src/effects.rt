@@ -14,30 +14,30 @@ const MAX_EFFECTS: usize = 128;
 // The entries from `at` on, their count first: the literal of entry e goes to literals[e], the words of its condition to found[2 * e] and
 // after it. The answer is their count.
 fn find_conditions(
-    s: &[u8],
+    problem: &[u8],
     at: usize,
     c: &[u64; 256],
     found: &mut [u64; 256],
     literals: &mut [u8; 128],
 ) -> usize
     requires { ⌜ (length (now found) ≡ 256) × (length (now literals) ≡ 128) ⌝ }
-    ensures { λ r. ⌜ FindsConditions (now (s .entry)) at (now (c .entry)) (now (found .exit)) (now (literals .exit)) r ⌝ }
+    ensures { λ r. ⌜ FindsConditions (now (problem .entry)) at (now (c .entry)) (now (found .exit)) (now (literals .exit)) r ⌝ }
 {
     let mut e: usize = 0;
-    if s.len() <= at {
+    if problem.len() <= at {
         return e;
     }
-    let n = crate::wide(s[at]);
+    let n = crate::wide(problem[at]);
     if MAX_EFFECTS < n {
         return e;
     }
     let mut p = at + 1;
     while e < n {
-        if s.len() <= p {
+        if problem.len() <= p {
             return e;
         }
-        let r = formula_planes(s, p + 1, c);
-        literals[e] = s[p];
+        let r = formula_planes(problem, p + 1, c);
+        literals[e] = problem[p];
         found[2 * e] = r.some;
         found[2 * e + 1] = r.sure;
         p = r.next;
@@ -71,15 +71,15 @@ fn settle(n: usize, literals: &[u8; 128], found: &[u64; 256], c: &mut [u64; 256]
 
 // The effects whose count stands at `at`, in every lane. `found` and `literals` are room to work in.
 pub fn apply_effects(
-    s: &[u8],
+    problem: &[u8],
     at: usize,
     c: &mut [u64; 256],
     found: &mut [u64; 256],
     literals: &mut [u8; 128],
 )
     requires { ⌜ (length (now c) ≡ 256) × (length (now found) ≡ 256) × (length (now literals) ≡ 128) ⌝ }
-    ensures { λ _. ⌜ AppliesEffects (now (s .entry)) at (now (c .entry)) (now (c .exit)) × (length (now (found .exit)) ≡ 256) × (length (now (literals .exit)) ≡ 128) ⌝ }
+    ensures { λ _. ⌜ AppliesEffects (now (problem .entry)) at (now (c .entry)) (now (c .exit)) × (length (now (found .exit)) ≡ 256) × (length (now (literals .exit)) ≡ 128) ⌝ }
 {
-    let n = find_conditions(s, at, c, found, literals);
+    let n = find_conditions(problem, at, c, found, literals);
     settle(n, literals, found, c);
 }
