@@ -1,5 +1,3 @@
-pub mod Headers
-pub mod Effects
 pub mod Actions
 pub mod Problems
 pub mod Standing

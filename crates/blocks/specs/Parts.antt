@@ -9,31 +9,18 @@ use Rattle.model.specs.Limits.{maxActions}
 use Rattle.model.specs.Answer.{answered}
 use Rattle.model.specs.Answers as Answers
 use Rattle.model.specs.Formula.{Formula}
-use Rattle.model.specs.Action.{Effect, Action}
+use Rattle.model.specs.Action.{Action}
 use Rattle.model.specs.Read.{Read, got, headBytes}
-use Rattle.model.specs.FormulaBytes.{literalByte, formula}
+use Rattle.model.specs.FormulaBytes.{formula}
 use Rattle.model.specs.ProblemBytes as bytes
-use Rattle.model.specs.ProblemBytes.{effect, action, actions, problemOf, planOf, actionAt}
+use Rattle.model.specs.ProblemBytes.{action, actions, problemOf, planOf, actionAt}
 use Rattle.model.specs.Operations.{readTask}
 use Rattle.model.specs.declared.Problem.{Problem}
-use Rattle.formula.specs.declared.read.Reading.{Reading}
-use Rattle.formula.specs.declared.read.Reading.the-variants.{Refused, Next}
 use Rattle.formula.specs.Readings.{rejected, nextOf}
 use Rattle.blocks.specs.declared.problem.Actions.{Actions}
 use Rattle.blocks.specs.declared.problem.Found.{Found}
 use Rattle.blocks.specs.declared.plan.Task.{Task}
 use Rattle.blocks.specs.Standing.{StandsFound}
-
--- an effect that was read from p on, with its literal's byte at p
-pub record EffectGot (s : List ℕ) (facts least p q : ℕ) : Type 0 where
-  pub effect : Effect
-  pub read : bytes.effect s facts least p ≡ got effect q
-  pub literal : literalByte (effect .literal) ≡ getD s p 0
-  pub inside : p < length s
-
-abbrev pub EffectRead : List ℕ → ℕ → ℕ → ℕ → Reading → Type 0
-EffectRead s facts least p (Refused r) = bytes.effect s facts least p ≡ rejected r
-EffectRead s facts least p (Next q) = EffectGot s facts least p q
 
 -- the formula f stands at p
 pub record FormulaStands (s : List ℕ) (facts p : ℕ) (f : Formula) : Type 0 where

@@ -1,32 +1,18 @@
 -- A task that was found in its blocks: each part is known by the bytes that encode it, and by no reader.
 use mathlib.Core.Path.{_≡_}
 use mathlib.Core.List.{List}
-use Prim.Native.Nat.{ℕ, _+_, _<_, _≤_}
-use lib.ListN.{length, getD, drop}
+use Prim.Native.Nat.{ℕ, _+_, _≤_}
+use lib.ListN.{length, drop}
 use Rattle.model.specs.declared.Limits.{Limits}
-use Rattle.model.specs.Limits.{maxFacts, maxActions}
 use Rattle.model.specs.Answer.{answered}
 use Rattle.model.specs.Case.{Task}
 use Rattle.model.specs.Read.{headBytes}
-use Rattle.model.specs.ProblemBytes.{actionAt}
 use Rattle.model.specs.Operations.{readTask}
 use Rattle.model.specs.WellFormed.{Sensible}
-use Rattle.model.specs.Stands.{FormulaAt, ActionAt}
+use Rattle.model.specs.Stands.{TaskStands}
 use Rattle.model.specs.declared.Problem.{Problem}
 use Rattle.blocks.specs.declared.problem.Places.{Places}
 use Rattle.blocks.specs.declared.plan.Task as found
-
--- T stands in `problem` and `steps`: its formulas where `initial` and `goal` say, and the action of each step, a number of a slot,
--- where `actions` says
-pub record TaskStands (problem steps actions : List ℕ) (initial goal : ℕ) (T : Task) : Type 0 where
-  pub most : T .facts ≤ maxFacts
-  pub starting : (q : ℕ) × FormulaAt problem (T .facts) initial (T .initial) q
-  pub reaching : (q : ℕ) × FormulaAt problem (T .facts) goal (T .goal) q
-  pub counted : length (T .plan) ≡ length steps
-  pub named : (i : ℕ) → i < length steps → getD steps i 0 < maxActions
-  pub acting :
-      (i : ℕ) → i < length steps →
-      (q : ℕ) × ActionAt problem (T .facts) (getD actions (getD steps i 0) 0) (actionAt (T .plan) i) q
 
 -- T is a task of the version whose numbers are F, over n facts, and stands there
 pub record VersionTask (F : Limits) (problem steps actions : List ℕ) (n : ℕ) (at : Places) (T : Task) : Type 0 where

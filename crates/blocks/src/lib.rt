@@ -1,11 +1,8 @@
 // The problem and plan blocks: reading them, refusing them, and where each part stands.
 
-pub mod action;
-pub mod header;
 pub mod plan;
 pub mod problem;
 
-pub use header::check_header;
 use numbers::wide;
 pub use plan::Task;
 pub use plan::find_task;

@@ -1,4 +1,4 @@
 -- Laws of the definitions, for several functions' proofs.
 pub mod Promise
-pub mod Lanes
+pub mod Stating
 pub mod Starting

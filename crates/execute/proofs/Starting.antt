@@ -35,7 +35,7 @@ use Rattle.table.specs.Cases.{raised, bitsOf}
 use Rattle.table.proofs.Cases.{raised-case}
 use Rattle.execute.specs.declared.start.StateTable.{StateTable}
 use Rattle.execute.specs.Start.{HoldsState, RunsTask}
-use Rattle.execute.specs.Cases.{RunsState}
+use Rattle.execute.specs.Start.{RunsState}
 use Rattle.blocks.proofs.Standing.{found-in}
 
 -- ---- the table

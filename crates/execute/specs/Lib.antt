@@ -1,4 +1,3 @@
 -- What the functions of this crate answer, in the words of model/specs.
 pub mod Promise
-pub mod Cases
 pub mod Start

@@ -1,12 +1,9 @@
 // Running a plan in 64 cases at once: one run, one look. The hot path: nothing that reading established is tested again, and a
 // step touches only the facts that its action names.
 
-pub mod cases;
 pub mod operation;
 pub mod start;
 
-pub use cases::Looks;
-pub use cases::look_at_cases;
 use numbers::wide;
 pub use operation::run;
 pub use start::StateTable;

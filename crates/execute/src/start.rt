@@ -1,8 +1,7 @@
 // One state: its table, from its number, and how its run ends.
 ghost use Prim.Native.Nat.{_≤_};
 ghost use Rattle.model.specs.WellFormed.{Sensible};
-ghost use Rattle.execute.specs.Cases.{RunsState};
-ghost use Rattle.execute.specs.Start.{HoldsState, RunsTask};
+ghost use Rattle.execute.specs.Start.{HoldsState, RunsState, RunsTask};
 use crate::wide;
 use evaluate::formula_planes;
 use model::Limits;

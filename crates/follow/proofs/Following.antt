@@ -1,15 +1,14 @@
 -- Following a list line by line. Assumes nothing.
 use mathlib.Core.Path.{_≡_, refl, sym, ap, ap₂, _∙_, subst}
-use mathlib.Core.Bool.{Bool, true, false, cond, not}
+use mathlib.Core.Bool.{Bool, true, false, cond}
 use mathlib.Core.List.{List, _∷_}
 use Prim.Native.Nat.{ℕ, zero, suc, _+_, _-_, _*_, _/_, _%_, _^_, _≤_, _<_}
-use native.Mathlib.Nat.{mul-zero, mul-suc, mul-add, mul-le-mul-left, mul-div-le, pow-suc}
+use native.Mathlib.Nat.{mul-zero, mul-suc, mul-add, mul-le-mul-left, mul-div-le}
 use native.Mathlib.Numerals.{add-one}
 use native.Mathlib.Omega.{arith}
 use lib.ListN.{length, take, drop}
-use lib.Dec.{eqb, ltb}
-use lib.Pow.{pow-mono, pow-pos}
-use borrow.Author.Tests.{ltb-false, eq-eqb, ne-eqb}
+use lib.Dec.{eqb}
+use borrow.Author.Tests.{eq-eqb, ne-eqb}
 use Rattle.model.specs.declared.Limits.{Limits}
 use Rattle.model.specs.Limits.{version1}
 use Rattle.model.specs.Answer as Answer
@@ -24,11 +23,10 @@ use Rattle.model.specs.declared.Problem.{Problem}
 use Rattle.model.specs.Case.{Task}
 use Rattle.model.specs.WellFormed.{Sensible}
 use Rattle.model.specs.Walk as model
-use Rattle.model.specs.Walk.{empty, carries, closed, opened, lookAt}
-use Rattle.model.specs.Planes.{laneBit}
-use Rattle.model.specs.CaseList.{claims, first, refuseAt, ends, fault, follow}
+use Rattle.model.specs.Walk.{lookAt}
+use Rattle.model.specs.CaseList.{refuseAt, ends, fault, follow}
 use Rattle.model.specs.ListBytes.{lineAt, linesFrom, caseList, listOf}
-use Rattle.model.proofs.Laws.Splitting.{length-case, case-first}
+use Rattle.model.proofs.Laws.Splitting.{case-first}
 use Rattle.model.proofs.Laws.Tasks.{follow-is}
 use Rattle.formula.specs.Readings.{nextOf}
 use Rattle.formula.specs.declared.read.Reading.the-variants.{Refused, Next as Reading-Next}
@@ -37,180 +35,14 @@ use Rattle.blocks.specs.declared.plan.Task as blocks
 use Rattle.blocks.specs.Parts.{FindsTask}
 use Rattle.blocks.specs.Standing.{placesOf, VersionTask, StandsFound}
 use Rattle.blocks.proofs.Standing.{found-in}
-use Rattle.blocks.proofs.Headers.{header-got}
+use Rattle.fields.proofs.Headers.{header-got}
 use Rattle.table.specs.Tables.{NoneFixed}
-use Rattle.table.specs.Cases.{raised, SetsCase}
-use Rattle.execute.specs.declared.cases.Looks.{Looks}
-use Rattle.execute.specs.Cases.{lookBits, LooksAtCases}
-use Rattle.lines.specs.declared.form.Line.{Line}
-use Rattle.lines.specs.declared.form.Checked.{Checked}
-use Rattle.lines.specs.declared.form.Checked.the-variants.{Fault as Faulty, Sound}
 use Rattle.blocks.specs.declared.problem.Places.{Places}
-use Rattle.follow.specs.declared.Before.{Before}
-use Rattle.follow.specs.declared.Followed.{Followed}
-use Rattle.follow.specs.declared.Followed.the-variants.{Fault, Next}
-use Rattle.lines.specs.Lines.{widthOf, lineOf, lineNumber, Reads, formFault, FormIs, ChecksForm}
-use Rattle.follow.specs.Follows.{Followable, LineTask, Lanes, Claims, Within, LineIs, NextWithin, FollowsLine, FollowsLines, FollowsBody}
-
--- ---- a claim
-
-look-empty : (a b : ℕ) → (a ≡ 0 → ⊥) → lookBits a b ≡ closed empty
-look-empty zero b h = absurd (h refl)
-look-empty (suc a) b h = refl
-
-look-carries : (a b : ℕ) → a ≡ 0 → (b ≡ 0 → ⊥) → lookBits a b ≡ closed carries
-look-carries a zero e h = absurd (h refl)
-look-carries a (suc b) e h = rw e
-
-look-open : (a b : ℕ) → a ≡ 0 → b ≡ 0 → lookBits a b ≡ opened
-look-open a b e f = rw (e, f)
-
-module _ (problem steps actions : List ℕ) (at : Places) (kind : ℕ) (c : List ℕ) (r : Looks)
-    (L : LooksAtCases problem steps actions (at .initial) (at .goal) c r) where
-  claim-is : (o : model.Look) → lookBits (laneBit 0 (r .empty)) (laneBit 0 (r .carries)) ≡ o → Claims problem steps actions at kind c (claims kind o)
-  unfolding lookAt
-  claim-is o e =
-      record { is = λ T S k v t. ap (claims kind) (sym e ∙ L .is T S _ (λ j l. length-case (T .width) (T .facts) k v) t 0 (omega arith)) }
-
-  module _ (e : ℕ) (e-is : e ≡ laneBit 0 (r .empty)) where
-    pub claim-empty : (e ≡ 0 → ⊥) → Claims problem steps actions at kind c (eqb kind 0)
-    claim-empty h = claim-is (closed empty) (look-empty _ _ (λ z. h (e-is ∙ z)))
-
-    module _ (h : e ≡ 0) (a : ℕ) (a-is : a ≡ laneBit 0 (r .carries)) where
-      pub claim-carries : (a ≡ 0 → ⊥) → Claims problem steps actions at kind c (eqb kind 1)
-      claim-carries g = claim-is (closed carries) (look-carries _ _ (sym e-is ∙ h) (λ z. g (a-is ∙ z)))
-
-      pub claim-open : a ≡ 0 → Claims problem steps actions at kind c false
-      claim-open g = claim-is opened (look-open _ _ (sym e-is ∙ h) (sym a-is ∙ g))
-
--- ---- the faults of a line
-
-form-found :
-    (a b c : Bool) (x f : ℕ) → first a 65 (first b 66 (first c 67 0)) ≡ f → 0 < f → first a 65 (first b 66 (first c 67 x)) ≡ f
-unfolding first
-form-found true b c x f e h = e
-form-found false true c x f e h = e
-form-found false false true x f e h = e
-form-found false false false x f e h = absurd (omega arith)
-
-form-none :
-    (a b c : Bool) (x : ℕ) → first a 65 (first b 66 (first c 67 0)) ≡ 0 → (first a 65 (first b 66 (first c 67 x)) ≡ x) × (b ≡ false)
-unfolding first
-form-none true b c x e = absurd (omega arith)
-form-none false true c x e = absurd (omega arith)
-form-none false false true x e = absurd (omega arith)
-form-none false false false x e = (refl, refl)
-
-module _ (w : ℕ) (n : ℕ) (l : model.Line) where
-  -- the fault of a line's form comes first
-  fault-form : (look : ℕ → ℕ → model.Look) (x f : ℕ) → formFault w n l ≡ f → 0 < f → fault w look n l x ≡ f
-  unfolding formFault fault
-  fault-form look x f e h = form-found _ _ _ _ f e h
-
-  -- where its form is sound, its place and its claim are left
-  abbrev placed : (ℕ → ℕ → model.Look) → ℕ → ℕ
-  placed look x = first (not (eqb (l .value) x)) 68 (first (not (claims (l .kind) (look (l .k) (l .value)))) 69 0)
-
-  fault-placed : (look : ℕ → ℕ → model.Look) (x : ℕ) → formFault w n l ≡ 0 → fault w look n l x ≡ placed look x
-  unfolding formFault fault
-  fault-placed look x e = form-none _ _ _ _ e .0
-
-  form-fits : formFault w n l ≡ 0 → l .k ≤ n
-  unfolding formFault
-  form-fits e = ltb-false n (l .k) (form-none _ (ltb n (l .k)) _ 0 e .1)
-
--- a line whose form `check_at` found sound
-module _ (size : ℕ) (facts : ℕ) (S : Followable size facts) (list : List ℕ) (i : ℕ) (r : Checked) (y : ChecksForm list i facts size r) (l : Line) (e : r ≡ Sound l) where
-  sound : (formFault (widthOf size) facts (lineNumber size list i) ≡ 0) × Reads list i size l
-  sound = subst (FormIs list i facts size) e (y .found)
-
-  pub line-small : l .value < 2 ^ widthOf size
-  line-small = sound .1 .small
-
-  pub k-fits : l .k ≤ facts
-  k-fits = subst (λ (z : model.Line). z .k ≤ facts) (sym (sound .1 .is)) (form-fits (widthOf size) facts _ (sound .0))
-
--- what `check_at` answered and the table did, of the line numbered i
-module _ (size : ℕ) (problem steps actions : List ℕ) (facts : ℕ) (S : Followable size facts) (at : Places) (list : List ℕ) (i : ℕ) (b : Before) (c : List ℕ)
-    (r : Checked) (y : ChecksForm list i facts size r) where
-  abbrev Stands : Task → Type 0
-  Stands T = LineTask size problem steps actions facts at T
-
-  abbrev Follows : Followed → List ℕ → Type 0
-  Follows q d = FollowsLine size problem steps actions facts at list i b c q d
-
-  at-width : (T : Task) → Stands T → (l : model.Line) → formFault (T .width) facts l ≡ formFault (widthOf size) facts l
-  at-width T Q l = ap (λ (w : ℕ). formFault w facts l) (Q .width)
-
-  pub line-faulty : (f : ℕ) → r ≡ Faulty f → length c ≡ 256 → Follows (Fault f) c
-  line-faulty f e g =
-      let (o, h) = subst (FormIs list i facts size) e (y .found) in
-      record { is = λ T Q t. (fault-form (T .width) facts _ (lookAt T) (b .end) f (at-width T Q _ ∙ o) h, h); within = tt; words = g }
-
-  module _ (l : Line) (e : r ≡ Sound l) where
-    abbrev found : (formFault (widthOf size) facts (lineNumber size list i) ≡ 0) × Reads list i size l
-    found = sound size facts S list i r y l e
-
-    placed-at :
-        (T : Task) → Stands T →
-        fault (T .width) (lookAt T) facts (lineNumber size list i) (b .end) ≡ placed (T .width) facts (lineOf l) (lookAt T) (b .end)
-    placed-at T Q =
-        fault-placed (T .width) facts _ (lookAt T) (b .end) (at-width T Q _ ∙ found .0) ∙
-        ap (λ (z : model.Line). placed (T .width) facts z (lookAt T) (b .end)) (sym (found .1 .is))
-
-    pub line-apart : (l .value ≡ b .end → ⊥) → length c ≡ 256 → Follows (Fault 68) c
-    unfolding first
-    line-apart h g = record { is = λ T Q t. (placed-at T Q ∙ rw (ne-eqb (l .value) (b .end) h), omega arith); within = tt; words = g }
-
-    module _ (begins : l .value ≡ b .end) (W : Within size facts b) (k : ℕ) (k-as : k ≡ l .k) (w : ℕ) (w-as : w ≡ widthOf size) (x x′ : ℕ)
-        (x-is : x ≡ raised w (b .value)) (x′-is : x′ ≡ raised w (l .value)) (d : List ℕ) (D : SetsCase c (b .k) x k x′ d)
-        (u : Bool) (C : Claims problem steps actions at (l .kind) d u) where
-      width-as : (T : Task) → Stands T → w ≡ T .width
-      width-as T Q = w-as ∙ sym (Q .width)
-
-      moved : (T : Task) → Stands T → Lanes c T (b .k) (b .value) → Lanes d T k (l .value)
-      moved T Q t =
-          D .is (T .width) (T .facts) (b .value) (l .value) (omega (arith, Q .width, S .most)) (omega (arith, Q .facts, Q .width, S .facts))
-          (x-is ∙ ap (λ (z : ℕ). raised z (b .value)) (width-as T Q)) (x′-is ∙ ap (λ (z : ℕ). raised z (l .value)) (width-as T Q))
-          (omega (arith, W .k, Q .facts)) (omega (arith, k-fits size facts S list i r y l e, Q .facts)) t
-
-      claimed :
-          (T : Task) → Stands T → Lanes c T (b .k) (b .value) → (z : Bool) → u ≡ z →
-          fault (T .width) (lookAt T) facts (lineNumber size list i) (b .end) ≡ first (not z) 69 0
-      unfolding first
-      claimed T Q t z h =
-          let m : claims (l .kind) (lookAt T (l .k) (l .value)) ≡ z =
-          ap (λ (q : ℕ). claims (l .kind) (lookAt T q (l .value))) (sym k-as) ∙ sym (C .is T (Q .stands) k (l .value) (moved T Q t)) ∙ h
-          in
-          placed-at T Q ∙ rw (eq-eqb (l .value) (b .end) begins, m)
-
-      pub line-claims : (z : ℕ) → u ≡ true → z ≡ l .value + 2 ^ (w - k) → Follows (Next (record { k = k; value = l .value; end = z })) d
-      unfolding first
-      line-claims z h g =
-          record {
-            is =
-                λ T Q t. (
-                  claimed T Q t true h,
-                  g ∙ (λ j. begins j + 2 ^ (width-as T Q j - (k-as ∙ ap (λ (q : model.Line). q .k) (found .1 .is)) j)),
-                  moved T Q t,
-                );
-            within = record { k = omega (arith, k-fits size facts S list i r y l e); value = line-small size facts S list i r y l e };
-            words = D .size;
-          }
-
-      pub line-denied : u ≡ false → Follows (Fault 69) d
-      unfolding first
-      line-denied h = record { is = λ T Q t. (claimed T Q t false h, omega arith); within = tt; words = D .size }
-
--- numbers of so many bits, in a word
-pub word-fits : (size n : ℕ) → Followable size n → (v : ℕ) → v < 2 ^ widthOf size → (0 < widthOf size) × (widthOf size ≤ 64) × (v < 2 ^ widthOf size)
-word-fits size n S v h = (omega (arith, S .least), omega (arith, S .most), h)
-
-pub span-small : (size n : ℕ) → Followable size n → (k v span : ℕ) → v < 2 ^ widthOf size → span ≡ 2 ^ (widthOf size - k) → v + span < 2 ^ 64
-span-small size n S k v span h g =
-    let i = pow-mono {i = widthOf size - k} {j = widthOf size} (omega arith) in
-    let j = pow-mono {i = suc (widthOf size)} {j = 64} (omega (arith, S .most)) in
-    omega (arith, pow-suc 2 (widthOf size))
+use Rattle.claims.specs.declared.Before.{Before}
+use Rattle.claims.specs.declared.Followed.{Followed}
+use Rattle.claims.specs.declared.Followed.the-variants.{Fault, Next}
+use Rattle.claims.specs.Claims.{Followable, LineTask, Lanes, LineIs, NextWithin, FollowsLine}
+use Rattle.follow.specs.Follows.{FollowsLines, FollowsBody}
 
 -- ---- the lines one by one
 
@@ -220,7 +52,7 @@ module _ (F : Limits) (w : ℕ) (look : ℕ → ℕ → model.Look) (n : ℕ) (l
   lines-more zero p h = absurd (omega arith)
   lines-more (suc m) p h = let e : suc m - 1 ≡ m = omega arith in rw e
 
-  pub follow-fault :
+  follow-fault :
       (m p i x f : ℕ) → 0 < m → fault w look n (lineAt F list p) x ≡ f → 0 < f →
       follow w look n (linesFrom F list m p) i x ≡ refused f i
   unfolding follow
@@ -230,17 +62,17 @@ module _ (F : Limits) (w : ℕ) (look : ℕ → ℕ → model.Look) (n : ℕ) (l
       refuses zero g = absurd (omega arith)
       refuses (suc f) g = unfold refuseAt in refl
 
-  pub follow-next :
+  follow-next :
       (m p i x e : ℕ) → 0 < m → fault w look n (lineAt F list p) x ≡ 0 → e ≡ x + 2 ^ (w - lineAt F list p .k) →
       follow w look n (linesFrom F list m p) i x ≡ follow w look n (linesFrom F list (m - 1) (p + F .line)) (i + 1) e
   unfolding follow refuseAt
   follow-next m p i x e h f g = rw (lines-more m p h, f, refuseAt, add-one, g)
 
-  pub follow-ends : (m p i x : ℕ) → m ≡ 0 → x ≡ 2 ^ w → follow w look n (linesFrom F list m p) i x ≡ answered i
+  follow-ends : (m p i x : ℕ) → m ≡ 0 → x ≡ 2 ^ w → follow w look n (linesFrom F list m p) i x ≡ answered i
   unfolding linesFrom follow ends
   follow-ends m p i x z e = rw (z, linesFrom, follow, eq-eqb x (2 ^ w) e)
 
-  pub follow-short : (m p i x : ℕ) → m ≡ 0 → (x ≡ 2 ^ w → ⊥) → follow w look n (linesFrom F list m p) i x ≡ refused 70 i
+  follow-short : (m p i x : ℕ) → m ≡ 0 → (x ≡ 2 ^ w → ⊥) → follow w look n (linesFrom F list m p) i x ≡ refused 70 i
   unfolding linesFrom follow ends
   follow-short m p i x z e = rw (z, linesFrom, follow, ne-eqb x (2 ^ w) e)
 
@@ -252,10 +84,10 @@ pub record Followed-so-far (F : Limits) (problem steps actions : List ℕ) (fact
       (T : Task) → VersionTask F problem steps actions facts at T →
       (follow (T .width) (lookAt T) facts (linesFrom F list m headBytes) 0 0 ≡
       follow (T .width) (lookAt T) facts (linesFrom F list (m - i) (headBytes + F .line * i)) i (b .end)) ×
-      Lanes c T (b .k) (b .value)
+      Lanes c T (b .k) (b .word)
   pub sensible : Sensible F
   pub few : i ≤ m
-  pub within : Within (F .line) facts b
+  pub within : b .k ≤ facts
   pub size : length c ≡ 256
 
 -- the bytes of a line that is not past the last
@@ -272,17 +104,17 @@ module _ (F : Limits) (problem steps actions : List ℕ) (facts : ℕ) (at : Pla
   line-task : Sensible F → (T : Task) → VersionTask F problem steps actions facts at T → LineTask (F .line) problem steps actions facts at T
   line-task S T Q = record { width = Q .width ∙ S .bits; facts = Q .facts; stands = Q .stands }
 
-  pub none-followed : Sensible F → (n : ℕ) → n ≡ facts → (c : List ℕ) → NoneFixed n c → So-far c (record { k = 0; value = 0; end = 0 }) 0
+  pub none-followed : Sensible F → (n : ℕ) → n ≡ facts → (c : List ℕ) → NoneFixed n c → So-far c (record { k = 0; word = 0; end = 0 }) 0
   none-followed S n e c N =
       record {
         same =
             λ T Q. (
               ap₂ (λ (k p : ℕ). follow (T .width) (lookAt T) facts (linesFrom F list k p) 0 0) (omega arith) (omega (arith, mul-zero (F .line))),
-              rw (case-first (T .width) (T .facts), sym (Q .facts), sym e) (N .is),
+              rw (case-first 64 (T .facts), sym (Q .facts), sym e) (N .is),
             );
         sensible = S;
         few = omega arith;
-        within = record { k = omega arith; value = omega (arith, pow-pos (widthOf (F .line))) };
+        within = omega arith;
         size = N .size;
       }
 
@@ -315,7 +147,7 @@ module _ (F : Limits) (problem steps actions : List ℕ) (facts : ℕ) (at : Pla
               );
           sensible = o .sensible;
           few = omega arith;
-          within = subst (NextWithin (F .line) facts) e (y .within);
+          within = subst (NextWithin facts) e (y .within);
           size = y .words;
         }
 

@@ -3,11 +3,12 @@ use mathlib.Core.Path.{_≡_}
 use mathlib.Core.List.{List, [], _∷_}
 use Prim.Native.Nat.{ℕ, _+_, _≤_, _<_}
 use lib.ListN.{length, getD}
-use Rattle.model.specs.Limits.{maxEffects}
+use Rattle.model.specs.Limits.{maxFacts, maxEffects, maxActions}
 use Rattle.model.specs.Formula.{Formula, Formulas, lit, all, any, none, more}
 use Rattle.model.specs.Action.{Action}
+use Rattle.model.specs.Case.{Task}
 use Rattle.model.specs.FormulaBytes.{Group, conjunction, disjunction, encodeFormula}
-use Rattle.model.specs.ProblemBytes.{actionBytes}
+use Rattle.model.specs.ProblemBytes.{actionBytes, actionAt}
 use Rattle.model.specs.WellFormed.{Declared, FormulaOk, EffectsOk}
 
 -- the bytes xs stand in s from p up to q, before `end`
@@ -26,6 +27,18 @@ pub record ActionAt (s : List ℕ) (facts p : ℕ) (a : Action) (q : ℕ) : Type
   pub few : length (a .effects) ≤ maxEffects
   pub effects : EffectsOk facts 0 (a .effects)
   pub bytes : Span s (length s) p (actionBytes a) q
+
+-- T stands in `problem` and `steps`: its formulas where `initial` and `goal` say, and the action of each step, a number of a slot,
+-- where `actions` says
+pub record TaskStands (problem steps actions : List ℕ) (initial goal : ℕ) (T : Task) : Type 0 where
+  pub most : T .facts ≤ maxFacts
+  pub starting : (q : ℕ) × FormulaAt problem (T .facts) initial (T .initial) q
+  pub reaching : (q : ℕ) × FormulaAt problem (T .facts) goal (T .goal) q
+  pub counted : length (T .plan) ≡ length steps
+  pub named : (i : ℕ) → i < length steps → getD steps i 0 < maxActions
+  pub acting :
+      (i : ℕ) → i < length steps →
+      (q : ℕ) × ActionAt problem (T .facts) (getD actions (getD steps i 0) 0) (actionAt (T .plan) i) q
 
 -- What evaluating needs of a sound formula: its facts are declared, and a group directly holds none of its own kind.
 unfoldable mutual

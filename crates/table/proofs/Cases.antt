@@ -112,11 +112,4 @@ module _ {c r d : List ℕ} {k v k′ v′ m : ℕ} (few : k ≤ maxFacts) (few�
         (λ j g l i out. same g i out) (λ j g l a b. case-unknown 64 n k′ v′ g a (omega arith))
 
   pub case-ends : SetsCase c k v k′ v′ d
-  case-ends =
-      record {
-        size = freed .size;
-        is =
-            λ w n x x′ word few-facts e e′ in-n in-n′ old.
-            let t = raised-case w word n in
-            rw (e′, t k′ x′ few-facts) at (changes n in-n in-n′ (rw (e, t k x few-facts) old));
-      }
+  case-ends = record { size = freed .size; is = changes }

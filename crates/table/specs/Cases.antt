@@ -26,9 +26,8 @@ pub record Common (k v k′ v′ m : ℕ) : Type 0 where
   pub second : m ≤ k′
   pub alike : (f : ℕ) → f < m → bit 64 v f ≡ bit 64 v′ f
 
--- from the case (k, v) in every lane to the case (k′, v′) there, over any facts; x and x′ are their numbers as words
+-- from the case (k, x) in every lane to the case (k′, x′) there, over any facts; x and x′ are words
 pub record SetsCase (c : List ℕ) (k x k′ x′ : ℕ) (d : List ℕ) : Type 0 where
   pub size : length d ≡ 256
   pub is :
-      (w n v v′ : ℕ) → w ≤ 64 → n ≤ w → x ≡ raised w v → x′ ≡ raised w v′ → k ≤ n → k′ ≤ n → Table c (λ j. caseOf w n k v) →
-      Table d (λ j. caseOf w n k′ v′)
+      (n : ℕ) → k ≤ n → k′ ≤ n → Table c (λ j. caseOf 64 n k x) → Table d (λ j. caseOf 64 n k′ x′)

@@ -1,6 +1,5 @@
 // The lines of the desk program's text, written into lent buffers.
 pub mod line;
-pub mod put;
 
 pub use line::first_line;
 pub use line::list_line;

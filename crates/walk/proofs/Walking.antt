@@ -24,8 +24,8 @@ use Rattle.table.proofs.Blocks.{length-block, block-outside, block-root, part-n
 use Rattle.lines.specs.Lines.{widthOf}
 use Rattle.lines.specs.Putting.{LinesLaid, AddsLine}
 use Rattle.lines.proofs.Stores.{puts-append}
-use Rattle.execute.specs.Cases.{lookBits, LooksAtCases}
-use Rattle.execute.specs.declared.cases.Looks.{Looks}
+use Rattle.look.specs.Cases.{lookBits, LooksAtCases}
+use Rattle.look.specs.declared.Looks.{Looks}
 use Rattle.blocks.specs.declared.problem.Places.{Places}
 use Rattle.walk.specs.declared.cases.Case.{Case}
 use Rattle.walk.specs.declared.cases.Block as walk

@@ -11,11 +11,12 @@ use Rattle.model.specs.Run.{run}
 use Rattle.model.specs.Case.{caseOf, Task}
 use Rattle.model.specs.Walk.{Line, Walked, covered, failed, visits, join, walkFrom, walked, lookOf, lookAt}
 use Rattle.model.specs.Planes.{laneBit, Table}
-use Rattle.blocks.specs.Standing.{TaskStands, TaskIn}
+use Rattle.model.specs.Stands.{TaskStands}
+use Rattle.blocks.specs.Standing.{TaskIn}
 use Rattle.table.specs.Blocks.{blockCase}
 use Rattle.lines.specs.Lines.{widthOf}
 use Rattle.lines.specs.Putting.{LinesLaid}
-use Rattle.execute.specs.Cases.{lookBits}
+use Rattle.look.specs.Cases.{lookBits}
 use Rattle.blocks.specs.declared.problem.Places.{Places}
 use Rattle.walk.specs.declared.cases.Case.{Case}
 use Rattle.walk.specs.declared.cases.Block.{Block}

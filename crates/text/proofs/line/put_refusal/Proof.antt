@@ -3,7 +3,7 @@ use borrow.Author.Tests.{lt-ltb, le-ltb}
 use borrow.Author.Needs.{needs}
 use Rattle.model.specs.Text.{ascii}
 use Rattle.model.specs.DeskText.{refusalLine, sentence}
-use Rattle.text.specs.Written.{filled, shown}
+use Rattle.forms.specs.Written.{filled, shown}
 use Rattle.text.proofs.line.put_refusal.Statement.{statement}
 use Rattle.text.proofs.line.put_refusal.Tie as tie
 

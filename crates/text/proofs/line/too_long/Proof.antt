@@ -2,7 +2,7 @@
 use borrow.Author.Needs.{needs}
 use Rattle.model.specs.Text.{ascii}
 use Rattle.model.specs.DeskText.{sentence}
-use Rattle.text.specs.Written.{filled, shown}
+use Rattle.forms.specs.Written.{filled, shown}
 use Rattle.text.proofs.line.too_long.Statement.{statement}
 use Rattle.text.proofs.line.too_long.Tie as tie
 

@@ -10,7 +10,7 @@ use Rattle.walk.proofs.cases.+walk_block+walk_node+walk_parts.Lts-walk_
 use Rattle.walk.proofs.cases.walk_parts.Reads as walk-parts
 use Rattle.walk.proofs.cases.walk_parts.Kinds as walk-parts-kinds
 use Rattle.walk.proofs.cases.+walk_block+walk_node+walk_parts.Lts-walk_parts as walk-parts-lts
-use Rattle.execute.proofs.look_at_cases.Reads as look-at-cases-reads
+use Rattle.look.proofs.look_at_cases.Reads as look-at-cases-reads
 use Rattle.walk.proofs.cases.joined.Reads as joined-reads
 use Rattle.walk.proofs.cases.levels_of.Reads as levels-of-reads
 use Rattle.lines.proofs.add_line.Reads as add-line-reads

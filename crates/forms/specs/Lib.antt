@@ -1,0 +1,2 @@
+-- What is written, in the words of model/specs.
+pub mod Written
