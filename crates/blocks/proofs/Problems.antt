@@ -16,7 +16,7 @@ use Rattle.formula.specs.declared.read.Reading.the-variants.{Refused, Next}
 use Rattle.blocks.specs.declared.problem.Actions.{Actions}
 use Rattle.blocks.specs.declared.problem.Found.{Found}
 use Rattle.blocks.specs.Parts.{ActionsAt, Finds, Ends}
-use Rattle.fields.proofs.Headers.{was-refused, was-got}
+use Rattle.fields.proofs.Readers.{was-refused, was-got}
 use Rattle.blocks.proofs.Actions.{actions-length}
 
 -- a refusal, and nothing found

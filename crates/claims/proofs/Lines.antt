@@ -28,7 +28,7 @@ use Rattle.blocks.specs.declared.problem.Places.{Places}
 use Rattle.claims.specs.declared.Before.{Before}
 use Rattle.claims.specs.declared.Followed.{Followed}
 use Rattle.claims.specs.declared.Followed.the-variants.{Fault, Next}
-use Rattle.claims.specs.Claims.{Followable, LineTask, Lanes, Claims, LineIs, NextWithin, FollowsLine}
+use Rattle.claims.specs.Claims.{Followable, LineTask, Lanes, Claims, FollowsLine}
 
 -- ---- a claim
 
@@ -39,9 +39,6 @@ look-empty (suc a) b h = refl
 look-carries : (a b : ℕ) → a ≡ 0 → (b ≡ 0 → ⊥) → lookBits a b ≡ closed carries
 look-carries a zero e h = absurd (h refl)
 look-carries a (suc b) e h = rw e
-
-look-open : (a b : ℕ) → a ≡ 0 → b ≡ 0 → lookBits a b ≡ opened
-look-open a b e f = rw (e, f)
 
 module _ (problem steps actions : List ℕ) (at : Places) (kind : ℕ) (c : List ℕ) (r : Looks)
     (L : LooksAtCases problem steps actions (at .initial) (at .goal) c r) where
@@ -59,7 +56,7 @@ module _ (problem steps actions : List ℕ) (at : Places) (kind : ℕ) (c : List
       claim-carries g = claim-is (closed carries) (look-carries _ _ (sym e-is ∙ h) (λ z. g (a-is ∙ z)))
 
       pub claim-open : a ≡ 0 → Claims problem steps actions at kind c false
-      claim-open g = claim-is opened (look-open _ _ (sym e-is ∙ h) (sym a-is ∙ g))
+      claim-open g = claim-is opened (rw (sym e-is ∙ h, sym a-is ∙ g))
 
 -- ---- the faults of a line
 

@@ -1,4 +1,3 @@
 -- Laws of the definitions, for several functions' proofs.
 pub mod Promise
-pub mod Stating
 pub mod Starting

@@ -1,15 +1,14 @@
 -- What reading a state's number gives, and how the run of that state is answered.
 use mathlib.Core.Path.{_≡_}
-use mathlib.Core.Bool.{true, cond, _&&_}
+use mathlib.Core.Bool.{true, _&&_}
 use mathlib.Core.List.{List}
 use Prim.Native.Nat.{ℕ, _-_, _%_, _^_}
 use lib.Dec.{eqb, ltb}
 use Rattle.model.specs.declared.Limits.{Limits}
 use Rattle.model.specs.declared.Problem.{Problem}
 use Rattle.model.specs.declared.RunAnswer.{RunAnswer}
-use Rattle.model.specs.Answer.{refused, answered}
-use Rattle.model.specs.Case.{caseOf, Task, runOf}
-use Rattle.model.specs.Operations.{isState}
+use Rattle.model.specs.Case.{caseOf, Task}
+use Rattle.model.specs.Operations.{stateAnswer}
 use Rattle.model.specs.Answers.{outcome, runAnswer}
 use Rattle.model.specs.Kleene.{Kleene, three}
 use Rattle.model.specs.Run.{run}
@@ -33,6 +32,4 @@ pub record RunsState (problem steps actions : List ℕ) (goal : ℕ) (c : List �
 
 -- as `runState` answers of every task that stands in the blocks
 pub record RunsTask (F : Limits) (problem steps : List ℕ) (parts : Problem) (s : ℕ) (r : RunAnswer) : Type 0 where
-  pub is :
-      (T : Task) → TaskIn F problem steps parts T →
-      runAnswer r ≡ cond (isState T s) (answered (runOf T s)) (refused 40 0)
+  pub is : (T : Task) → TaskIn F problem steps parts T → runAnswer r ≡ stateAnswer T s

@@ -33,9 +33,9 @@ use Rattle.formula.specs.declared.read.Reading.the-variants.{Refused, Next as R
 use Rattle.formula.proofs.Readers.{next-got, next-refused}
 use Rattle.blocks.specs.declared.plan.Task as blocks
 use Rattle.blocks.specs.Parts.{FindsTask}
-use Rattle.blocks.specs.Standing.{placesOf, VersionTask, StandsFound}
+use Rattle.blocks.specs.Standing.{placesOf, VersionTask, TaskIn, StandsFound}
 use Rattle.blocks.proofs.Standing.{found-in}
-use Rattle.fields.proofs.Headers.{header-got}
+use Rattle.fields.proofs.Readers.{header-got}
 use Rattle.table.specs.Tables.{NoneFixed}
 use Rattle.blocks.specs.declared.problem.Places.{Places}
 use Rattle.claims.specs.declared.Before.{Before}
@@ -68,13 +68,9 @@ module _ (F : Limits) (w : ℕ) (look : ℕ → ℕ → model.Look) (n : ℕ) (l
   unfolding follow refuseAt
   follow-next m p i x e h f g = rw (lines-more m p h, f, refuseAt, add-one, g)
 
-  follow-ends : (m p i x : ℕ) → m ≡ 0 → x ≡ 2 ^ w → follow w look n (linesFrom F list m p) i x ≡ answered i
-  unfolding linesFrom follow ends
-  follow-ends m p i x z e = rw (z, linesFrom, follow, eq-eqb x (2 ^ w) e)
-
-  follow-short : (m p i x : ℕ) → m ≡ 0 → (x ≡ 2 ^ w → ⊥) → follow w look n (linesFrom F list m p) i x ≡ refused 70 i
-  unfolding linesFrom follow ends
-  follow-short m p i x z e = rw (z, linesFrom, follow, ne-eqb x (2 ^ w) e)
+  follow-ends : (m p i x : ℕ) → m ≡ 0 → follow w look n (linesFrom F list m p) i x ≡ ends (eqb x (2 ^ w)) i
+  unfolding linesFrom follow
+  follow-ends m p i x z = rw (z, linesFrom, follow)
 
 -- ---- whole lists
 
@@ -152,33 +148,24 @@ module _ (F : Limits) (problem steps actions : List ℕ) (facts : ℕ) (at : Pla
         }
 
   module _ (c : List ℕ) (b : Before) (i : ℕ) (o : So-far c b i) (h : m ≤ i) (w whole : ℕ) (w-as : w ≡ F .width) (all : whole ≡ 2 ^ (w - 0)) where
-    all-followed : i ≡ m
-    all-followed = omega (arith, o .few)
-
-    whole-is : (T : Task) → VersionTask F problem steps actions facts at T → whole ≡ 2 ^ T .width
-    whole-is T Q = all ∙ ap (λ (x : ℕ). 2 ^ x) (omega (arith, Q .width))
+    -- the cover's end answers for all
+    lines-ended : (t : Bool) → eqb (b .end) whole ≡ t → (r : FollowAnswer) → followAnswer r ≡ ends t m → Answers r
+    lines-ended t e r a =
+        record {
+          is =
+              λ T Q.
+              let g : whole ≡ 2 ^ T .width = all ∙ ap (λ (x : ℕ). 2 ^ x) (omega (arith, Q .width)) in
+              a ∙ ap₂ ends (sym e ∙ ap (eqb (b .end)) g) (omega (arith, o .few)) ∙
+              sym (o .same T Q .0 ∙ follow-ends F (T .width) (lookAt T) facts list (m - i) _ i (b .end) (omega arith));
+        }
 
     pub lines-short : (b .end ≡ whole → ⊥) → Answers (FollowRefused (record { number = 70; place = m }))
-    lines-short d =
-        record {
-          is =
-              λ T Q.
-              sym
-              (o .same T Q .0 ∙
-              follow-short F (T .width) (lookAt T) facts list (m - i) _ i (b .end) (omega arith) (λ e. d (e ∙ sym (whole-is T Q))) ∙
-              ap (refused 70) all-followed);
-        }
+    unfolding ends
+    lines-short d = lines-ended false (ne-eqb (b .end) whole d) _ refl
 
     pub lines-pass : b .end ≡ whole → Answers (Passes m)
-    lines-pass d =
-        record {
-          is =
-              λ T Q.
-              sym
-              (o .same T Q .0 ∙
-              follow-ends F (T .width) (lookAt T) facts list (m - i) _ i (b .end) (omega arith) (d ∙ whole-is T Q) ∙
-              ap answered all-followed);
-        }
+    unfolding ends
+    lines-pass d = lines-ended true (eq-eqb (b .end) whole d) _ refl
 
 -- ---- the block
 
@@ -242,26 +229,33 @@ pub follow-refused :
 unfolding followList Answer._>>=_
 follow-refused s t list r f h = rw (f .refusal h)
 
-module _ (problem plan : List ℕ) (r : blocks.Task) (f : FindsTask version1 problem plan r) (o : StandsFound version1 problem plan r) where
-  pub followable : Followable (r .limits .line) (r .problem .facts)
+-- F are the numbers that were found
+module _ (problem plan : List ℕ) (r : blocks.Task) (f : FindsTask version1 problem plan r) (o : StandsFound version1 problem plan r) (F : Limits) (F-is : F ≡ version1) where
+  found-is : r .limits ≡ F
+  found-is = f .limits ∙ sym F-is
+
+  pub found-sensible : Sensible F
+  found-sensible = subst Sensible found-is (o .sensible)
+
+  pub followable : Followable (F .line) (r .problem .facts)
   followable =
-      let S = o .sensible in
-      record { least = S .line; most = subst (λ (F : Limits). F .line < 10) (sym (f .limits)) (omega arith); facts = omega (arith, o .facts, o .few, S .width, S .bits) }
+      let S = found-sensible in
+      record { least = S .line; most = rw F-is (omega arith); facts = omega (arith, o .facts, subst (λ (G : Limits). o .task .facts ≤ G .facts) found-is (o .few), S .width, S .bits) }
 
-  module _ (list : List ℕ) (most : ℕ) (most-is : most ≡ headBytes + r .limits .line * r .limits .lines) where
-    -- the operation, by the numbers that were found
-    follow-by : followList version1 problem plan list ≡ Answer._>>=_ (listOf (r .limits) list) (λ ls. follow (o .task .width) (lookAt (o .task)) (o .task .facts) ls 0 0)
+  module _ (list : List ℕ) (most : ℕ) (most-is : most ≡ headBytes + F .line * F .lines) where
+    -- the operation, by these numbers
+    follow-by : followList version1 problem plan list ≡ Answer._>>=_ (listOf F list) (λ ls. follow (o .task .width) (lookAt (o .task)) (o .task .facts) ls 0 0)
     unfolding Answer._>>=_
-    follow-by = follow-is version1 problem plan (o .task) (o .read) list ∙ rw (f .limits)
+    follow-by = follow-is version1 problem plan (o .task) (o .read) list ∙ rw F-is
 
-    pub follow-header : (y : Refusal) → Refused y ≡ nextOf (headed (r .limits) list most most-is) → refusal y ≡ followList version1 problem plan list
+    pub follow-header : (y : Refusal) → Refused y ≡ nextOf (headed F list most most-is) → refusal y ≡ followList version1 problem plan list
     unfolding Answer._>>=_
-    follow-header y e = sym (follow-by ∙ rw (list-refused (r .limits) list most most-is y e))
+    follow-header y e = sym (follow-by ∙ rw (list-refused F list most most-is y e))
 
     pub follow-body :
-        (u : FollowAnswer) (q : ℕ) → Reading-Next q ≡ nextOf (headed (r .limits) list most most-is) → (steps : List ℕ) →
-        steps ≡ take (length plan - headBytes) (drop headBytes plan) → FollowsBody (r .limits) problem steps (r .problem) list u →
+        (u : FollowAnswer) (q : ℕ) → Reading-Next q ≡ nextOf (headed F list most most-is) → (steps : List ℕ) →
+        steps ≡ take (length plan - headBytes) (drop headBytes plan) → FollowsBody F problem steps (r .problem) list u →
         followAnswer u ≡ followList version1 problem plan list
     follow-body u q e steps p y =
-        y .is (o .task) (found-in version1 problem plan r o steps p) ∙
-        sym (follow-by ∙ rw (list-body (r .limits) list most most-is q e) (by-test (eqb ((length list - headBytes) % r .limits .line) 0) _ _ (length list)))
+        y .is (o .task) (subst (λ (G : Limits). TaskIn G problem steps (r .problem) (o .task)) found-is (found-in version1 problem plan r o steps p)) ∙
+        sym (follow-by ∙ rw (list-body F list most most-is q e) (by-test (eqb ((length list - headBytes) % F .line) 0) _ _ (length list)))

@@ -1,21 +1,56 @@
--- Texts written one after another. Assumes nothing.
-use mathlib.Core.Path.{_≡_, refl, sym, ap, _∙_, subst}
+-- Numbers in decimal, digit by digit, and texts written one after another. Assumes nothing.
+use Prim.Native.Nat.{ℕ, zero, suc, _+_, _*_, _/_, _%_, _^_, _<_, _≤_, _-_}
+use mathlib.Core.Path.{_≡_, sym, ap, _∙_, refl, subst}
 use mathlib.Core.Bool.{Bool, true, false, cond}
 use mathlib.Core.List.{List, [], _∷_, _++_, append-assoc, append-nil}
-use Prim.Native.Nat.{ℕ, zero, suc, _+_, _-_, _/_, _%_, _^_, _<_, _≤_}
-use native.Mathlib.Omega.{arith}
-use native.Mathlib.Nat.{add-zero, pow-suc}
-use native.Mathlib.Numerals.{add-one}
-use lib.Dec.{eqb}
-use lib.ListN.{length, getD, set, take, drop, length-append, length-set}
-use lib.Seq.{sets, take-suc, drop-cons}
+use lib.Dec.{ltb, eqb}
+use lib.ListN.{length, length-append, getD, set, take, drop, length-set}
 use borrow.Author.Tests.{lt-ltb, le-ltb, ne-eqb}
+use native.Mathlib.Nat.{div-lt-iff-lt-mul, pow-suc, add-zero}
+use native.Mathlib.Omega.{arith}
+use Rattle.model.specs.DeskText.{decimal, digits, marks}
+use native.Mathlib.Numerals.{add-one}
+use lib.Seq.{sets, take-suc, drop-cons}
 use Rattle.model.specs.Action.{tabulate}
 use Rattle.model.specs.Case.{bit}
-use Rattle.model.specs.DeskText.{decimal, marks}
 use Rattle.lines.proofs.Stores.{sets-append}
 use Rattle.forms.specs.Written.{Put, shown, filled, room, mark}
-use Rattle.forms.proofs.Decimal.{decimal-most, one-digit, more-digits}
+
+digits-most : (k n : ℕ) → length (digits k n) ≤ k
+unfolding digits
+digits-most zero n = omega arith
+digits-most (suc k) n = by (digits-most k (n / 10)) (ltb n 10) where
+  by : length (digits k (n / 10)) ≤ k → (b : Bool) → length (cond b ((48 + n) ∷ []) (digits k (n / 10) ++ ((48 + n % 10) ∷ []))) ≤ suc k
+  by h true = omega arith
+  by h false = simp length-append (omega arith)
+
+decimal-most : (n : ℕ) → length (decimal n) ≤ 20
+unfolding decimal
+decimal-most n = digits-most 20 n
+
+-- a step of the definition
+step : (k n : ℕ) → 10 ≤ n → digits (suc k) n ≡ digits k (n / 10) ++ ((48 + n % 10) ∷ [])
+unfolding digits
+step k n h = simp (le-ltb _ _ h)
+
+-- where k + 1 digits are enough, one more changes nothing
+enough : (k n : ℕ) → n < 10 ^ k * 10 → digits (suc k) n ≡ digits (suc (suc k)) n
+unfolding digits
+enough zero n h = simp (lt-ltb _ _ h)
+enough (suc k) n h =
+    let g : n / 10 < 10 ^ k * 10 = rw (← pow-suc 10 k) (div-lt-iff-lt-mul {k = 10} (omega arith) .1 h) in
+    ap (λ (l : List ℕ). cond (ltb n 10) ((48 + n) ∷ []) (l ++ ((48 + n % 10) ∷ []))) (enough k (n / 10) g)
+
+one-digit : (n : ℕ) → n < 10 → (48 + n) ∷ [] ≡ decimal n
+unfolding decimal digits
+one-digit n h = simp (lt-ltb _ _ h)
+
+-- a last digit after those of the tenth
+more-digits : (n : ℕ) → 10 ≤ n → n < 2 ^ 64 → decimal (n / 10) ++ ((48 + n % 10) ∷ []) ≡ decimal n
+unfolding decimal
+more-digits n h f = ap (λ (l : List ℕ). l ++ ((48 + n % 10) ∷ [])) (sym (enough 18 (n / 10) (omega arith))) ∙ sym (step 19 n h)
+
+-- ---- texts
 
 infixr 30 _then_
 -- one text after another
@@ -116,7 +151,3 @@ module _ (w k v : ℕ) where
     by zero g = refl
     by (suc zero) g = refl
     by (suc (suc x)) g = absurd (omega arith)
-
-pub pow-pos : (n : ℕ) → 0 < 2 ^ n
-pow-pos zero = omega arith
-pow-pos (suc n) = omega (arith, pow-suc 2 n, pow-pos n)

@@ -6,11 +6,8 @@ use Prim.Native.Nat.{ℕ, _+_, _≤_}
 use lib.Dec.{ltb, eqb}
 use lib.ListN.{length}
 use lib.Seq.{sets}
-use Rattle.model.specs.declared.Limits.{Limits}
-use Rattle.model.specs.Answer.{Answer, refused, answered}
 use Rattle.model.specs.Case.{bit}
-use Rattle.model.specs.Walk.{Verdict}
-use Rattle.model.specs.DeskText.{decimal, refusalLine, verdictLine}
+use Rattle.model.specs.DeskText.{decimal}
 
 -- the text stands in `after` from `at` on, and ends at r; every other byte is as it was
 pub record Put (before : List ℕ) (at : ℕ) (text : List ℕ) (r : ℕ) (after : List ℕ) : Type 0 where

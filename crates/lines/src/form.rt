@@ -22,17 +22,6 @@ pub enum Checked {
     Sound(Line),
 }
 
-// A value of so many bytes. With six of them, as in version 1, the count is known to the compiler, and they are one load.
-fn read_value(list: &[u8], at: usize, n: usize) -> u64
-    requires { ⌜ (n ≤ 8) × (at + n ≤ length (now list)) ⌝ }
-    ensures { λ r. ⌜ (r ≡ bigEndian (take n (drop at (now (list .entry))))) × (r < 256 ^ n) ⌝ }
-{
-    if n == 6 {
-        return read_number(list, at, 6);
-    }
-    read_number(list, at, n)
-}
-
 // The line numbered `line`.
 pub fn read_line(list: &[u8], line: usize, size: usize) -> Line
     requires { ⌜ (2 < size) × (size ≤ 10) × (headBytes + size * line + size ≤ length (now list)) ⌝ }
@@ -42,7 +31,7 @@ pub fn read_line(list: &[u8], line: usize, size: usize) -> Line
     Line {
         kind: list[p],
         k: list[p + 1],
-        value: read_value(list, p + 2, size - 2),
+        value: read_number(list, p + 2, size - 2),
     }
 }
 

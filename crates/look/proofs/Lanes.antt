@@ -17,15 +17,12 @@ use Rattle.model.specs.Run as Run
 use Rattle.model.specs.Case.{Task}
 use Rattle.model.specs.Walk as Walk
 use Rattle.model.specs.ProblemBytes.{actionAt}
-use Rattle.model.specs.Answers.{outcome}
-use Rattle.model.specs.declared.Outcome.{Outcome}
 use Rattle.model.specs.Planes.{laneBit, someBit, Table}
-use Rattle.model.specs.Stands.{ActionAt}
+use Rattle.model.specs.Stands.{ActionAt, TaskStands}
 use Rattle.model.proofs.Laws.Tabulate.{length-tabulate}
-use Rattle.model.proofs.Laws.Planes.{ones, bit-and, bit-ones, bit-zero, bit-flip}
+use Rattle.model.proofs.Laws.Planes.{ones, bit-and, bit-zero, bit-flip}
 use Rattle.evaluate.specs.declared.Planes.{Planes}
 use Rattle.evaluate.specs.Planes.{FormulaPlanes}
-use Rattle.model.specs.Stands.{TaskStands}
 use Rattle.table.specs.Tables.{Sized}
 use Rattle.step.specs.Actions.{flag, ObeysAction}
 use Rattle.step.proofs.Obeying.{sure-flag}

@@ -28,6 +28,10 @@ pub record Written : Type 0 where
 unfoldable pub isState : Task → ℕ → Bool
 isState T s = ltb s (2 ^ T .width) && eqb (s % 2 ^ (T .width - T .facts)) 0
 
+-- the run of one state, of a problem and a plan that were read
+abbrev pub stateAnswer : Task → ℕ → Answer Outcome
+stateAnswer T s = cond (isState T s) (answered (runOf T s)) (refused 40 0)
+
 abbrev pub lineCount : Verdict (List Line) → Verdict ℕ
 lineCount (right ls a) = right (length ls) a
 lineCount (wrong s o a) = wrong s o a
@@ -62,7 +66,7 @@ module _ (F : Limits) where
   unfoldable pub runState : List ℕ → List ℕ → ℕ → Answer Outcome
   runState problem plan s = do
     T ← readTask problem plan
-    cond (isState T s) (answered (runOf T s)) (refused 40 0)
+    stateAnswer T s
 
   -- "Judge with a grant. Problem, plan; nothing further. Answer: right with lines and visits; wrong with state, outcome and visits;
   -- undecided with visits."

@@ -2,7 +2,7 @@
 use mathlib.Core.Path.{refl, sym, _∙_}
 use native.Mathlib.Omega.{arith}
 use Rattle.blocks.proofs.Promise.{of-slice}
-use Rattle.follow.proofs.Following.{followable, follow-refused, follow-header, follow-body, header-five}
+use Rattle.follow.proofs.Following.{found-sensible, followable, follow-refused, follow-header, follow-body, header-five}
 use Rattle.follow.proofs.Promise.{follow-promised}
 use borrow.Author.Needs.{needs}
 use Rattle.follow.proofs.follow_list.Statement.{statement}
@@ -21,14 +21,15 @@ follow-body-requires : tie.Need-follow-body-requires
 follow-body-requires c κs =
     let f = c .before .before .before .before .before .before .before .before .find-task .ensures in
     let o = f .stands (c .before .before .before .before .before .before .before .if1 .left) in
-    (o .sensible, followable _ _ _ f o, header-five _ _ _ _ (sym (c .before .before .enum-told .given .1) ∙ c .before .before .before .before .check-header .ensures))
+    let v = c .before .before .before .before .before .before .version1 .ensures in
+    (found-sensible _ _ _ f o _ v, followable _ _ _ f o _ v, header-five _ _ _ _ (sym (c .before .before .enum-told .given .1) ∙ c .before .before .before .before .check-header .ensures))
 
 returns-2 : tie.Need-returns-2
 returns-2 c =
     let h = c .before .before .before in
     let k = c .before .before .before .before .before .before .before .before in
     let f = c .before .before .before .before .before .before .before .find-task .ensures in
-    let e = follow-header _ _ _ f (f .stands (c .before .before .before .before .before .before .if1 .left)) _ _ refl _ (sym (c .before .r .given .1) ∙ h .check-header .ensures) in
+    let e = follow-header _ _ _ f (f .stands (c .before .before .before .before .before .before .if1 .left)) _ (c .before .before .before .before .before .version1 .ensures) _ _ refl _ (sym (c .before .r .given .1) ∙ h .check-header .ensures) in
     (e, follow-promised _ _ _ (of-slice (k .before .before .before .args .list .now) (k .shared-slice-known3 .given)) _ e)
 
 returns-3 : tie.Need-returns-3
@@ -36,7 +37,7 @@ returns-3 c =
     let n = c .before .before .before in
     let k = c .before .before .before .before .before .before .before .before .before .before in
     let f = c .before .before .before .before .before .before .before .before .before .find-task .ensures in
-    let e = follow-body _ _ _ f (f .stands (c .before .before .before .before .before .before .before .before .if1 .left)) _ _ refl _ _ (sym (n .enum-told .given .1) ∙ n .before .before .check-header .ensures) _ refl (c .follow-body .ensures) in
+    let e = follow-body _ _ _ f (f .stands (c .before .before .before .before .before .before .before .before .if1 .left)) _ (c .before .before .before .before .before .before .before .version1 .ensures) _ _ refl _ _ (sym (n .enum-told .given .1) ∙ n .before .before .check-header .ensures) _ refl (c .follow-body .ensures) in
     (e, follow-promised _ _ _ (of-slice (k .before .before .before .args .list .now) (k .shared-slice-known3 .given)) _ e)
 
 pub follow-list-spec : {M : Type 1} → statement M
@@ -45,8 +46,9 @@ follow-list-spec =
     (tie.spec
     (λ c κs. search needs)
     returns
-    (λ c. omega (arith, (c .before .before .before .find-task .ensures .stands (c .before .before .if1 .left)) .sensible .lines))
-    (λ c. omega (arith, (c .before .before .before .find-task .ensures .stands (c .before .before .if1 .left)) .sensible .lines))
+    (λ c κs. search needs)
+    (λ c. rw (c .before .version1 .ensures) (omega arith))
+    (λ c. rw (c .before .version1 .ensures) (omega arith))
     (λ c κs. search needs)
     (λ c. search needs)
     (λ c. search needs)

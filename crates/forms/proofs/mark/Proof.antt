@@ -3,7 +3,8 @@ use mathlib.Core.Path.{ap₂, _∙_}
 use Prim.Native.Nat.{ℕ, _+_, _-_, _^_}
 use native.Mathlib.Omega.{arith}
 use borrow.Author.Needs.{needs}
-use Rattle.forms.proofs.Puts.{mark-past, mark-bit, pow-pos}
+use Rattle.forms.proofs.Puts.{mark-past, mark-bit}
+use lib.Pow.{pow-pos}
 use Rattle.forms.proofs.mark.Statement.{statement}
 use Rattle.forms.proofs.mark.Tie as tie
 

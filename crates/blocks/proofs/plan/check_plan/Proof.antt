@@ -4,7 +4,7 @@ use Rattle.blocks.proofs.plan.check_plan.Statement.{statement}
 use Rattle.blocks.proofs.plan.check_plan.Tie as tie
 use Rattle.model.specs.Read.{andThen, _>>_}
 use Rattle.model.specs.ProblemBytes.{plan}
-use Rattle.fields.proofs.Headers.{was-got, stays-refused, header-got}
+use Rattle.fields.proofs.Readers.{was-got, stays-refused, header-got}
 
 returns : tie.Need-returns
 unfolding plan _>>_

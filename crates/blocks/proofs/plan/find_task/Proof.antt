@@ -4,7 +4,7 @@ use Rattle.blocks.proofs.plan.find_task.Statement.{statement}
 use Rattle.blocks.proofs.plan.find_task.Tie as tie
 use native.Mathlib.Omega.{arith}
 use Rattle.model.proofs.Demands.{version1-sensible}
-use Rattle.fields.proofs.Headers.{was-refused, was-got}
+use Rattle.fields.proofs.Readers.{was-refused, was-got}
 use Rattle.blocks.proofs.Tasks.{plan-read, finds-none, no-problem, no-plan, finds-task}
 use Rattle.blocks.proofs.Promise.{of-slice}
 

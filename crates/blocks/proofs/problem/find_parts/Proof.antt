@@ -4,7 +4,7 @@ use Rattle.blocks.proofs.problem.find_parts.Statement.{statement}
 use Rattle.blocks.proofs.problem.find_parts.Tie as tie
 use Rattle.model.specs.Read.{andThen, _>>=_}
 use Rattle.model.specs.ProblemBytes.{parts}
-use Rattle.fields.proofs.Headers.{was-refused, was-got}
+use Rattle.fields.proofs.Readers.{was-refused, was-got}
 use Rattle.blocks.proofs.Problems.{finds-refused}
 
 returns : tie.Need-returns

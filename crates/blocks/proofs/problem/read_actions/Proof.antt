@@ -4,7 +4,7 @@ use Rattle.blocks.proofs.problem.read_actions.Statement.{statement}
 use Rattle.blocks.proofs.problem.read_actions.Tie as tie
 use Prim.Native.Nat.{_-_, _≤_}
 use native.Mathlib.Omega.{arith}
-use Rattle.fields.proofs.Headers.{was-refused, was-got}
+use Rattle.fields.proofs.Readers.{was-refused, was-got}
 use Rattle.blocks.proofs.Actions.{Sofar, sofar-none, sofar-refused, sofar-next, sofar-all}
 
 abbrev Inv-loop : tie.InvT-loop

@@ -6,7 +6,7 @@ use native.Mathlib.Omega.{arith}
 use borrow.Author.Needs.{needs}
 use mathlib.Core.Path.{_≡_, refl}
 use lib.ListN.{length}
-use Rattle.execute.proofs.Stating.{Stating, stating-begins, stating-blocked, stating-next, stating-missed, stating-reached}
+use Rattle.execute.proofs.Starting.{Stating, stating-begins, stating-blocked, stating-next, stating-missed, stating-reached}
 
 abbrev Inv-loop : tie.InvT-loop
 Inv-loop problem steps actions goal current₀ found₀ literals₀ i₀ current found literals i = Stating problem steps actions goal current₀ i current × (length found ≡ 256) × (length literals ≡ 128)

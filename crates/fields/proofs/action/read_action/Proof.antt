@@ -6,7 +6,7 @@ use mathlib.Core.Path.{_∙_, sym}
 use Rattle.model.specs.Read.{andThen, _>>=_, done}
 use Rattle.model.specs.ProblemBytes.{action}
 use Rattle.formula.proofs.Readers.{then-next}
-use Rattle.fields.proofs.Headers.{was-got, stays-refused}
+use Rattle.fields.proofs.Readers.{was-got, stays-refused}
 
 returns : tie.Need-returns
 unfolding action _>>=_

@@ -6,7 +6,7 @@ use mathlib.Core.Path.{_∙_, sym}
 use borrow.Author.Tests.{lt-ltb, le-ltb, lt-leb, not-true, not-false}
 use Rattle.model.specs.Read.{andThen, _>>=_, _>>_, position, require, byte}
 use Rattle.model.specs.ProblemBytes.{effect}
-use Rattle.fields.proofs.Effects.{effect-formula}
+use Rattle.fields.proofs.Readers.{effect-formula}
 
 returns : tie.Need-returns
 unfolding effect _>>=_ _>>_ andThen position byte

@@ -7,7 +7,7 @@ use native.Mathlib.Omega.{arith}
 use Rattle.model.specs.Read.{done}
 use Rattle.model.specs.ProblemBytes.{effects}
 use Rattle.formula.specs.Readings.{nextOf}
-use Rattle.fields.proofs.Effects.{effects-refused, effects-next}
+use Rattle.fields.proofs.Readers.{effects-refused, effects-next}
 
 abbrev Inv-loop : tie.InvT-loop
 Inv-loop s at facts n p₀ k₀ least₀ p k least = nextOf (effects s facts n 0 at) ≡ nextOf (effects s facts k least p)

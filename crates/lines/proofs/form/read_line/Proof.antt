@@ -16,4 +16,4 @@ read-line-spec =
     (λ c. search needs)
     (λ c. search needs)
     (λ c κs. search needs)
-    (λ c. line-read _ _ _ _ (c .read-value .ensures .0) (c .read-value .ensures .1)))
+    (λ c. line-read _ _ _ _ (c .read-number .ensures .0) (c .read-number .ensures .1)))
