@@ -57,7 +57,7 @@ fn print(text: &[u8], n: usize)
 fn print_list(limits: Limits, facts: u8, list: &[u8], count: usize)
     requires { ⌜ Sensible limits × (facts ≤ limits .facts) × (headBytes + limits .line * count ≤ length (now list)) ⌝ }
 {
-    let mut line = [0u8; 160];
+    let mut line = [0u8; 180];
     let mut i: usize = 0;
     while i < count {
         let n = text::list_line(limits, facts, list, i, &mut line);
@@ -73,7 +73,7 @@ fn print_rest(page: Page, list: &[u8])
     match report::what_follows(page) {
         Rest::Nothing => {}
         Rest::TooLong => {
-            let mut line = [0u8; 160];
+            let mut line = [0u8; 180];
             let n = text::too_long(&mut line);
             print(&line, n);
         }
@@ -91,7 +91,7 @@ fn main() {
     let q = load(2, &mut plan);
     let mut list = io::large_buffer();
     let page = report::page_of(&problem[..p], &plan[..q], &mut list);
-    let mut line = [0u8; 160];
+    let mut line = [0u8; 180];
     let limits = page.limits;
     let answer = page.answer;
     let n = text::first_line(limits, page.facts, answer, &mut line);

@@ -306,7 +306,7 @@ outer s facts p (lit l) q h d v = (conjunction, item h conjunction (lit l) d v)
 outer s facts p (all ms) q h d v = (disjunction, item h disjunction (all ms) (members-formed ms conjunction facts (maxDepth - 1) (d .3)) v)
 outer s facts p (any ms) q h d v = (conjunction, item h conjunction (any ms) (members-formed ms disjunction facts (maxDepth - 1) (d .3)) v)
 
-stated :
+pub stated :
     (s : List ℕ) (facts p : ℕ) (f : Formula) (q : ℕ) → facts ≤ 64 → FormulaAt s facts p f q →
     (g : Group) × (q ≡ p + 2 + (getD s p 0 * 256 + getD s (p + 1) 0)) × Item s facts g (p + 2) f q
 unfolding encodeFormula bytesOf

@@ -7,7 +7,7 @@ ghost use Rattle.evaluate.specs.Planes.{LiteralPlanes, GroupPlanes, Empt
 use numbers::wide;
 
 // The mark that begins an "all".
-const ALL: u8 = 0x80;
+pub const ALL: u8 = 0x80;
 
 // Every lane.
 pub const ONES: u64 = 0xffff_ffff_ffff_ffff;
@@ -58,7 +58,7 @@ fn empty_planes(mark: u8, next: usize) -> Planes
 }
 
 // The members of an "all", n of them from `at` on. Unless the position after the whole group is asked for, no in every lane decides it.
-fn all_planes(s: &[u8], at: usize, n: u8, c: &[u64; 256], whole: bool) -> Planes
+pub fn all_planes(s: &[u8], at: usize, n: u8, c: &[u64; 256], whole: bool) -> Planes
     ensures { λ r. ⌜ GroupPlanes (now (s .entry)) (now (c .entry)) conjunction n at whole r ⌝ }
 {
     let mut some: u64 = ONES;

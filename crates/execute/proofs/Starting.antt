@@ -39,13 +39,17 @@ use Rattle.blocks.proofs.Standing.{found-in}
 use native.Mathlib.Numerals.{add-one}
 use Rattle.model.specs.Action.{applicable}
 use Rattle.model.specs.Run.{reached, missed, blocked, atEnd, goesOn}
-use Rattle.model.specs.ProblemBytes.{actionAt}
+use Rattle.model.specs.FormulaBytes.{encodeFormula}
+use Rattle.model.specs.ProblemBytes.{actionBytes, actionAt}
 use Rattle.model.specs.Stands.{TaskStands}
 use Rattle.model.proofs.Laws.Planes.{ones, bit-ones}
 use Rattle.evaluate.specs.declared.Planes.{Planes}
 use Rattle.evaluate.specs.Planes.{FormulaPlanes}
 use Rattle.step.specs.Actions.{flag, ObeysAction}
-use Rattle.look.proofs.Lanes.{runFrom, after, sized-after, turned, ended}
+use Rattle.look.proofs.Lanes.{runFrom, stopAt, after, sized-after, acting-at, turned, ended}
+use Rattle.unmet.specs.Members.{UnmetMember}
+use Rattle.unmet.proofs.Members.{low-bit}
+use Rattle.model.proofs.Laws.Reading.{split}
 
 -- ---- the table
 
@@ -134,10 +138,6 @@ pub record Stating (problem steps actions : List ℕ) (goal : ℕ) (c : List ℕ
 pub stating-begins : (problem steps actions : List ℕ) (goal : ℕ) (c : List ℕ) → length c ≡ 256 → Stating problem steps actions goal c 0 c
 stating-begins problem steps actions goal c w = record { size = w; few = omega arith; is = λ initial T S case z t. (case, z, t, refl) }
 
-low-bit : (x : ℕ) → laneBit 0 x ≡ x % 2
-unfolding laneBit
-low-bit x = ap (λ (y : ℕ). y % 2) (omega arith)
-
 flag-false : (b : Bool) → flag b ≡ 0 → b ≡ false
 flag-false true e = absurd (omega arith)
 flag-false false e = refl
@@ -148,33 +148,39 @@ flag-true false h = absurd (h refl)
 
 module _ (problem steps actions : List ℕ) (goal : ℕ) (c : List ℕ) (i : ℕ) (d : List ℕ) (R : Stating problem steps actions goal c i d) where
   module _ (more : i < length steps) (slot : ℕ) (named : slot ≡ getD steps i 0 % 64)
-      (alive : ℕ) (d′ : List ℕ) (O : ObeysAction problem (getD actions slot 0) d ones d′ alive) where
+      (alive : ℕ) (d′ : List ℕ) (O : ObeysAction problem (getD actions slot 0) d 1 d′ alive) where
     -- the values before the step, whether it is applicable in them, the table after it, and what it leaves of the run
     stated :
         (initial : ℕ) (T : Task) → TaskStands problem steps actions initial goal T → (case : ℕ → List Kleene) → Sized (T .facts) case → Table c case →
-        (now′ : ℕ → List Kleene) × (b : Bool) × (alive % 2 ≡ flag b) × ((alive ≡ 0 → ⊥) → Table d′ (λ j. after T i (now′ j))) ×
-        (runFrom T 0 (case 0) ≡ goesOn b (runFrom T (suc i) (after T i (now′ 0))) (record { step = i }))
+        (now′ : ℕ → List Kleene) × Table d now′ × (b : Bool) × (alive ≡ flag b) × ((alive ≡ 0 → ⊥) → Table d′ (λ j. after T i (now′ j))) ×
+        (runFrom T 0 (case 0) ≡ goesOn b (runFrom T (suc i) (after T i (now′ 0))) (stopAt T i (now′ 0)))
     stated initial T S case z t =
         let (now′, y, u, e) = R .is initial T S case z t in
-        let (bits, later, turn) = turned problem steps actions goal i more slot named ones alive d d′ O initial T S now′ y u in
+        let (bits, later, turn) = turned problem steps actions goal i more slot named 1 alive d d′ O initial T S now′ y u in
         let b = applicable three (actionAt (T .plan) i) (now′ 0) in
-        (now′, b, sym (low-bit alive) ∙ bits 0 (omega arith) ∙ rw (bit-ones 0 (omega arith)) (at-most b), later, e ∙ turn (now′ 0))
+        let f : alive % 2 ≡ flag b = sym (low-bit alive) ∙ bits 0 (omega arith) ∙ rw (low-bit 1) (at-most b) in
+        (now′, u, b, omega (arith, O .among), later, e ∙ turn (now′ 0))
       where
         at-most : (b : Bool) → min 1 (flag b) ≡ flag b
         at-most true = refl
         at-most false = refl
 
-    pub stating-blocked : alive % 2 ≡ 0 → (r : Outcome) → outcome r ≡ blocked (record { step = i }) → RunsState problem steps actions goal c r
-    unfolding goesOn
-    stating-blocked h r o =
+    pub stating-blocked :
+        alive ≡ 0 → (m : ℕ) → UnmetMember problem d′ (getD actions slot 0) m → (r : Outcome) → outcome r ≡ blocked (record { step = i; member = m }) →
+        RunsState problem steps actions goal c r
+    unfolding goesOn actionBytes
+    stating-blocked h m U r o =
         record {
           is =
               λ initial T S case z t.
-              let (now′, b, f, later, e) = stated initial T S case z t in
-              o ∙ sym (e ∙ rw (flag-false b (sym f ∙ h)));
+              let (now′, u, b, f, later, e) = stated initial T S case z t in
+              let (q, at) = acting-at problem steps actions goal i more slot named initial T S in
+              split (encodeFormula (actionAt (T .plan) i .precondition)) (at .bytes) λ p v w.
+              let k = U .is (T .facts) _ p (omega (arith, S .most)) (record { ok = at .precondition; bytes = v }) now′ (subst (λ (x : List ℕ). Table x now′) (sym (O .kept h)) u) in
+              o ∙ ap (λ (x : ℕ). blocked (record { step = i; member = x })) k ∙ sym (e ∙ rw (flag-false b (sym f ∙ h)));
         }
 
-    pub stating-next : (alive % 2 ≡ 0 → ⊥) → Stating problem steps actions goal c (i + 1) d′
+    pub stating-next : (alive ≡ 0 → ⊥) → Stating problem steps actions goal c (i + 1) d′
     unfolding goesOn
     stating-next n =
         record {
@@ -182,8 +188,8 @@ module _ (problem steps actions : List ℕ) (goal : ℕ) (c : List ℕ) (i : ℕ
           few = omega arith;
           is =
               λ initial T S case z t.
-              let (now′, b, f, later, e) = stated initial T S case z t in
-              ((λ j. after T i (now′ j)), sized-after T i now′, later (λ w. n (ap (λ (x : ℕ). x % 2) w)), rw (add-one i) (e ∙ rw (flag-true b (λ w. n (f ∙ w)))));
+              let (now′, u, b, f, later, e) = stated initial T S case z t in
+              ((λ j. after T i (now′ j)), sized-after T i now′, later n, rw (add-one i) (e ∙ rw (flag-true b (λ w. n (f ∙ w)))));
         }
 
   -- the goal decides

@@ -12,10 +12,10 @@ use model::RunAnswer;
 use model::Stop;
 use numbers::low_bits;
 use step::obey_action;
-use table::ONES;
 use table::fix_bits;
 use table::none_fixed;
 use table::word_of;
+use unmet::unmet_member;
 
 // A number that was read as a state: whether it is one, and the state in every lane.
 pub struct StateTable {
@@ -65,10 +65,11 @@ fn run_state(
             &mut current,
             &mut found,
             &mut literals,
-            ONES,
+            1,
         );
-        if alive % 2 == 0 {
-            return Outcome::Blocked(Stop { step: i });
+        if alive == 0 {
+            let member = unmet_member(problem, actions[slot], &current);
+            return Outcome::Blocked(Stop { step: i, member });
         }
         i = i + 1;
     }

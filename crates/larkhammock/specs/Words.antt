@@ -23,21 +23,25 @@ abbrev pub countWords : Answer ℕ → List ℕ
 countWords (refused n q) = refusalWords n q
 countWords (answered n) = words 1 n 0 0 0
 
--- run: reached, missed, or blocked with its step
+-- "part (from W-201 on): 0 member": what a block's number counts
+abbrev memberPart : ℕ
+memberPart = 0
+
+-- run: reached, missed, or blocked with its step, part and number
 abbrev pub endWords : Outcome → List ℕ
 endWords reached = words 1 0 0 0 0
 endWords missed = words 2 0 0 0 0
-endWords (blocked s) = words 3 (s .step) 0 0 0
+endWords (blocked s) = words 3 (s .step) memberPart (s .member) 0
 
 abbrev pub runWords : Answer Outcome → List ℕ
 runWords (refused n q) = refusalWords n q
 runWords (answered o) = endWords o
 
--- judge, wrong: visits, state, outcome (run's tag), step
+-- judge, wrong: visits, state, outcome (run's tag), step, part and number
 abbrev pub wrongWords : ℕ → ℕ → Outcome → List ℕ
 wrongWords visits state reached = words 2 visits state 1 0
 wrongWords visits state missed = words 2 visits state 2 0
-wrongWords visits state (blocked s) = words 2 visits state 3 (s .step)
+wrongWords visits state (blocked s) = 2 ∷ visits ∷ state ∷ 3 ∷ s .step ∷ memberPart ∷ s .member ∷ 0 ∷ []
 
 -- judge: right with visits and lines, wrong, undecided with visits
 abbrev pub verdictWords : Verdict ℕ → List ℕ

@@ -20,6 +20,9 @@ pub struct Answer {
     pub word: [u64; 8],
 }
 
+// What the number of a block counts: a member of the precondition.
+const MEMBER: u64 = 0;
+
 fn row(tag: u64, a: u64, b: u64, c: u64, d: u64) -> Answer
     ensures { λ r. ⌜ r .word ≡ tag ∷ a ∷ b ∷ c ∷ d ∷ 0 ∷ 0 ∷ 0 ∷ [] ⌝ }
 {
@@ -63,19 +66,25 @@ pub extern "C" fn larkhammock_run(problem: &[u8], plan: &[u8], state: u64) -> An
         RunAnswer::Ended(outcome) => match outcome {
             Outcome::Reached => row(1, 0, 0, 0, 0),
             Outcome::Missed => row(2, 0, 0, 0, 0),
-            Outcome::Blocked(stop) => row(3, stop.step as u64, 0, 0, 0),
+            Outcome::Blocked(stop) => row(3, stop.step as u64, MEMBER, stop.member as u64, 0),
         },
     }
 }
 
-// The row of a wrong verdict: visits, state, and the outcome's tag and step.
+// The row of a wrong verdict: visits, state, the outcome's tag, and a block's step, part and number.
 fn wrong(visits: u64, state: u64, outcome: Outcome) -> Answer
     ensures { λ r. ⌜ r .word ≡ wrongWords visits state (meaning outcome) ⌝ }
 {
     match outcome {
         Outcome::Reached => row(2, visits, state, 1, 0),
         Outcome::Missed => row(2, visits, state, 2, 0),
-        Outcome::Blocked(stop) => row(2, visits, state, 3, stop.step as u64),
+        Outcome::Blocked(stop) => {
+            let step = stop.step as u64;
+            let member = stop.member as u64;
+            Answer {
+                word: [2, visits, state, 3, step, MEMBER, member, 0],
+            }
+        }
     }
 }
 

@@ -12,7 +12,7 @@ use lib.Bits.{bitAnd, bitXor}
 use Rattle.model.specs.Kleene.{Kleene, No, Unknown, Yes, isYes, three}
 use Rattle.model.specs.Formula.{eval}
 use Rattle.model.specs.Action.{Action, applicable, step}
-use Rattle.model.specs.Run.{Stop, reached, missed, blocked, atEnd, goesOn, run}
+use Rattle.model.specs.Run.{unmet, Stop, reached, missed, blocked, atEnd, goesOn, run}
 use Rattle.model.specs.Run as Run
 use Rattle.model.specs.Case.{Task}
 use Rattle.model.specs.Walk as Walk
@@ -55,6 +55,10 @@ turn-bit a a′ b o o′ s e f = rw (e, goes-bit b o′ s, f) (omega arith)
 abbrev pub runFrom : Task → ℕ → List Kleene → Run.Outcome
 runFrom T i v = run three (T .facts) (T .goal) (drop i (T .plan)) i v
 
+-- where it is blocked if step i is not applicable
+abbrev pub stopAt : Task → ℕ → List Kleene → Stop
+stopAt T i v = record { step = i; member = unmet three v (actionAt (T .plan) i .precondition) }
+
 abbrev pub after : Task → ℕ → List Kleene → List Kleene
 after T i v = step three (T .facts) (actionAt (T .plan) i) v
 
@@ -78,17 +82,23 @@ run-end T i v h = ap (λ (w : List Action). run three (T .facts) (T .goal) w i v
     all (a ∷ plan) (suc n) h = all plan n (omega arith)
 
 module _ (problem steps actions : List ℕ) (goal i : ℕ) where
+  pub acting-at :
+      i < length steps → (slot : ℕ) → slot ≡ getD steps i 0 % 64 → (initial : ℕ) (T : Task) → TaskStands problem steps actions initial goal T →
+      (q : ℕ) × ActionAt problem (T .facts) (getD actions slot 0) (actionAt (T .plan) i) q
+  acting-at more slot named initial T S =
+      let (q, a) = S .acting i more in
+      (q, subst (λ (x : ℕ). ActionAt problem (T .facts) (getD actions x 0) (actionAt (T .plan) i) q) (sym (named ∙ mod-eq-of-lt (S .named i more))) a)
+
   -- step i, whose slot the plan names: the lanes in which it is applicable, the table after it, and what it leaves of a run
   pub turned :
       i < length steps → (slot : ℕ) → slot ≡ getD steps i 0 % 64 → (alive alive′ : ℕ) (d d′ : List ℕ) → ObeysAction problem (getD actions slot 0) d alive d′ alive′ →
       (initial : ℕ) (T : Task) → TaskStands problem steps actions initial goal T → (now′ : ℕ → List Kleene) → Sized (T .facts) now′ → Table d now′ →
       ((j : ℕ) → j < 64 → laneBit j alive′ ≡ min (laneBit j alive) (flag (applicable three (actionAt (T .plan) i) (now′ j)))) ×
       ((alive′ ≡ 0 → ⊥) → Table d′ (λ j. after T i (now′ j))) ×
-      ((v : List Kleene) → runFrom T i v ≡ goesOn (applicable three (actionAt (T .plan) i) v) (runFrom T (suc i) (after T i v)) (record { step = i }))
+      ((v : List Kleene) → runFrom T i v ≡ goesOn (applicable three (actionAt (T .plan) i) v) (runFrom T (suc i) (after T i v)) (stopAt T i v))
   unfolding run
   turned more slot named alive alive′ d d′ O initial T S now′ y u =
-      let (q, a) = S .acting i more in
-      let at = subst (λ (x : ℕ). ActionAt problem (T .facts) (getD actions x 0) (actionAt (T .plan) i) q) (sym (named ∙ mod-eq-of-lt (S .named i more))) a in
+      let (q, at) = acting-at more slot named initial T S in
       let (bits, later) = O .is (T .facts) (actionAt (T .plan) i) q (omega (arith, S .most)) at now′ y u in
       (bits, later, λ v. ap (λ (w : List Action). run three (T .facts) (T .goal) w i v) (drop-action (T .plan) i (omega (arith, S .counted))))
 

@@ -7,7 +7,7 @@ use Rattle.model.specs.Limits.{version1}
 use Rattle.model.specs.Walk.{Line, Verdict, walked}
 use Rattle.model.specs.DeskText.{verdictLine, verdictRest}
 use Rattle.model.specs.Operations.{lineCount}
-use Rattle.model.specs.Trials.{Row, reply, P-no-start, starred, NoStart, edges, DeskGrant}
+use Rattle.model.specs.Trials.{Row, reply, P-no-start, starred, NoStart, edges, DeskGrant, unmet-members}
 use Rattle.model.proofs.Laws.Tasks.{task-fits}
 use Rattle.model.proofs.Laws.Judging.{judged-in, judged-out}
 use Rattle.model.proofs.Laws.NoStart.{no-start}
@@ -22,6 +22,10 @@ starred-hold = refl
 pub edges-hold : Hold edges
 unfolding reply
 edges-hold = refl
+
+pub members-hold : Hold unmet-members
+unfolding reply
+members-hold = refl
 
 pub no-start-holds : NoStart
 unfolding reply

@@ -35,11 +35,11 @@ abbrev pub planAnswer : PlanAnswer → Answer ℕ
 planAnswer (PlanRefused r) = refusal r
 planAnswer (PlanAccepted n) = answered n
 
--- "reached, missed, or blocked with its step"
+-- "reached, missed, or blocked with its step", and its member
 abbrev pub outcome : Outcome → Run.Outcome
 outcome Reached = Run.reached
 outcome Missed = Run.missed
-outcome (Blocked s) = Run.blocked (record { step = s .step })
+outcome (Blocked s) = Run.blocked (record { step = s .step; member = s .member })
 
 abbrev pub runAnswer : RunAnswer → Answer Run.Outcome
 runAnswer (RunRefused r) = refusal r

@@ -7,7 +7,7 @@ use lib.ListN.{length, getD}
 use Rattle.model.specs.Kleene.{two}
 use Rattle.model.specs.Formula.{Formula, eval}
 use Rattle.model.specs.Action.{Action, next}
-use Rattle.model.specs.Run.{Outcome, reached, missed, blocked}
+use Rattle.model.specs.Run.{unmet, Stop, Outcome, reached, missed, blocked}
 
 abbrev pub Belief : Type 1
 Belief = List Bool → Type 0
@@ -51,19 +51,21 @@ module _ (n : ℕ) where
   abbrev pub initialBelief : Formula → Belief
   initialBelief initial s = (length s ≡ n) × (eval two s initial ≡ true)
 
-  -- the first i actions of the plan are applicable from B, and action i, counted from 0, is not
-  pub record Blocks (B : Belief) (plan : List Action) (i : ℕ) : Type 0 where
+  -- the first actions of the plan, as many as the stop's step says, are applicable from B, and the next one is not; its part that is
+  -- unmet there is the stop's member
+  pub record Blocks (B : Belief) (plan : List Action) (p : Stop) : Type 0 where
     pub before : List Action
     pub action : Action
     pub rest : List Action
     pub parts : plan ≡ before ++ (action ∷ rest)
-    pub at : length before ≡ i
+    pub at : length before ≡ p .step
     pub applicable : Applicable B before
     pub not-applicable : ApplicableIn (after B before) action → ⊥
+    pub member : (t : List Bool) → after B before t → unmet two t (action .precondition) ≡ p .member
 
   -- "The run of one given state answers by that same section": what each outcome says of the plan, from the belief that holds the
   -- state s alone
   abbrev pub OutcomeMeans : List Bool → Formula → List Action → Outcome → Type 0
   OutcomeMeans s goal plan reached = Solution (only s) goal plan
   OutcomeMeans s goal plan missed = Applicable (only s) plan × (Entails (after (only s) plan) goal → ⊥)
-  OutcomeMeans s goal plan (blocked p) = Blocks (only s) plan (p .step)
+  OutcomeMeans s goal plan (blocked p) = Blocks (only s) plan p

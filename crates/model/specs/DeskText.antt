@@ -49,11 +49,11 @@ refusalLine number place = sentence (ascii "refused" ∷ blockText number ∷ de
 unfoldable pub rightLine : ℕ → ℕ → List ℕ
 rightLine lines a = sentence (ascii "right" ∷ ascii "lines" ∷ decimal lines ∷ ascii "visited" ∷ decimal a ∷ [])
 
--- "at end", or "at step 0" for a block
+-- "at end", or "at step 0 member 0" for a block (W-201)
 abbrev pub whereText : Outcome → List (List ℕ) → List (List ℕ)
 whereText reached rest = ascii "at" ∷ ascii "end" ∷ rest
 whereText missed rest = ascii "at" ∷ ascii "end" ∷ rest
-whereText (blocked s) rest = ascii "at" ∷ ascii "step" ∷ decimal (s .step) ∷ rest
+whereText (blocked s) rest = ascii "at" ∷ ascii "step" ∷ decimal (s .step) ∷ ascii "member" ∷ decimal (s .member) ∷ rest
 
 -- "Wrong is "wrong 010 at end visited 5"": the state's values over n facts
 unfoldable pub wrongLine : Limits → ℕ → ℕ → Outcome → ℕ → List ℕ

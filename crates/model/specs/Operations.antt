@@ -62,7 +62,8 @@ module _ (F : Limits) where
     steps ← planOf plan (length (p .actions))
     answered (taskOf p steps)
 
-  -- "Run one state. Problem, plan; 40 .. The state need not be a start state. Answer: reached, missed, or blocked with its step."
+  -- "Run one state. Problem, plan; 40 .. The state need not be a start state. Answer: reached, missed, or blocked with its step." A
+  -- block also carries its member (W-201).
   unfoldable pub runState : List ℕ → List ℕ → ℕ → Answer Outcome
   runState problem plan s = do
     T ← readTask problem plan

@@ -1,14 +1,27 @@
 -- One run of a plan (document 01, "The store as facts").
-use mathlib.Core.Bool.{Bool, true, false}
+use mathlib.Core.Bool.{Bool, true, false, cond}
 use mathlib.Core.List.{List, [], _∷_}
 use Prim.Native.Nat.{ℕ, suc}
 use Rattle.model.specs.Kleene.{Logic}
-use Rattle.model.specs.Formula.{Formula, eval}
+use Rattle.model.specs.Formula.{Formula, Formulas, lit, all, any, none, more, eval}
 use Rattle.model.specs.Action.{Action, applicable, step}
 
--- where a run is blocked: "the first step, counted from 0, that is not applicable"
+-- which part of a precondition was unmet, in the values c (document 02, W-201): "if the precondition is an "all", the first of its
+-- members, from 0, that is false; otherwise 0"
+module _ {X : Type 0} (L : Logic X) (c : List X) where
+  unfoldable pub firstFalse : Formulas → ℕ
+  firstFalse none = 0
+  firstFalse (more m ms) = cond (L .holds (eval L c m)) (suc (firstFalse ms)) 0
+
+  unfoldable pub unmet : Formula → ℕ
+  unmet (lit l) = 0
+  unmet (all ms) = firstFalse ms
+  unmet (any ms) = 0
+
+-- where a run is blocked: "the first step, counted from 0, that is not applicable", and (W-201) "a member number"
 pub record Stop : Type 0 where
   pub step : ℕ
+  pub member : ℕ
 
 -- "A run stops as blocked at the first step .. that is not applicable. Otherwise it is reached or missed by the goal at the end."
 pub data Outcome : Type 0 where
@@ -28,4 +41,5 @@ goesOn false rest s = blocked s
 module _ {X : Type 0} (L : Logic X) (n : ℕ) (goal : Formula) where
   unfoldable pub run : List Action → ℕ → List X → Outcome
   run [] i c = atEnd (L .holds (eval L c goal))
-  run (a ∷ plan) i c = let rest = run plan (suc i) (step L n a c) in goesOn (applicable L a c) rest (record { step = i })
+  run (a ∷ plan) i c =
+      let rest = run plan (suc i) (step L n a c) in goesOn (applicable L a c) rest (record { step = i; member = unmet L c (a .precondition) })

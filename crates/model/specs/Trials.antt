@@ -9,7 +9,7 @@ use Rattle.model.specs.declared.Limits.{Limits}
 use Rattle.model.specs.Limits.{version1}
 use Rattle.model.specs.Formula.{eval}
 use Rattle.model.specs.Action.{conditionIn, applicable, next, step}
-use Rattle.model.specs.Run.{Outcome, reached, missed, blocked, goesOn, run}
+use Rattle.model.specs.Run.{firstFalse, unmet, Outcome, reached, missed, blocked, goesOn, run}
 use Rattle.model.specs.Case.{bit, stateOf, caseOf, Task, runOf}
 use Rattle.model.specs.Walk.{visits, Verdict, right, wrong, undecided, walkFrom, walk, lookAt, walked, found, judged}
 use Rattle.model.specs.Answer as Answer
@@ -42,7 +42,7 @@ pub data Reply : Type 0 where
 
 -- what the definitions give; a proof that unfolds this computes with all of them
 unfoldable pub reply : Call → Reply
-unfolding eval conditionIn applicable next step goesOn run bit stateOf caseOf runOf walkFrom walk lookAt walked judged Answer._>>=_ first refuseAt ends fault follow andThen _>>=_ _>>_ done position require answerOf bigEndianFrom bytesOf block byte counted header count isLiteral literalOf groupHead headFrom head members whole item stated formula effect effects effectList action actions ending parts body problem problemOf steps plan planOf actionAt lineAt linesFrom caseList listOf lineBytes linesBytes encodeList isState readProblem readPlan taskOf readTask runState judge listBytes linesFor written listFor writeList followList ascii hex digits decimal sentence marks refusalLine rightLine wrongLine undecidedLine verdictLine lineText linesText listText verdictRest answerLine answerRest firstLine laterLines deskText
+unfolding eval conditionIn applicable next step firstFalse unmet goesOn run bit stateOf caseOf runOf walkFrom walk lookAt walked judged Answer._>>=_ first refuseAt ends fault follow andThen _>>=_ _>>_ done position require answerOf bigEndianFrom bytesOf block byte counted header count isLiteral literalOf groupHead headFrom head members whole item stated formula effect effects effectList action actions ending parts body problem problemOf steps plan planOf actionAt lineAt linesFrom caseList listOf lineBytes linesBytes encodeList isState readProblem readPlan taskOf readTask runState judge listBytes linesFor written listFor writeList followList ascii hex digits decimal sentence marks refusalLine rightLine wrongLine undecidedLine verdictLine lineText linesText listText verdictRest answerLine answerRest firstLine laterLines deskText
 reply (read-problem p) = counts (readProblem version1 p)
 reply (read-plan p q) = number (readPlan version1 p q)
 reply (run-state p q s) = outcome (runState version1 p q s)
@@ -127,7 +127,7 @@ starred =
     ∷ (judge-with P no-step grant ⇒ verdict (answered (wrong 0x400000000000 missed 5)))
     ∷ (judge-with P both-steps 4 ⇒ verdict (answered (undecided 4)))
     ∷ (judge-with P both-steps 0 ⇒ verdict (answered (undecided 0)))
-    ∷ (judge-with P-guarded both-steps grant ⇒ verdict (answered (wrong 0x400000000000 (blocked (record { step = 0 })) 5)))
+    ∷ (judge-with P-guarded both-steps grant ⇒ verdict (answered (wrong 0x400000000000 (blocked (record { step = 0; member = 0 })) 5)))
     ∷ (judge-with P-goal no-step grant ⇒ verdict (answered (right 1 1)))
     ∷ (judge-with P-no-start both-steps grant ⇒ verdict (answered (right 1 1)))
     ∷ (write-list version1 P-no-start both-steps grant (replicate 13 0) ⇒ wrote 13 (hex "01 00000008 00 00 000000000000"))
@@ -311,7 +311,7 @@ edges =
     ∷ (run-state P both-steps 0x100000000000 ⇒ outcome (refused 40 0))
     ∷ (run-state P both-steps 0x1000000000000 ⇒ outcome (refused 40 0))
     ∷ (run-state P both-steps 0 ⇒ outcome (answered missed))
-    ∷ (run-state P-guarded both-steps 0 ⇒ outcome (answered (blocked (record { step = 0 }))))
+    ∷ (run-state P-guarded both-steps 0 ⇒ outcome (answered (blocked (record { step = 0; member = 0 }))))
     ∷ (run-state P-both step-0 0 ⇒ outcome (answered reached))
     ∷ (run-state P [] 0 ⇒ outcome (refused 31 0))
     -- 50 to 53: no byte of the buffer is changed
@@ -344,14 +344,14 @@ edges =
     -- the desk program
     ∷ (desk version1 P both-steps ⇒ text (ascii "right lines 3 visited 5\nno-start 00?\ncarries 01?\ncarries 1??\n"))
     ∷ (desk version1 P step-0 ⇒ text (ascii "wrong 010 at end visited 5\n"))
-    ∷ (desk version1 P-guarded both-steps ⇒ text (ascii "wrong 010 at step 0 visited 5\n"))
+    ∷ (desk version1 P-guarded both-steps ⇒ text (ascii "wrong 010 at step 0 member 0 visited 5\n"))
     ∷ (desk version1 [] both-steps ⇒ text (ascii "refused problem 11 at 0\n"))
     ∷ (desk version1 P (hex "01 00000002 01 02") ⇒ text (ascii "refused plan 34 at 6\n"))
     -- its numbers of one, two and three digits
     ∷ (desk version1 P (hex "01 00000005 01 01 01 01 02") ⇒ text (ascii "refused plan 34 at 9\n"))
     ∷ (desk version1 nine no-step ⇒ text (ascii "right lines 10 visited 19\nno-start 0????????\nno-start 10???????\nno-start 110??????\nno-start 1110?????\nno-start 11110????\nno-start 111110???\nno-start 1111110??\nno-start 11111110?\nno-start 111111110\ncarries 111111111\n"))
     ∷ (desk version1 bushy no-step ⇒ text (ascii "right lines 52 visited 103\n" ++ (quarter "00" ++ (quarter "01" ++ (quarter "10" ++ quarter "11")))))
-    ∷ (desk version1 bushy (hex "01 0000000b 00 00 00 00 00 00 00 00 00 00 01") ⇒ text (ascii "wrong 111111 at step 10 visited 103\n"))
+    ∷ (desk version1 bushy (hex "01 0000000b 00 00 00 00 00 00 00 00 00 00 01") ⇒ text (ascii "wrong 111111 at step 10 member 0 visited 103\n"))
     -- the last refusal of a problem, the first of a plan, and a list that just fits or is too long
     ∷ (desk version1 (block1 (hex "01 00 0001 00 0001 00 00")) [] ⇒ text (ascii "refused problem 25 at 13\n"))
     ∷ (desk version1 P (replicate 262 0) ⇒ text (ascii "refused plan 30 at 261\n"))
@@ -367,3 +367,31 @@ DeskGrant =
     (visits (walked T) ≤ 1000000 →
     let v = found T (walked T) in
     deskText version1 problem plan ≡ verdictLine version1 (T .facts) (lineCount v) ++ verdictRest version1 (T .facts) v)
+
+-- four facts, and actions whose preconditions are: all of 0, 1, 2; any of 0, 1; fact 3; the empty "any"; all of 0, any of 1, 2, and 3;
+-- and none, of the action that sets fact 0
+abbrev guards : List ℕ
+guards =
+    block1
+    (hex "04 06 0002 80 00 0002 80 00 0005 80 03 00 01 02 00 0004 81 02 00 01 00 0001 03 00 0002 81 00 00" ++
+    hex "0008 80 03 00 81 02 01 02 03 00 0002 80 00 01 00 0002 80 00")
+
+abbrev blocks-at : ℕ → ℕ → Reply
+blocks-at i m = outcome (answered (blocked (record { step = i; member = m })))
+
+-- a block's member (document 02, W-201): the second and the third of an "all", the first of several, none; an "any", a literal, an
+-- empty "any"; an "any" in an "all"; in the state before a later step; and what judge and desk program make of it
+abbrev pub unmet-members : List Row
+unmet-members =
+    (run-state guards (block1 (0 ∷ [])) 0x800000000000 ⇒ blocks-at 0 1)
+    ∷ (run-state guards (block1 (0 ∷ [])) 0xc00000000000 ⇒ blocks-at 0 2)
+    ∷ (run-state guards (block1 (0 ∷ [])) 0 ⇒ blocks-at 0 0)
+    ∷ (run-state guards (block1 (0 ∷ [])) 0xe00000000000 ⇒ outcome (answered reached))
+    ∷ (run-state guards (block1 (1 ∷ [])) 0x300000000000 ⇒ blocks-at 0 0)
+    ∷ (run-state guards (block1 (2 ∷ [])) 0xe00000000000 ⇒ blocks-at 0 0)
+    ∷ (run-state guards (block1 (3 ∷ [])) 0xf00000000000 ⇒ blocks-at 0 0)
+    ∷ (run-state guards (block1 (4 ∷ [])) 0x900000000000 ⇒ blocks-at 0 1)
+    ∷ (run-state guards (block1 (5 ∷ 0 ∷ [])) 0x400000000000 ⇒ blocks-at 1 2)
+    ∷ (judge-with guards (block1 (5 ∷ 0 ∷ [])) grant ⇒ verdict (answered (wrong 0 (blocked (record { step = 1; member = 1 })) 5)))
+    ∷ (desk version1 guards (block1 (5 ∷ 0 ∷ [])) ⇒ text (ascii "wrong 0000 at step 1 member 1 visited 5\n"))
+    ∷ []

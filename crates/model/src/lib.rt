@@ -120,9 +120,10 @@ pub struct Refusal {
     pub number: u8,
 }
 
-// Where a run is blocked: the first step that is not applicable, from 0.
+// Where a run is blocked: the first step that is not applicable, from 0, and the first member of its precondition, from 0, that is false.
 pub struct Stop {
     pub step: usize,
+    pub member: usize,
 }
 
 // How a run ends.

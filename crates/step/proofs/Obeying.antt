@@ -1,9 +1,9 @@
 -- One action: it is obeyed in the lanes that go on. Assumes nothing.
 use mathlib.Core.Path.{_≡_, refl, sym, ap, _∙_, subst}
 use mathlib.Core.List.{List, _∷_}
-use Prim.Native.Nat.{ℕ, _≤_, _<_, min}
+use Prim.Native.Nat.{ℕ, _≤_, _<_, min, zero-le}
 use lib.ListN.{length}
-use lib.Bits.{bitAnd}
+use lib.Bits.{bitAnd, and-le-l}
 use Rattle.model.specs.Limits.{maxFacts}
 use Rattle.model.specs.Kleene.{Kleene, No, Unknown, Yes, isYes, three}
 use Rattle.model.specs.Formula.{eval}
@@ -42,6 +42,8 @@ module _ (problem : List ℕ) (p : ℕ) (c : List ℕ) (alive : ℕ) (r : Planes
   obeys-none w e =
       record {
         size = w;
+        among = zero-le;
+        kept = λ z. refl;
         is =
             λ facts a q h at case z t. (
               (λ j l. ap (laneBit j) (sym e) ∙ obeyed facts a q h at case t .0 j l),
@@ -49,10 +51,12 @@ module _ (problem : List ℕ) (p : ℕ) (c : List ℕ) (alive : ℕ) (r : Planes
             );
       }
 
-  pub obeys-some : (d : List ℕ) → AppliesEffects problem (r .next) c d → ObeysAction problem p c alive d (bitAnd alive (r .sure))
-  obeys-some d A =
+  pub obeys-some : (d : List ℕ) → (bitAnd alive (r .sure) ≡ 0 → ⊥) → AppliesEffects problem (r .next) c d → ObeysAction problem p c alive d (bitAnd alive (r .sure))
+  obeys-some d n A =
       record {
         size = A .size;
+        among = and-le-l alive (r .sure);
+        kept = λ z. absurd (n z);
         is =
             λ facts a q h at case z t.
             let (bits, v) = obeyed facts a q h at case t in

@@ -15,9 +15,11 @@ abbrev pub flag : Bool → ℕ
 flag true = 1
 flag false = 0
 
--- the lanes r of `alive` in which the action is applicable; where there are some, d is the table after it
+-- the lanes r of `alive` in which the action is applicable; where there are some, d is the table after it, and otherwise that before it
 pub record ObeysAction (problem : List ℕ) (at : ℕ) (c : List ℕ) (alive : ℕ) (d : List ℕ) (r : ℕ) : Type 0 where
   pub size : length d ≡ 256
+  pub among : r ≤ alive
+  pub kept : r ≡ 0 → d ≡ c
   pub is :
       (facts : ℕ) (a : Action) (q : ℕ) → facts ≤ maxFacts → ActionAt problem facts at a q → (case : ℕ → List Kleene) → Sized facts case → Table c case →
       ((j : ℕ) → j < 64 → laneBit j r ≡ min (laneBit j alive) (flag (applicable three a (case j)))) ×

@@ -5,9 +5,10 @@ use Prim.Native.Nat.{ℕ, zero, suc, _+_, _<_}
 use lib.ListN.{length, set}
 use Rattle.model.specs.Text.{ascii}
 use Rattle.model.specs.declared.Limits.{Limits}
-use Rattle.model.specs.DeskText.{marks, wrongLine, kindText, lineText, sentence}
+use Rattle.model.specs.DeskText.{decimal, marks, wrongLine, kindText, lineText, sentence}
 use Rattle.model.specs.Answers.{outcome}
 use Rattle.model.specs.declared.Outcome.{Outcome}
+use Rattle.model.specs.declared.Stop.{Stop}
 use Rattle.model.specs.declared.Outcome.the-variants.{Reached, Missed, Blocked}
 use Rattle.lines.specs.declared.form.Line as lines
 use Rattle.lines.specs.Lines.{Reads, lineNumber}
@@ -22,7 +23,7 @@ kind-carries (suc d) e = refl
 abbrev ended : Outcome → ℕ → List ℕ
 ended Reached v = filled (ascii " at end visited A\n") v 0
 ended Missed v = filled (ascii " at end visited A\n") v 0
-ended (Blocked t) v = filled (ascii " at step A visited B\n") (t .step) v
+ended (Blocked t) v = filled (ascii " at step A member ") (t .step) 0 ++ filled (ascii "A visited B\n") (t .member) v
 
 pub wrong-put :
     (F : Limits) (n s v : ℕ) (o o′ : Outcome) {a b c d : List ℕ} {p q r : ℕ} → o ≡ o′ → Put a 0 (ascii "wrong ") p b →
@@ -30,7 +31,13 @@ pub wrong-put :
 unfolding ascii filled shown wrongLine sentence
 wrong-put F n s v o Reached e x y z = rw e (x then y then z)
 wrong-put F n s v o Missed e x y z = rw e (x then y then z)
-wrong-put F n s v o (Blocked t) e x y z = rw e (x then y then z)
+wrong-put F n s v o (Blocked t) e x y z = rw e (x then y then put-as (append-assoc (ascii " at step " ++ decimal (t .step)) (ascii " member ") _) z)
+
+pub blocked-put :
+    (F : Limits) (n s v : ℕ) (o : Outcome) (t : Stop) {a b c d e : List ℕ} {p q w r : ℕ} → o ≡ Blocked t → Put a 0 (ascii "wrong ") p b →
+    Put b p (marks (F .width) n n s) q c → Put c q (filled (ascii " at step A member ") (t .step) 0) w d →
+    Put d w (filled (ascii "A visited B\n") (t .member) v) r e → Put a 0 (wrongLine F n s (outcome o) v) r e
+blocked-put F n s v o t i x y z u = wrong-put F n s v o (Blocked t) i x y (z then u)
 
 -- a line of a list, from what was read
 pub line-put :

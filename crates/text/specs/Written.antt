@@ -6,9 +6,9 @@ use Rattle.model.specs.Answer.{Answer, refused, answered}
 use Rattle.model.specs.Walk.{Verdict}
 use Rattle.model.specs.DeskText.{refusalLine, verdictLine}
 
--- any line of any version has room here: a state of 64 facts takes 6 + 64 bytes, and the longest of what follows it 59
+-- any line of any version has room here: a state of 64 facts takes 6 + 64 bytes, and the longest of what follows it 87
 abbrev pub lineRoom : ℕ
-lineRoom = 160
+lineRoom = 180
 
 -- the first line, by the judge's answer: the refusal, or the verdict over n facts
 abbrev pub firstOf : Limits → ℕ → Answer (Verdict ℕ) → List ℕ

@@ -29,7 +29,7 @@ fn put_refusal(out: &mut [u8], refusal: Refusal) -> usize
     put_form(out, 0, b"refused plan A at B\n", number, refusal.place)
 }
 
-// A state's values, and where its run went wrong: at its end, or at the step that was blocked.
+// A state's values, and where its run went wrong: at its end, or at the step that was blocked, and the member that is false there.
 fn put_wrong(
     out: &mut [u8],
     limits: Limits,
@@ -47,7 +47,10 @@ fn put_wrong(
         Outcome::Reached => put_form(out, q, b" at end visited A\n", visits, 0),
         Outcome::Missed => put_form(out, q, b" at end visited A\n", visits, 0),
         Outcome::Blocked(stop) => {
-            put_form(out, q, b" at step A visited B\n", stop.step as u64, visits)
+            let step = stop.step as u64;
+            let member = stop.member as u64;
+            let w = put_form(out, q, b" at step A member ", step, 0);
+            put_form(out, w, b"A visited B\n", member, visits)
         }
     }
 }

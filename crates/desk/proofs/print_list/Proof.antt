@@ -9,7 +9,7 @@ use Rattle.desk.proofs.print_list.Statement.{statement}
 use Rattle.desk.proofs.print_list.Tie as tie
 
 abbrev Inv-loop : tie.InvT-loop
-Inv-loop limits facts list count line₀ i₀ line i = (i ≤ count) × (length line ≡ 160)
+Inv-loop limits facts list count line₀ i₀ line i = (i ≤ count) × (length line ≡ 180)
 
 abbrev μ-loop : tie.MeasureT-loop
 μ-loop limits facts list count line₀ i₀ line i = count - i

@@ -13,7 +13,7 @@ use lib.Pow.{pow-pos}
 use Rattle.model.specs.Kleene.{two}
 use Rattle.model.specs.Formula.{Formula, eval}
 use Rattle.model.specs.Action.{Action, tabulate, applicable, next, step}
-use Rattle.model.specs.Run.{Outcome, reached, missed, blocked, atEnd, goesOn, run}
+use Rattle.model.specs.Run.{unmet, Stop, Outcome, reached, missed, blocked, atEnd, goesOn, run}
 use Rattle.model.specs.Case.{bit, stateOf, Task, runOf, initially, IsState, Right}
 use Rattle.model.specs.Belief.{Belief, Entails, ApplicableIn, only, Image, after, Applicable, Solution, initialBelief, Blocks, OutcomeMeans}
 use Rattle.model.proofs.Laws.Tabulate.{length-tabulate, getD-tabulate}
@@ -64,13 +64,14 @@ module _ (n : ℕ) (goal : Formula) where
   abbrev MeansFrom : Belief → List Action → ℕ → Outcome → Type 0
   MeansFrom B plan i reached = Solution n B goal plan
   MeansFrom B plan i missed = Applicable n B plan × (Entails (after n B plan) goal → ⊥)
-  MeansFrom B plan i (blocked p) = (i ≤ p .step) × Blocks n B plan (p .step - i)
+  MeansFrom B plan i (blocked p) = (i ≤ p .step) × Blocks n B plan (record { step = p .step - i; member = p .member })
 
   blocks :
-      (B : Belief) (before : List Action) (a : Action) (rest : List Action) (j : ℕ) → length before ≡ j → Applicable n B before →
-      (ApplicableIn (after n B before) a → ⊥) → Blocks n B (before ++ (a ∷ rest)) j
-  blocks B before a rest j e ok stop =
-      record { before = before; action = a; rest = rest; parts = refl; at = e; applicable = ok; not-applicable = stop }
+      (B : Belief) (before : List Action) (a : Action) (rest : List Action) (p : Stop) → length before ≡ p .step → Applicable n B before →
+      (ApplicableIn (after n B before) a → ⊥) → ((t : List Bool) → after n B before t → unmet two t (a .precondition) ≡ p .member) →
+      Blocks n B (before ++ (a ∷ rest)) p
+  blocks B before a rest p e ok stop m =
+      record { before = before; action = a; rest = rest; parts = refl; at = e; applicable = ok; not-applicable = stop; member = m }
 
   run-means : (plan : List Action) (i : ℕ) (B : Belief) (s : List Bool) → Alone B s → MeansFrom B plan i (run two n goal plan i s)
   unfolding run goesOn applicable
@@ -85,16 +86,19 @@ module _ (n : ℕ) (goal : Formula) where
     where
       by-test :
           (b : Bool) → applicable two a s ≡ b → (o : Outcome) → MeansFrom (Image n a B) plan (suc i) o →
-          MeansFrom B (a ∷ plan) i (goesOn b o (record { step = i }))
+          MeansFrom B (a ∷ plan) i (goesOn b o (record { step = i; member = unmet two s (a .precondition) }))
       by-test true e reached m = ((entails-alone B s h (a .precondition) .1 e, m .0), m .1)
       by-test true e missed m = ((entails-alone B s h (a .precondition) .1 e, m .0), m .1)
       by-test true e (blocked p) (l, b) =
           let ok : Applicable n B (a ∷ b .before) = (entails-alone B s h (a .precondition) .1 e, b .applicable) in (
             omega arith,
-            rw (b .parts) (blocks B (a ∷ b .before) (b .action) (b .rest) (p .step - i) (omega (arith, b .at)) ok (b .not-applicable)),
+            rw (b .parts) (blocks B (a ∷ b .before) (b .action) (b .rest) _ (omega (arith, b .at)) ok (b .not-applicable) (b .member)),
           )
-      by-test false e o m =
-          (omega arith, blocks B [] a plan (i - i) (omega arith) tt (λ g. false≢true (sym e ∙ entails-alone B s h (a .precondition) .0 g)))
+      by-test false e o m = (
+        omega arith,
+        blocks B [] a plan _ (omega arith) tt (λ g. false≢true (sym e ∙ entails-alone B s h (a .precondition) .0 g))
+            (λ t m. ap (λ (v : List Bool). unmet two v (a .precondition)) (h .1 t m)),
+      )
 
   -- a plan whose actions are applicable runs to its end
   runs-on :
@@ -120,12 +124,14 @@ module _ (n : ℕ) (goal : Formula) where
         ap atEnd (not-eq-not {a = eval two t goal} {b = false} .0 (λ e. m .1 (entails-alone (after n (only s) plan) t l goal .1 e)))),
   )
   outcome-means plan s (blocked p) = (
-    (λ e. subst (Blocks n (only s) plan) (omega arith) ((rw e at (run-means plan 0 (only s) s (only-alone s))) .1)),
+    (λ e. subst (λ j. Blocks n (only s) plan (record { step = j; member = p .member })) (omega arith) ((rw e at (run-means plan 0 (only s) s (only-alone s))) .1)),
     λ b.
         let φ = b .action .precondition in
         rw (b .parts)
         (runs-on (b .before) (b .action ∷ b .rest) 0 (p .step) (only s) s (omega (arith, b .at)) (only-alone s) (b .applicable)
-        (blocked p) λ t l. rw (not-eq-not {a = eval two t φ} {b = false} .0 (λ e. b .not-applicable (entails-alone _ t l φ .1 e)))),
+        (blocked p) λ t l.
+        rw (not-eq-not {a = eval two t φ} {b = false} .0 (λ e. b .not-applicable (entails-alone _ t l φ .1 e)))
+        (ap (λ m. blocked (record { step = p .step; member = m })) (b .member t (l .0)))),
   )
 
 -- ---- the number of a state

@@ -19,8 +19,9 @@ obey-action-requires c κs = let i = c .before .before .before .before .before .
     (i .0 .size, i .1, i .2)
 
 returns : tie.Need-returns Inv-loop μ-loop
-returns c = let w = c .before .before .before .before .before .before in
-    stating-blocked _ _ _ _ _ _ _ (w .before .before .before .loop .inv .0) (omega arith) _ (w .wide .ensures .0) _ _ (c .before .obey-action .ensures .0) (c .if1 .taken) _ refl
+returns c = let b = c .before .before .before in
+    let w = b .before .before .before .before .before .before in
+    stating-blocked _ _ _ _ _ _ _ (w .before .before .before .loop .inv .0) (omega arith) _ (w .wide .ensures .0) _ _ (b .before .obey-action .ensures .0) (b .if1 .taken) _ (c .unmet-member .ensures) _ refl
 
 loop-again : tie.Need-loop-again Inv-loop μ-loop
 loop-again c = let w = c .before .before .before .before .before .before in
@@ -39,6 +40,9 @@ run-state-spec =
     (λ c. search needs)
     (λ c. search needs)
     obey-action-requires
+    (λ c. search needs)
+    (λ c. search needs)
+    (λ c κs. search needs)
     returns
     (λ c. search needs)
     (λ c. search needs)

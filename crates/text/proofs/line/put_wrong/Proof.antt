@@ -2,7 +2,7 @@
 use borrow.Author.Needs.{needs}
 use Rattle.model.specs.Text.{ascii}
 use Rattle.forms.specs.Written.{filled, shown}
-use Rattle.text.proofs.Puts.{wrong-put}
+use Rattle.text.proofs.Puts.{wrong-put, blocked-put}
 use Rattle.text.proofs.line.put_wrong.Statement.{statement}
 use Rattle.text.proofs.line.put_wrong.Tie as tie
 
@@ -24,8 +24,10 @@ put-wrong-spec =
     (λ c. search needs)
     (λ c κs. search needs)
     (λ c. search needs)
-    (λ c. search (wrong-put, needs))
+    (λ c κs. search needs)
     (λ c. search needs)
     (λ c. search (wrong-put, needs))
     (λ c. search needs)
-    (λ c. search (wrong-put, needs)))
+    (λ c. search (wrong-put, needs))
+    (λ c. search needs)
+    (λ c. search (blocked-put, needs)))
