@@ -1,12 +1,14 @@
 //! What is measured beside the library says what the library says.
 
+use std::collections::BTreeSet;
+
 use bench::plain;
 use bench::problems;
 use bench::sat::{self, Cnf, Lit};
 use conformance::gen::{damaged_case, sound_case, Rng};
 use conformance::oracle;
 use conformance::version::VERSION_1;
-use larkhammock::{Outcome, Verdict};
+use larkhammock::{Outcome, Part, Verdict};
 
 type Judge = fn(&[u8], &[u8], u64) -> plain::Verdict;
 
@@ -34,36 +36,53 @@ fn library(problem: &[u8], plan: &[u8], grant: u64) -> plain::Verdict {
             outcome: match outcome {
                 Outcome::Reached => plain::Outcome::Reached,
                 Outcome::Missed => plain::Outcome::Missed,
-                Outcome::Blocked { step } => plain::Outcome::Blocked(step as usize),
+                Outcome::Blocked {
+                    step,
+                    part: Part::Member(member),
+                } => plain::Outcome::Blocked {
+                    step: step as usize,
+                    member: member as usize,
+                },
             },
             visits,
         },
     }
 }
 
-/// Holds each judge in plain Rust to the library.
-fn agree(problem: &[u8], plan: &[u8], grant: u64, what: &str) {
+/// Holds each judge in plain Rust to the library; the member that their verdict
+/// names, where it tells of a block.
+fn agree(problem: &[u8], plan: &[u8], grant: u64, what: &str) -> Option<usize> {
     let verdict = library(problem, plan, grant);
     for (name, judge) in JUDGES {
         assert_eq!(judge(problem, plan, grant), verdict, "{name}, {what}");
+    }
+    match verdict {
+        plain::Verdict::Wrong {
+            outcome: plain::Outcome::Blocked { member, .. },
+            ..
+        } => Some(member),
+        _ => None,
     }
 }
 
 #[test]
 fn plain_judges_judge_and_refuse_alike() {
     let mut rng = Rng::new(0xbe7c);
+    let mut members = BTreeSet::new();
     for round in 0..20_000 {
         let case = match round % 2 {
             0 => sound_case(&mut rng, &VERSION_1),
             _ => damaged_case(&mut rng, &VERSION_1),
         };
         for grant in [case.grant.min(2_000), 2_000] {
-            agree(&case.problem, &case.plan, grant, &format!("round {round}"));
+            let what = format!("round {round}");
+            members.extend(agree(&case.problem, &case.plan, grant, &what));
         }
     }
     for measured in problems::for_solvers() {
         agree(&measured.problem, &measured.plan, 1 << 16, &measured.name);
     }
+    assert!((0..4).all(|m| members.contains(&m)), "members {members:?}");
 }
 
 /// Whether the clauses hold once the start facts have these values: every other

@@ -2,7 +2,7 @@
 //! row does not name are 0.
 
 use crate::model::Problem;
-use crate::oracle::{Outcome, Refusal, Verdict};
+use crate::oracle::{Outcome, Part, Refusal, Verdict};
 
 pub type Answer = [u64; 8];
 
@@ -49,17 +49,27 @@ pub fn judge(result: &Result<Verdict, Refusal>) -> Answer {
             outcome,
             visits,
         }) => {
-            let [tag, step] = outcome_words(outcome);
-            words(&[2, *visits, *state, tag, step])
+            let [tag, step, part, number] = outcome_words(outcome);
+            words(&[2, *visits, *state, tag, step, part, number])
         }
         Ok(Verdict::Undecided { visits }) => words(&[3, *visits]),
     }
 }
 
-fn outcome_words(outcome: &Outcome) -> [u64; 2] {
+/// The tag, and a block's step, part and number.
+fn outcome_words(outcome: &Outcome) -> [u64; 4] {
     match outcome {
-        Outcome::Reached => [1, 0],
-        Outcome::Missed => [2, 0],
-        Outcome::Blocked { step } => [3, *step],
+        Outcome::Reached => [1, 0, 0, 0],
+        Outcome::Missed => [2, 0, 0, 0],
+        Outcome::Blocked { step, part } => {
+            let [part, number] = part_words(part);
+            [3, *step, part, number]
+        }
+    }
+}
+
+fn part_words(part: &Part) -> [u64; 2] {
+    match part {
+        Part::Member(member) => [0, *member],
     }
 }

@@ -3,7 +3,7 @@
 use std::iter::repeat_n;
 
 use crate::model::{Line, Problem};
-use crate::oracle::{self, Outcome, Refusal, Task, Verdict};
+use crate::oracle::{self, Outcome, Part, Refusal, Task, Verdict};
 
 /// The desk program's grant is fixed.
 pub const GRANT: u64 = 1_000_000;
@@ -37,7 +37,7 @@ fn lines(problem: &[u8], plan: &[u8]) -> Vec<String> {
         } => {
             let state = marks(tree, state, tree.facts);
             let end = match outcome {
-                Outcome::Blocked { step } => format!("step {step}"),
+                Outcome::Blocked { step, part } => format!("step {step} {}", unmet(part)),
                 Outcome::Missed => "end".into(),
                 Outcome::Reached => unreachable!("a failing state does not reach the goal"),
             };
@@ -53,6 +53,12 @@ fn lines(problem: &[u8], plan: &[u8]) -> Vec<String> {
             }
             text
         }
+    }
+}
+
+fn unmet(part: Part) -> String {
+    match part {
+        Part::Member(member) => format!("member {member}"),
     }
 }
 

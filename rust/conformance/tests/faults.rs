@@ -6,7 +6,7 @@ use conformance::answer::{words, Answer};
 use conformance::encode;
 use conformance::gen::{case_of_round, sound_case, Rng};
 use conformance::harness::{check, expected, Arena, Case, Operation, Subject};
-use conformance::model::Formula;
+use conformance::model::{Formula, Kind};
 use conformance::oracle::{self, holds};
 use conformance::trial;
 use conformance::version::{HEADER, VERSION_1};
@@ -145,6 +145,9 @@ enum Fault {
     OnlyStep0IsObeyed,
     EffectsStoredOneByOne,
     ClearWinsOverSet,
+    MemberIsAlways0,
+    MemberReadAtTheStart,
+    LastFalseMember,
     AllPlansWrong,
     AlwaysTheSameState,
     VisitsMadeUp,
@@ -160,7 +163,7 @@ enum Fault {
     EmptyCarriesToo,
 }
 
-const WRONG_IDEAS: [Fault; 20] = [
+const WRONG_IDEAS: [Fault; 23] = [
     Fault::NoProblemIsSound,
     Fault::NoPlanIsSound,
     Fault::RunIsNeverMissed,
@@ -168,6 +171,9 @@ const WRONG_IDEAS: [Fault; 20] = [
     Fault::OnlyStep0IsObeyed,
     Fault::EffectsStoredOneByOne,
     Fault::ClearWinsOverSet,
+    Fault::MemberIsAlways0,
+    Fault::MemberReadAtTheStart,
+    Fault::LastFalseMember,
     Fault::AllPlansWrong,
     Fault::AlwaysTheSameState,
     Fault::VisitsMadeUp,
@@ -230,6 +236,24 @@ impl Subject for Fault {
                 }
                 reached(holds(&problem.goal, &now))
             }
+            (Fault::MemberIsAlways0, 3) => words(&[3, answer[1]]),
+            (Fault::MemberReadAtTheStart, 3) => {
+                let at = HEADER + answer[1] as usize;
+                let alone = Oracle.run(problem, &encode::plan(&plan[at..=at]), state);
+                words(&[3, answer[1], alone[2], alone[3]])
+            }
+            (Fault::LastFalseMember, 3) => {
+                let mut problem = oracle::read_problem(problem).expect("it is sound");
+                let action = plan[HEADER + answer[1] as usize];
+                let precondition = &mut problem.actions[usize::from(action)].precondition;
+                let Formula::Group(Kind::All, members) = precondition else {
+                    return answer;
+                };
+                members.reverse();
+                let last = members.len() as u64 - 1;
+                let turned = Oracle.run(&encode::problem(&problem), plan, state);
+                words(&[3, answer[1], 0, last - turned[3]])
+            }
             _ => answer,
         }
     }
@@ -238,15 +262,15 @@ impl Subject for Fault {
         let answer = Oracle.judge(problem, plan, grant);
         match (self, answer) {
             (Fault::AllPlansWrong, [1, visits, ..]) => words(&[2, visits, 0, 2]),
-            (Fault::AlwaysTheSameState, [2, visits, _, outcome, step, ..]) => {
-                words(&[2, visits, VERSION_1.bit(0), outcome, step])
+            (Fault::AlwaysTheSameState, [2, visits, _, outcome @ ..]) => {
+                words(&[&[2, visits, VERSION_1.bit(0)], &outcome[..]].concat())
             }
             (Fault::VisitsMadeUp, [1, visits, lines, ..]) => words(&[1, visits + lines - 1, lines]),
             (Fault::FailingStateNeedNotBeAStart, [2, ..]) => {
                 let mut anywhere = oracle::read_problem(problem).expect("it is sound");
                 anywhere.initial = Formula::always();
                 let other = Oracle.judge(&encode::problem(&anywhere), plan, grant);
-                words(&[2, answer[1], other[2], other[3], other[4]])
+                words(&[&[2, answer[1]], &other[2..]].concat())
             }
             (Fault::FirstCompletionDecides, [2, _, state, ..]) if state != 0 => words(&[1, 1, 1]),
             (Fault::GrantMustExceedVisits, [1 | 2, visits, ..]) if visits == grant => {

@@ -4,6 +4,7 @@ mod support;
 
 use std::collections::BTreeSet;
 
+use conformance::answer::Answer;
 use conformance::gen::{arbitrary_case, case_of_round, damaged_case, sound_case, wide_case, Rng};
 use conformance::harness::{check_all, Case, Operation};
 use conformance::oracle;
@@ -19,16 +20,29 @@ const SWEEPS: [(u64, usize, Maker); 4] = [
     (0x1a54, 12, wide_case),
 ];
 
+/// Runs and judges are blocked at each of an "all"'s first so many members.
+const MEMBERS: u64 = 4;
+
 /// Every number that a call can be refused with.
 fn every_refusal() -> BTreeSet<u64> {
     let ranges = [10..=25, 30..=34, 40..=40, 50..=53, 60..=70];
     ranges.into_iter().flatten().collect()
 }
 
+/// The member that an answer names, where it tells of a block.
+fn member(operation: Operation, answer: &Answer) -> Option<u64> {
+    match (operation, answer) {
+        (Operation::Run, [3, _, 0, member, ..]) => Some(*member),
+        (Operation::Judge, [2, _, _, 3, _, 0, member, _]) => Some(*member),
+        _ => None,
+    }
+}
+
 #[test]
 fn every_operation_answers_as_the_oracle_and_every_refusal_is_met() {
     let mut refusals = BTreeSet::new();
     let mut tags = BTreeSet::new();
+    let mut members = BTreeSet::new();
     for (seed, count, make) in SWEEPS {
         let mut rng = Rng::new(seed);
         for round in 0..count {
@@ -38,6 +52,7 @@ fn every_operation_answers_as_the_oracle_and_every_refusal_is_met() {
                 Err(difference) => panic!("seed {seed:x}, round {round}: {difference:?}"),
             };
             for (operation, answer) in Operation::ALL.into_iter().zip(answers) {
+                members.extend(member(operation, &answer).map(|m| (operation as u8, m)));
                 match answer {
                     [0, number, ..] => {
                         refusals.insert(number);
@@ -69,6 +84,10 @@ fn every_operation_answers_as_the_oracle_and_every_refusal_is_met() {
         (Operation::FollowList as u8, 1, 0),
     ];
     assert_eq!(tags, every_tag.into());
+    for member in 0..MEMBERS {
+        assert!(members.contains(&(run, member)), "run, member {member}");
+        assert!(members.contains(&(judge, member)), "judge, member {member}");
+    }
 }
 
 fn refusal(refusal: oracle::Refusal) -> larkhammock::Refusal {
@@ -82,7 +101,16 @@ fn outcome(outcome: oracle::Outcome) -> larkhammock::Outcome {
     match outcome {
         oracle::Outcome::Reached => larkhammock::Outcome::Reached,
         oracle::Outcome::Missed => larkhammock::Outcome::Missed,
-        oracle::Outcome::Blocked { step } => larkhammock::Outcome::Blocked { step },
+        oracle::Outcome::Blocked { step, part: unmet } => larkhammock::Outcome::Blocked {
+            step,
+            part: part(unmet),
+        },
+    }
+}
+
+fn part(part: oracle::Part) -> larkhammock::Part {
+    match part {
+        oracle::Part::Member(member) => larkhammock::Part::Member(member),
     }
 }
 

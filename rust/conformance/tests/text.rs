@@ -11,7 +11,7 @@ use conformance::desk::{printed, GRANT};
 use conformance::examples;
 use conformance::trial;
 use conformance::version::VERSION_1;
-use larkhammock::{Lines, Outcome, Refusal, Verdict, LONGEST_LIST};
+use larkhammock::{Lines, Outcome, Part, Refusal, Verdict, LONGEST_LIST};
 
 /// The text as a desk over the real library would print it.
 fn by_library(problem: &[u8], plan: &[u8]) -> Result<String, Refusal> {
@@ -29,8 +29,9 @@ fn by_library(problem: &[u8], plan: &[u8]) -> Result<String, Refusal> {
         } => {
             let state = bits(state, facts);
             match outcome {
-                Outcome::Blocked { step } => {
-                    format!("wrong {state} at step {step} visited {visits}\n")
+                Outcome::Blocked { step, part } => {
+                    let Part::Member(member) = part;
+                    format!("wrong {state} at step {step} member {member} visited {visits}\n")
                 }
                 outcome => {
                     assert_eq!(outcome, Outcome::Missed);

@@ -109,11 +109,17 @@ fn small_grants_leave_it_undecided() {
 }
 
 #[test]
-fn a_precondition_blocks_at_step_0() {
+fn a_precondition_blocks_at_step_0_member_0() {
     let mut problem = p_tree();
     problem.actions[0].precondition = Formula::fact(0);
-    expect(Judge, &with_problem(&problem, &[0, 1]), &[2, 5, S010, 3, 0]);
-    expect(Judge, &with_problem(&problem, &[1, 0]), &[2, 5, S010, 3, 1]);
+    for (steps, step) in [([0, 1], 0), ([1, 0], 1)] {
+        let case = Case {
+            state: S010,
+            ..with_problem(&problem, &steps)
+        };
+        expect(Judge, &case, &[2, 5, S010, 3, step, 0, 0]);
+        expect(Run, &case, &[3, step, 0, 0]);
+    }
 }
 
 #[test]

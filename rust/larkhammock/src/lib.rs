@@ -70,7 +70,17 @@ pub enum Outcome {
     Blocked {
         /// The first such step, from 0.
         step: u64,
+        /// What of its precondition was not true.
+        part: Part,
     },
+}
+
+/// The part of a precondition that blocks a step.
+#[derive(Clone, Copy, Debug, PartialEq, Eq, Hash)]
+pub enum Part {
+    /// Where the precondition is an "all", the first of its members, from 0,
+    /// that is false in the state before the step. Otherwise 0.
+    Member(u64),
 }
 
 /// What the judge says of a plan.
@@ -140,7 +150,7 @@ pub fn read_plan(problem: &[u8], plan: &[u8]) -> Result<u64, Refusal> {
 /// ```
 pub fn run(problem: &[u8], plan: &[u8], state: u64) -> Result<Outcome, Refusal> {
     let word = decided(raw::run(problem, plan, state))?;
-    Ok(outcome(&word, word[0], word[1]))
+    Ok(outcome(&word, 0))
 }
 
 /// Judges a plan, looking at no more cases than granted.
@@ -161,7 +171,7 @@ pub fn judge(problem: &[u8], plan: &[u8], grant: u64) -> Result<Verdict, Refusal
         },
         2 => Verdict::Wrong {
             state: word[2],
-            outcome: outcome(&word, word[3], word[4]),
+            outcome: outcome(&word, 3),
             visits,
         },
         3 => Verdict::Undecided { visits },
@@ -225,15 +235,41 @@ fn accepted(answer: raw::Answer) -> Result<[u64; 8], Refusal> {
     }
 }
 
-fn outcome(word: &[u64; 8], tag: u64, step: u64) -> Outcome {
-    match tag {
-        1 => Outcome::Reached,
-        2 => Outcome::Missed,
-        3 => Outcome::Blocked { step },
+/// The outcome whose tag is the word at `at`. A block's step, part and number
+/// come after it.
+fn outcome(word: &[u64; 8], at: usize) -> Outcome {
+    match word[at..] {
+        [1, ..] => Outcome::Reached,
+        [2, ..] => Outcome::Missed,
+        [3, step, 0, number, ..] => Outcome::Blocked {
+            step,
+            part: Part::Member(number),
+        },
         _ => broken(word),
     }
 }
 
 fn broken(word: &[u64; 8]) -> ! {
     panic!("the library's answer is none that its interface names: {word:?}")
+}
+
+#[cfg(test)]
+mod tests {
+    use super::*;
+
+    #[test]
+    fn a_block_has_its_step_and_member() {
+        let blocked = Outcome::Blocked {
+            step: 14,
+            part: Part::Member(2),
+        };
+        assert_eq!(outcome(&[3, 14, 0, 2, 0, 0, 0, 0], 0), blocked);
+        assert_eq!(outcome(&[2, 5, 0, 3, 14, 0, 2, 0], 3), blocked);
+    }
+
+    #[test]
+    #[should_panic(expected = "none that its interface names")]
+    fn a_part_of_no_known_kind_is_no_answer() {
+        outcome(&[3, 14, u64::MAX, 2, 0, 0, 0, 0], 0);
+    }
 }

@@ -70,7 +70,7 @@ pub fn read_plan(problem: &[u8], plan: &[u8]) -> Answer {
     unsafe { larkhammock_read_plan(problem.as_ptr(), problem.len(), plan.as_ptr(), plan.len()) }
 }
 
-/// Tag 1 reached, 2 missed, 3 blocked: step.
+/// Tag 1 reached, 2 missed, 3 blocked: step, part, its number.
 pub fn run(problem: &[u8], plan: &[u8], state: u64) -> Answer {
     unsafe {
         larkhammock_run(
@@ -83,8 +83,8 @@ pub fn run(problem: &[u8], plan: &[u8], state: u64) -> Answer {
     }
 }
 
-/// Tag 1 right: visits, lines. Tag 2 wrong: visits, state, outcome, step. Tag 3
-/// undecided: visits.
+/// Tag 1 right: visits, lines. Tag 2 wrong: visits, state, outcome, step, part,
+/// its number. Tag 3 undecided: visits.
 pub fn judge(problem: &[u8], plan: &[u8], grant: u64) -> Answer {
     unsafe {
         larkhammock_judge(

@@ -12,7 +12,12 @@ use read::Refusal;
 pub enum Outcome {
     Reached,
     Missed,
-    Blocked(usize),
+    /// The step, and the first false member of its precondition if that is an
+    /// "all", or else 0.
+    Blocked {
+        step: usize,
+        member: usize,
+    },
 }
 
 #[derive(Clone, Copy, Debug, PartialEq, Eq)]

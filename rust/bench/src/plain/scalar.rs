@@ -49,7 +49,7 @@ fn verdict(task: &Task, grant: u64) -> Verdict {
         End::Spent => Verdict::Undecided { visits },
         End::Failing(state) => Verdict::Wrong {
             state,
-            outcome: run(task, &of_state(state)),
+            outcome: outcome(task, state),
             visits,
         },
         End::Covered => Verdict::Right {
@@ -98,26 +98,52 @@ fn look(task: &Task, values: &Values) -> Look {
     if formula(task.bytes, task.initial, values) == 0 {
         return Look::Empty;
     }
-    match run(task, values) {
-        Outcome::Reached => Look::Carries,
+    match run(task, &mut values.clone()) {
+        Ok(2) => Look::Carries,
         _ => Look::Open,
     }
 }
 
-fn run(task: &Task, start: &Values) -> Outcome {
-    let mut values = *start;
+/// How the plan ends from a state.
+fn outcome(task: &Task, state: u64) -> Outcome {
+    let mut values = of_state(state);
+    match run(task, &mut values) {
+        Ok(2) => Outcome::Reached,
+        Ok(_) => Outcome::Missed,
+        Err(step) => {
+            let action = task.actions[usize::from(task.steps[step])];
+            let member = unmet(task.bytes, action, &values);
+            Outcome::Blocked { step, member }
+        }
+    }
+}
+
+/// The goal's value at the end; or the first step that is not surely applicable,
+/// with the values before it left in `values`.
+fn run(task: &Task, values: &mut Values) -> Result<u8, usize> {
     for (i, step) in task.steps.iter().enumerate() {
         let action = task.actions[usize::from(*step)];
-        let (applicable, effects) = condition(task.bytes, action, &values);
+        let (applicable, effects) = condition(task.bytes, action, values);
         if applicable != 2 {
-            return Outcome::Blocked(i);
+            return Err(i);
         }
-        apply(task.bytes, effects, &mut values);
+        apply(task.bytes, effects, values);
     }
-    match formula(task.bytes, task.goal, &values) {
-        2 => Outcome::Reached,
-        _ => Outcome::Missed,
+    Ok(formula(task.bytes, task.goal, values))
+}
+
+/// The first member that is no, of an "all" at `at`; 0 of any other formula.
+fn unmet(bytes: &[u8], at: usize, values: &Values) -> usize {
+    if bytes[at + 2] != ALL {
+        return 0;
     }
+    let mut next = at + 4;
+    let mut members = (0..bytes[at + 3]).map(|_| {
+        let (value, after) = member::<ALL>(bytes, next, values);
+        next = after;
+        value
+    });
+    members.position(|value| value == 0).unwrap_or(0)
 }
 
 /// Applies the effects whose count stands at `at`: a fact is set, or it was true

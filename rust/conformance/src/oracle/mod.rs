@@ -1,4 +1,4 @@
-//! The brute-force checker, written from document 01 alone.
+//! The brute-force checker, written from documents 01 and 02 alone.
 //!
 //! It has no limit on its time or memory other than its callers' good sense:
 //! the walk is as long as the grant lets it be.
@@ -34,7 +34,14 @@ impl Refusal {
 pub enum Outcome {
     Reached,
     Missed,
-    Blocked { step: u64 },
+    Blocked { step: u64, part: Part },
+}
+
+/// What of a precondition is not true.
+#[derive(Clone, Copy, Debug, PartialEq, Eq)]
+pub enum Part {
+    /// The first false member of an "all"; 0 of any other formula.
+    Member(u64),
 }
 
 #[derive(Clone, Copy, Debug, PartialEq, Eq)]

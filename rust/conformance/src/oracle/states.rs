@@ -1,6 +1,6 @@
 //! Two values: one state at a time, and all of them in turn.
 
-use super::{Outcome, Task};
+use super::{Outcome, Part, Task};
 use crate::model::{Action, Formula, Kind};
 
 pub fn holds(formula: &Formula, state: &[bool]) -> bool {
@@ -30,12 +30,26 @@ pub fn after(action: &Action, before: &[bool]) -> Vec<bool> {
         .collect()
 }
 
+/// The part that is named of a precondition which does not hold.
+fn unmet(precondition: &Formula, state: &[bool]) -> Part {
+    let member = match precondition {
+        Formula::Group(Kind::All, members) => members
+            .iter()
+            .position(|m| !holds(m, state))
+            .expect("an \"all\" is false by a member"),
+        _ => 0,
+    };
+    Part::Member(member as u64)
+}
+
 pub fn outcome(task: &Task, start: &[bool]) -> Outcome {
     let mut state = start.to_vec();
     for (step, action) in task.steps().enumerate() {
         if !holds(&action.precondition, &state) {
-            let step = step as u64;
-            return Outcome::Blocked { step };
+            return Outcome::Blocked {
+                step: step as u64,
+                part: unmet(&action.precondition, &state),
+            };
         }
         state = after(action, &state);
     }

@@ -11,7 +11,15 @@ static const uint8_t problem[] = {
     0, 2, 0x80, 0, 1, 2, 0, 1, 0,                 /* action 0 */
     0, 2, 0x80, 0, 1, 2, 0, 1, 1,                 /* action 1 */
 };
+static const uint8_t guarded[] = {
+    1, 0, 0, 0, 0x22, 3, 2,
+    0, 7, 0x80, 2, 0x81, 2, 0, 1, 0x42,
+    0, 1, 2,
+    0, 4, 0x80, 2, 2, 0, 1, 2, 0, 1, 0,           /* action 0: all of 2, 0 */
+    0, 2, 0x80, 0, 1, 2, 0, 1, 1,
+};
 static const uint8_t both[] = {1, 0, 0, 0, 2, 0, 1};
+static const uint8_t other_way[] = {1, 0, 0, 0, 2, 1, 0};
 static const uint8_t one[] = {1, 0, 0, 0, 1, 0};
 static const uint8_t strange[] = {1, 0, 0, 0, 2, 0, 2};
 static const uint8_t list[] = {
@@ -24,10 +32,9 @@ static const uint8_t list[] = {
 static int checked = 0;
 static int faults = 0;
 
-static void is(const char *call, larkhammock_answer got, uint64_t a, uint64_t b,
-               uint64_t c, uint64_t d)
+static void are(const char *call, larkhammock_answer got,
+                const uint64_t expected[8])
 {
-    const uint64_t expected[8] = {a, b, c, d, 0, 0, 0, 0};
     checked++;
     for (int i = 0; i < 8; i++) {
         if (got.word[i] != expected[i]) {
@@ -39,12 +46,20 @@ static void is(const char *call, larkhammock_answer got, uint64_t a, uint64_t b,
     }
 }
 
+static void is(const char *call, larkhammock_answer got, uint64_t a, uint64_t b,
+               uint64_t c, uint64_t d)
+{
+    const uint64_t expected[8] = {a, b, c, d, 0, 0, 0, 0};
+    are(call, got, expected);
+}
+
 #define SLICE(a) a, sizeof a
 
 int main(void)
 {
     const uint64_t s010 = (uint64_t)2 << 45, s011 = (uint64_t)3 << 45;
     const uint64_t plenty = UINT64_MAX;
+    const uint64_t wrong_blocked[8] = {2, 5, s010, 3, 1, 0, 1, 0};
     uint8_t out[40], kept[40];
 
     is("read_problem", larkhammock_read_problem(SLICE(problem)), 1, 3, 2, 0);
@@ -59,6 +74,8 @@ int main(void)
     is("run", larkhammock_run(SLICE(problem), SLICE(both), s011), 1, 0, 0, 0);
     is("run, missed", larkhammock_run(SLICE(problem), SLICE(one), s010),
        2, 0, 0, 0);
+    is("run, blocked", larkhammock_run(SLICE(guarded), SLICE(other_way), s010),
+       3, 1, 0, 1);
     is("run, no state", larkhammock_run(SLICE(problem), SLICE(both), 1),
        0, 40, 0, 0);
 
@@ -66,6 +83,9 @@ int main(void)
        1, 5, 3, 0);
     is("judge, wrong", larkhammock_judge(SLICE(problem), SLICE(one), plenty),
        2, 5, s010, 2);
+    are("judge, wrong and blocked",
+        larkhammock_judge(SLICE(guarded), SLICE(other_way), plenty),
+        wrong_blocked);
     is("judge, undecided", larkhammock_judge(SLICE(problem), SLICE(both), 4),
        3, 4, 0, 0);
 

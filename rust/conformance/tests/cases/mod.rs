@@ -1,5 +1,7 @@
 //! What the desk program is tried on, one case or more for each kind of print.
 
+mod blocked;
+
 use conformance::encode;
 use conformance::gen::formula_of_size;
 use conformance::model::{Action, Formula, Kind, Problem};
@@ -67,6 +69,7 @@ fn guarded() -> Problem {
 pub fn all() -> Vec<Case> {
     [
         trials(),
+        blocks(),
         many_facts(),
         many_visits(),
         many_lines(),
@@ -92,22 +95,34 @@ fn trials() -> Vec<Case> {
             "guarded",
             &guarded(),
             &[0, 1],
-            "wrong 010 at step 0 visited 5",
+            "wrong 010 at step 0 member 0 visited 5",
         ),
         sound(
             "step-10",
             &guarded(),
             &late(10),
-            "wrong 010 at step 10 visited 5",
+            "wrong 010 at step 10 member 0 visited 5",
         ),
         sound(
             "step-255",
             &guarded(),
             &late(255),
-            "wrong 010 at step 255 visited 5",
+            "wrong 010 at step 255 member 0 visited 5",
         ),
         sound("no-start", &no_start, &[1], "right lines 1 visited 1"),
     ]
+}
+
+fn blocks() -> Vec<Case> {
+    blocked::all()
+        .into_iter()
+        .map(|row| {
+            let name = format!("blocked-{}", row.name);
+            let at = format!("step {} member {}", row.step, row.member);
+            let says = format!("wrong 100 at {at} visited 5");
+            sound(&name, &row.problem, &row.steps, &says)
+        })
+        .collect()
 }
 
 fn many_facts() -> Vec<Case> {

@@ -17,13 +17,13 @@ fn judges(problem: &Problem, steps: &[u8], named: &[u64]) {
 #[test]
 fn the_last_action_of_a_problem_of_32768_bytes() {
     let (problem, last) = longest();
-    judges(&problem, &last, &[2, 2, 0, 3, 0]);
+    judges(&problem, &last, &[2, 2, 0, 3, 0, 0, 0]);
 }
 
 #[test]
 fn a_step_is_blocked_at_255() {
     let (problem, steps) = needs_fact_0_at_255();
-    judges(&problem, &steps, &[2, 2, 0, 3, 255]);
+    judges(&problem, &steps, &[2, 2, 0, 3, 255, 0, 0]);
 }
 
 #[test]

@@ -41,7 +41,7 @@ fn the_last_action_of_a_problem_of_32768_bytes() {
 #[test]
 fn a_step_is_blocked_at_255() {
     let (problem, steps) = needs_fact_0_at_255();
-    runs(&problem, &steps, 0, &[3, 255]);
+    runs(&problem, &steps, 0, &[3, 255, 0, 0]);
 }
 
 #[test]

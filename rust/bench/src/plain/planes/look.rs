@@ -1,6 +1,6 @@
 //! A look at the case in each lane.
 
-use super::formula::{split, value};
+use super::formula::{split, unmet, value};
 use super::table::{Planes, Table};
 use super::Lanes;
 use crate::plain::read::Task;
@@ -34,15 +34,21 @@ impl<'a> Look<'a> {
 
     /// How the plan ends from a state.
     pub fn outcome(&mut self, state: u64) -> Outcome {
-        match self.run(&mut Table::of_state(state), !0) {
-            Err(step) => Outcome::Blocked(step),
+        let mut table = Table::of_state(state);
+        match self.run(&mut table, !0) {
+            Err(step) => {
+                let action = self.task.actions[usize::from(self.task.steps[step])];
+                let member = unmet(formula(self.task, action), &table);
+                Outcome::Blocked { step, member }
+            }
             Ok(0) => Outcome::Missed,
             Ok(_) => Outcome::Reached,
         }
     }
 
     /// The lanes, of those alive, that surely reach the goal; or the step at
-    /// which none of them was surely applicable any more.
+    /// which none of them was surely applicable any more, with the values before
+    /// it left in the table.
     fn run(&mut self, table: &mut Table, mut alive: Lanes) -> Result<Lanes, usize> {
         let task = self.task;
         for (i, step) in task.steps.iter().enumerate() {
