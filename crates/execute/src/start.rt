@@ -59,6 +59,7 @@ fn run_state(
     let mut i: usize = 0;
     while i < steps.len() {
         let slot = crate::wide(steps[i] % 64);
+        // lane 0 alone is asked: where it stops no lane goes on, and the table has the values before the step
         let alive = obey_action(
             problem,
             actions[slot],
