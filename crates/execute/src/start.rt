@@ -1,5 +1,7 @@
 // One state: its table, from its number, and how its run ends.
+ghost use mathlib.Core.Path.{_≡_};
 ghost use Prim.Native.Nat.{_≤_};
+ghost use lib.ListN.{length};
 ghost use Rattle.model.specs.WellFormed.{Sensible};
 ghost use Rattle.execute.specs.Start.{HoldsState, RunsState, RunsTask};
 use crate::wide;
@@ -49,11 +51,12 @@ fn run_state(
     steps: &[u8],
     actions: &[usize; 64],
     goal: usize,
-    c: [u64; 256],
+    c: &[u64; 256],
 ) -> Outcome
-    ensures { λ r. ⌜ RunsState (now (problem .entry)) (now (steps .entry)) (now (actions .entry)) goal c r ⌝ }
+    requires { ⌜ length (now c) ≡ 256 ⌝ }
+    ensures { λ r. ⌜ RunsState (now (problem .entry)) (now (steps .entry)) (now (actions .entry)) goal (now (c .entry)) r ⌝ }
 {
-    let mut current = c;
+    let mut current = *c;
     let mut found = [0u64; 256];
     let mut literals = [0u8; 128];
     let mut i: usize = 0;
@@ -101,5 +104,5 @@ pub fn run_task(
     }
     let actions = parts.action;
     let table = start.table;
-    RunAnswer::Ended(run_state(problem, steps, &actions, parts.goal, table))
+    RunAnswer::Ended(run_state(problem, steps, &actions, parts.goal, &table))
 }

@@ -9,10 +9,10 @@ use lib.ListN.{length}
 use Rattle.execute.proofs.Starting.{Stating, stating-begins, stating-blocked, stating-next, stating-missed, stating-reached}
 
 abbrev Inv-loop : tie.InvT-loop
-Inv-loop problem steps actions goal current₀ found₀ literals₀ i₀ current found literals i = Stating problem steps actions goal current₀ i current × (length found ≡ 256) × (length literals ≡ 128)
+Inv-loop problem steps actions goal c current₀ found₀ literals₀ i₀ current found literals i = Stating problem steps actions goal c i current × (length found ≡ 256) × (length literals ≡ 128)
 
 abbrev μ-loop : tie.MeasureT-loop
-μ-loop problem steps actions goal current₀ found₀ literals₀ i₀ current found literals i = length steps - i
+μ-loop problem steps actions goal c current₀ found₀ literals₀ i₀ current found literals i = length steps - i
 
 obey-action-requires : tie.Need-obey-action-requires Inv-loop μ-loop
 obey-action-requires c κs = let i = c .before .before .before .before .before .before .before .loop .inv in

@@ -13,7 +13,7 @@ returns c =
 
 returns-2 : tie.Need-returns-2
 returns-2 c =
-    let f = c .before .before .before .before in
+    let f = c .before .before .before .before .before in
     let d = f .before .before in
     runs-state _ _ _ _ _ _ (d .before .wide .ensures .0) _ (d .state-table .ensures) (not-false _ (f .if1 .left)) _ (c .run-state .ensures)
 

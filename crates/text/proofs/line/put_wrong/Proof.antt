@@ -6,6 +6,13 @@ use Rattle.text.proofs.Puts.{wrong-put, blocked-put}
 use Rattle.text.proofs.line.put_wrong.Statement.{statement}
 use Rattle.text.proofs.line.put_wrong.Tie as tie
 
+returns-3 : tie.Need-returns-3
+unfolding filled shown ascii
+returns-3 c =
+    let w = c .before .before .before .before .before .before .before .before .before .before .before in
+    let m = w .before .before .before .before in
+    blocked-put _ _ _ _ _ _ (w .outcome .given .1) (m .before .before .before .before .put-form .ensures .0) (m .put-marks .ensures .0) (c .before .before .before .before .before .before .before .put-form4 .ensures .0) (c .before .before .put-form5 .ensures .0)
+
 pub put-wrong-spec : {M : Type 1} → statement M
 unfolding filled shown ascii
 put-wrong-spec =
@@ -30,4 +37,4 @@ put-wrong-spec =
     (λ c. search needs)
     (λ c. search (wrong-put, needs))
     (λ c. search needs)
-    (λ c. search (blocked-put, needs)))
+    returns-3)
