@@ -1,4 +1,4 @@
--- The definitions give every row of the two tables, by computation; and the two statements beside them, by the laws. Assumes nothing.
+-- The definitions give every row of the tables, by computation; and the two statements beside them, by the laws. Assumes nothing.
 use mathlib.Core.Path.{_≡_, refl, ap}
 use mathlib.Core.List.{List, map, _++_}
 use Prim.Native.Nat.{ℕ, _≤_}

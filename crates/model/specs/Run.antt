@@ -7,7 +7,7 @@ use Rattle.model.specs.Formula.{Formula, Formulas, lit, all, any, none, 
 use Rattle.model.specs.Action.{Action, applicable, step}
 
 -- which part of a precondition was unmet, in the values c (document 02, W-201): "if the precondition is an "all", the first of its
--- members, from 0, that is false; otherwise 0". In a state what does not hold is false; of a case only states' members are answered.
+-- members, from 0, that is false; otherwise 0". In a state what does not hold is false; no answer names a case's.
 module _ {X : Type 0} (L : Logic X) (c : List X) where
   unfoldable pub firstFalse : Formulas → ℕ
   firstFalse none = 0

@@ -1,5 +1,5 @@
--- The trial cases of document 01 that are to be proved, on their bytes, and each refusal at and inside its edge: a call and what it
--- gives. What no row can say, for every plan or for walks of a million visits, is a statement beside the tables.
+-- The trial cases of document 01 that are to be proved, on their bytes, each refusal at and inside its edge, and what the requests of
+-- document 02 add: a call and what it gives. What no row can say, for every plan or for walks of a million visits, is a statement beside the tables.
 use mathlib.Core.Path.{_≡_}
 use mathlib.Core.List.{List, [], _∷_, _++_}
 use Prim.Native.Nat.{ℕ, zero, suc, _+_, _≤_, _<_}
