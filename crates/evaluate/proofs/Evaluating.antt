@@ -58,7 +58,7 @@ unit-join : (g : Group) (x : Kleene) → joinValues g (unitValue g) x ≡ x
 unit-join conjunction x = refl
 unit-join disjunction x = refl
 
-join-unit : (g : Group) (x : Kleene) → joinValues g x (unitValue g) ≡ x
+pub join-unit : (g : Group) (x : Kleene) → joinValues g x (unitValue g) ≡ x
 join-unit conjunction No = refl
 join-unit conjunction Unknown = refl
 join-unit conjunction Yes = refl

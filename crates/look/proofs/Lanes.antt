@@ -12,7 +12,7 @@ use lib.Bits.{bitAnd, bitXor}
 use Rattle.model.specs.Kleene.{Kleene, No, Unknown, Yes, isYes, three}
 use Rattle.model.specs.Formula.{eval}
 use Rattle.model.specs.Action.{Action, applicable, step}
-use Rattle.model.specs.Run.{unmet, Stop, reached, missed, blocked, atEnd, goesOn, run}
+use Rattle.model.specs.Run.{unmet, holdsIn, Stop, reached, missed, blocked, atEnd, goesOn, run}
 use Rattle.model.specs.Run as Run
 use Rattle.model.specs.Case.{Task}
 use Rattle.model.specs.Walk as Walk
@@ -57,7 +57,7 @@ runFrom T i v = run three (T .facts) (T .goal) (drop i (T .plan)) i v
 
 -- where it is blocked if step i is not applicable
 abbrev pub stopAt : Task → ℕ → List Kleene → Stop
-stopAt T i v = record { step = i; member = unmet three v (actionAt (T .plan) i .precondition) }
+stopAt T i v = record { step = i; member = unmet (holdsIn three v) (actionAt (T .plan) i .precondition) }
 
 abbrev pub after : Task → ℕ → List Kleene → List Kleene
 after T i v = step three (T .facts) (actionAt (T .plan) i) v

@@ -7,7 +7,7 @@ use lib.ListN.{length, getD}
 use Rattle.model.specs.Kleene.{two}
 use Rattle.model.specs.Formula.{Formula, eval}
 use Rattle.model.specs.Action.{Action, next}
-use Rattle.model.specs.Run.{unmet, Stop, Outcome, reached, missed, blocked}
+use Rattle.model.specs.Run.{unmet, holdsIn, Stop, Outcome, reached, missed, blocked}
 
 abbrev pub Belief : Type 1
 Belief = List Bool → Type 0
@@ -61,7 +61,7 @@ module _ (n : ℕ) where
     pub at : length before ≡ p .step
     pub applicable : Applicable B before
     pub not-applicable : ApplicableIn (after B before) action → ⊥
-    pub member : (t : List Bool) → after B before t → unmet two t (action .precondition) ≡ p .member
+    pub member : (t : List Bool) → after B before t → unmet (holdsIn two t) (action .precondition) ≡ p .member
 
   -- "The run of one given state answers by that same section": what each outcome says of the plan, from the belief that holds the
   -- state s alone

@@ -6,17 +6,21 @@ use Rattle.model.specs.Kleene.{Logic}
 use Rattle.model.specs.Formula.{Formula, Formulas, lit, all, any, none, more, eval}
 use Rattle.model.specs.Action.{Action, applicable, step}
 
--- which part of a precondition was unmet, in the values c (document 02, W-201): "if the precondition is an "all", the first of its
--- members, from 0, that is false; otherwise 0". In a state what does not hold is false; no answer names a case's.
-module _ {X : Type 0} (L : Logic X) (c : List X) where
+-- which part of a precondition was unmet, where `holds` says which formulas hold (document 02, W-201): "if the precondition is an "all",
+-- the first of its members, from 0, that is false; otherwise 0"
+module _ (holds : Formula → Bool) where
   unfoldable pub firstFalse : Formulas → ℕ
   firstFalse none = 0
-  firstFalse (more m ms) = cond (L .holds (eval L c m)) (suc (firstFalse ms)) 0
+  firstFalse (more m ms) = cond (holds m) (suc (firstFalse ms)) 0
 
   unfoldable pub unmet : Formula → ℕ
   unmet (lit l) = 0
   unmet (all ms) = firstFalse ms
   unmet (any ms) = 0
+
+-- the formulas that hold in the values c; in a state the others are false
+abbrev pub holdsIn : {X : Type 0} → Logic X → List X → Formula → Bool
+holdsIn L c φ = L .holds (eval L c φ)
 
 -- where a run is blocked: "the first step, counted from 0, that is not applicable", and (W-201) "a member number"
 pub record Stop : Type 0 where
@@ -42,4 +46,4 @@ module _ {X : Type 0} (L : Logic X) (n : ℕ) (goal : Formula) where
   unfoldable pub run : List Action → ℕ → List X → Outcome
   run [] i c = atEnd (L .holds (eval L c goal))
   run (a ∷ plan) i c =
-      let rest = run plan (suc i) (step L n a c) in goesOn (applicable L a c) rest (record { step = i; member = unmet L c (a .precondition) })
+      let rest = run plan (suc i) (step L n a c) in goesOn (applicable L a c) rest (record { step = i; member = unmet (holdsIn L c) (a .precondition) })

@@ -6,16 +6,16 @@ use Prim.Native.Nat.{ℕ, suc, _+_, _%_, _≤_, _<_}
 use native.Mathlib.Omega.{arith}
 use lib.ListN.{length, getD}
 use Rattle.model.specs.Limits.{maxFacts}
-use Rattle.model.specs.Kleene.{Kleene, No, Unknown, Yes, both, isYes, three}
+use Rattle.model.specs.Kleene.{Kleene, No, Unknown, Yes, isYes, three}
 use Rattle.model.specs.Formula.{Formula, Formulas, none, more, eval}
-use Rattle.model.specs.Run.{firstFalse, unmet}
+use Rattle.model.specs.Run.{firstFalse, unmet, holdsIn}
 use Rattle.model.specs.FormulaBytes.{Group, conjunction, disjunction, mark, memberCount, formulaBytes, memberBytes}
 use Rattle.model.specs.Planes.{laneBit, sureBit, Table}
 use Rattle.model.specs.Stands.{Span, Members}
 use Rattle.model.proofs.Laws.Reading.{split}
 use Rattle.evaluate.specs.declared.Planes.{Planes}
 use Rattle.evaluate.specs.Planes.{GroupPlanes}
-use Rattle.evaluate.proofs.Evaluating.{Item, leaf, nest, stated}
+use Rattle.evaluate.proofs.Evaluating.{join-unit, Item, leaf, nest, stated}
 use Rattle.unmet.specs.Members.{FirstFalse, UnmetMember}
 
 -- ---- one member
@@ -23,11 +23,6 @@ use Rattle.unmet.specs.Members.{FirstFalse, UnmetMember}
 pub low-bit : (x : ℕ) → laneBit 0 x ≡ x % 2
 unfolding laneBit
 low-bit x = ap (λ (y : ℕ). y % 2) (omega arith)
-
-alone : (t : Kleene) → sureBit (both t Yes) ≡ sureBit t
-alone No = refl
-alone Unknown = refl
-alone Yes = refl
 
 -- what a member leaves of the count
 abbrev turns : Kleene → ℕ → ℕ
@@ -47,18 +42,18 @@ goes-on Yes x h = refl
 
 module _ (s c : List ℕ) (n at : ℕ) where
   -- `left` is what is left of the members ms, from p on, after i of them, which all hold
-  pub record Left (facts : ℕ) (ms : Formulas) (q i p : ℕ) : Type 0 where
+  pub record Remaining (facts : ℕ) (ms : Formulas) (q i p : ℕ) : Type 0 where
     pub left : Formulas
     pub members : Members facts conjunction left
     pub counted : i + memberCount left ≡ n
     pub bytes : Span s (length s) p (memberBytes left) q
-    pub same : (case : ℕ → List Kleene) → Table c case → firstFalse three (case 0) ms ≡ i + firstFalse three (case 0) left
+    pub same : (case : ℕ → List Kleene) → Table c case → firstFalse (holdsIn three (case 0)) ms ≡ i + firstFalse (holdsIn three (case 0)) left
 
   pub record Meeting (i p : ℕ) : Type 0 where
     pub few : i ≤ n
     pub is :
         (facts : ℕ) (ms : Formulas) (q : ℕ) → facts ≤ maxFacts → Members facts conjunction ms → memberCount ms ≡ n →
-        Span s (length s) at (memberBytes ms) q → Left facts ms q i p
+        Span s (length s) at (memberBytes ms) q → Remaining facts ms q i p
 
   pub meeting-begins : Meeting 0 at
   meeting-begins =
@@ -78,7 +73,7 @@ module _ (s c : List ℕ) (n at : ℕ) where
             none-left (o .left) (omega (arith, o .counted)) (case 0) _ (o .same case t);
       }
     where
-      none-left : (left : Formulas) → memberCount left ≡ 0 → (v : List Kleene) (x : ℕ) → x ≡ i + firstFalse three v left → i ≡ x
+      none-left : (left : Formulas) → memberCount left ≡ 0 → (v : List Kleene) (x : ℕ) → x ≡ i + firstFalse (holdsIn three v) left → i ≡ x
       none-left none e v x k = omega (arith, k)
       none-left (more m ms) e v x k = absurd (omega arith)
 
@@ -93,15 +88,15 @@ module _ (s c : List ℕ) (n at : ℕ) where
       tells : (case : ℕ → List Kleene) → Table c case → r .sure % 2 ≡ sureBit (eval three (case 0) member)
       same :
           (case : ℕ → List Kleene) → Table c case →
-          firstFalse three (case 0) ms ≡ i + turns (eval three (case 0) member) (firstFalse three (case 0) rest)
+          firstFalse (holdsIn three (case 0)) ms ≡ i + turns (eval three (case 0) member) (firstFalse (holdsIn three (case 0)) rest)
 
-    turned : (facts : ℕ) (ms : Formulas) (q : ℕ) → facts ≤ maxFacts → Left facts ms q i p → Turned facts ms q
+    turned : (facts : ℕ) (ms : Formulas) (q : ℕ) → facts ≤ maxFacts → Remaining facts ms q i p → Turned facts ms q
     unfolding firstFalse Members memberBytes eval
     turned facts ms q f o = by (o .left) (o .members) (o .counted) (o .bytes) (o .same)
       where
         by :
             (left : Formulas) → Members facts conjunction left → i + memberCount left ≡ n → Span s (length s) p (memberBytes left) q →
-            ((case : ℕ → List Kleene) → Table c case → firstFalse three (case 0) ms ≡ i + firstFalse three (case 0) left) → Turned facts ms q
+            ((case : ℕ → List Kleene) → Table c case → firstFalse (holdsIn three (case 0)) ms ≡ i + firstFalse (holdsIn three (case 0)) left) → Turned facts ms q
         by none d e v k = absurd (omega arith)
         by (more m rest) d e v k =
             split (formulaBytes m) v λ z x y.
@@ -112,7 +107,7 @@ module _ (s c : List ℕ) (n at : ℕ) where
               members = d .1;
               counted = omega arith;
               bytes = rw (next refl) y;
-              tells = λ case t. sym (low-bit (r .sure)) ∙ lanes case t .lane 0 (omega arith) .is-sure ∙ alone (eval three (case 0) m);
+              tells = λ case t. sym (low-bit (r .sure)) ∙ lanes case t .lane 0 (omega arith) .is-sure ∙ ap sureBit (join-unit conjunction (eval three (case 0) m));
               same = k;
             }
 
@@ -122,7 +117,7 @@ module _ (s c : List ℕ) (n at : ℕ) where
           is =
               λ facts ms q f d e v case t.
               let o = turned facts ms q f (M .is facts ms q f d e v) in
-              omega (arith, o .same case t, stops (eval three (case 0) (o .member)) (firstFalse three (case 0) (o .rest)) (sym (o .tells case t) ∙ z));
+              omega (arith, o .same case t, stops (eval three (case 0) (o .member)) (firstFalse (holdsIn three (case 0)) (o .rest)) (sym (o .tells case t) ∙ z));
         }
 
     pub meeting-next : (r .sure % 2 ≡ 0 → ⊥) → Meeting (i + 1) (r .next)
@@ -137,7 +132,7 @@ module _ (s c : List ℕ) (n at : ℕ) where
                 members = o .members;
                 counted = o .counted;
                 bytes = o .bytes;
-                same = λ case t. omega (arith, o .same case t, goes-on (eval three (case 0) (o .member)) (firstFalse three (case 0) (o .rest)) (λ y. h (o .tells case t ∙ y)));
+                same = λ case t. omega (arith, o .same case t, goes-on (eval three (case 0) (o .member)) (firstFalse (holdsIn three (case 0)) (o .rest)) (λ y. h (o .tells case t ∙ y)));
               };
         }
 
@@ -149,7 +144,7 @@ module _ (s c : List ℕ) (p : ℕ) where
   unfolding unmet
   unmet-none h = record { is = λ facts f q l at case t. let (g, _, o) = stated s facts p f q l at in by (case 0) g o }
     where
-      by : {facts q : ℕ} {f : Formula} (v : List Kleene) (g : Group) → Item s facts g (p + 2) f q → 0 ≡ unmet three v f
+      by : {facts q : ℕ} {f : Formula} (v : List Kleene) (g : Group) → Item s facts g (p + 2) f q → 0 ≡ unmet (holdsIn three v) f
       by v g (leaf b o i n) = refl
       by v conjunction (nest ms b e i n k d w) = refl
       by v disjunction (nest ms b e i n k d w) = absurd (h (omega arith) e)
@@ -161,7 +156,7 @@ module _ (s c : List ℕ) (p : ℕ) where
     where
       by :
           {facts q : ℕ} {f : Formula} (g : Group) → Item s facts g (p + 2) f q → (case : ℕ → List Kleene) → Table c case →
-          r ≡ unmet three (case 0) f
+          r ≡ unmet (holdsIn three (case 0)) f
       by g (leaf b o i k) case t = absurd (omega arith)
       by conjunction (nest ms b e i k l d v) case t = absurd (omega arith)
       by {facts} {q} disjunction (nest ms b e i k l d v) case t = F .is facts ms q l d (sym k ∙ sym m) v case t

@@ -1,7 +1,7 @@
 -- A relation between two logics that every connective keeps is kept by every reading, step and run. Two instances: a case that says
 -- more (`refining`), and a case with every fact fixed (`exact`). Assumes nothing.
 use mathlib.Core.Path.{_≡_, refl, sym, ap, ap₂, _∙_}
-use mathlib.Core.Bool.{Bool, true, false, cond}
+use mathlib.Core.Bool.{Bool, true, false}
 use mathlib.Core.List.{List, [], _∷_}
 use Prim.Native.Nat.{ℕ, zero, suc, _<_, suc-le-suc}
 use lib.ListN.{getD}
@@ -9,7 +9,7 @@ use native.Mathlib.Omega.{arith}
 use Rattle.model.specs.Kleene.{Kleene, No, Unknown, Yes, both, either, denied, isYes, known, Logic, two, three}
 use Rattle.model.specs.Formula.{fact, denial, Formula, Formulas, lit, all, any, none, more, eval, evalAll, evalAny}
 use Rattle.model.specs.Action.{Action, conditionOf, tabulate, applicable, next, step}
-use Rattle.model.specs.Run.{firstFalse, unmet, Outcome, reached, Stop, atEnd, goesOn, run}
+use Rattle.model.specs.Run.{unmet, holdsIn, Outcome, reached, Stop, atEnd, goesOn, run}
 
 -- an equation in one value, or in two, by the table of its instances
 abbrev row : {A : Type 0} → (Kleene → A) → List A
@@ -93,27 +93,17 @@ module _ {X Y : Type 0} (L : Logic X) (M : Logic Y) (R : X → Y → Type 0) (K 
       rw (up _ _ (eval-keeps c s h (a .precondition)) (g .0))
       (run-keeps up n goal plan (suc i) _ _ (step-keeps n a c s h) (g .1))
 
-  -- where both hold the same, the same part of a formula is unmet, and the runs end the same
-  module _ (same : (x : X) (y : Y) → R x y → L .holds x ≡ M .holds y) where
-    unmet-same : (c : List X) (s : List Y) → Along c s → (φ : Formula) → unmet L c φ ≡ unmet M s φ
-    unfolding unmet firstFalse
-    unmet-same c s h (lit l) = refl
-    unmet-same c s h (all ms) = members ms where
-      members : (ms : Formulas) → firstFalse L c ms ≡ firstFalse M s ms
-      members none = refl
-      members (more m ms) = ap₂ (λ b r. cond b (suc r) 0) (same _ _ (eval-keeps c s h m)) (members ms)
-    unmet-same c s h (any ms) = refl
-
-    pub run-same :
-        (n : ℕ) (goal : Formula) (plan : List Action) (i : ℕ) (c : List X) (s : List Y) → Along c s →
-        run L n goal plan i c ≡ run M n goal plan i s
-    unfolding run goesOn applicable
-    run-same n goal [] i c s h = ap atEnd (same _ _ (eval-keeps c s h goal))
-    run-same n goal (a ∷ plan) i c s h =
-        let b = same _ _ (eval-keeps c s h (a .precondition)) in
-        let rest = run-same n goal plan (suc i) (step L n a c) (step M n a s) (step-keeps n a c s h) in
-        let m = unmet-same c s h (a .precondition) in
-        λ j. goesOn (b j) (rest j) (record { step = i; member = m j })
+  -- where both hold the same, the runs end the same
+  pub run-same :
+      ((x : X) (y : Y) → R x y → L .holds x ≡ M .holds y) →
+      (n : ℕ) (goal : Formula) (plan : List Action) (i : ℕ) (c : List X) (s : List Y) → Along c s →
+      run L n goal plan i c ≡ run M n goal plan i s
+  unfolding run goesOn applicable
+  run-same same n goal [] i c s h = ap atEnd (same _ _ (eval-keeps c s h goal))
+  run-same same n goal (a ∷ plan) i c s h =
+      let e : (φ : Formula) → holdsIn L c φ ≡ holdsIn M s φ = λ φ. same _ _ (eval-keeps c s h φ) in
+      let rest = run-same same n goal plan (suc i) (step L n a c) (step M n a s) (step-keeps n a c s h) in
+      λ j. goesOn (e (a .precondition) j) (rest j) (record { step = i; member = unmet (λ φ. e φ j) (a .precondition) })
 
 -- ---- a case that says more
 

@@ -13,7 +13,7 @@ use lib.Pow.{pow-pos}
 use Rattle.model.specs.Kleene.{two}
 use Rattle.model.specs.Formula.{Formula, eval}
 use Rattle.model.specs.Action.{Action, tabulate, applicable, next, step}
-use Rattle.model.specs.Run.{unmet, Stop, Outcome, reached, missed, blocked, atEnd, goesOn, run}
+use Rattle.model.specs.Run.{unmet, holdsIn, Stop, Outcome, reached, missed, blocked, atEnd, goesOn, run}
 use Rattle.model.specs.Case.{bit, stateOf, Task, runOf, initially, IsState, Right}
 use Rattle.model.specs.Belief.{Belief, Entails, ApplicableIn, only, Image, after, Applicable, Solution, initialBelief, Blocks, OutcomeMeans}
 use Rattle.model.proofs.Laws.Tabulate.{length-tabulate, getD-tabulate}
@@ -68,7 +68,7 @@ module _ (n : ℕ) (goal : Formula) where
 
   blocks :
       (B : Belief) (before : List Action) (a : Action) (rest : List Action) (p : Stop) → length before ≡ p .step → Applicable n B before →
-      (ApplicableIn (after n B before) a → ⊥) → ((t : List Bool) → after n B before t → unmet two t (a .precondition) ≡ p .member) →
+      (ApplicableIn (after n B before) a → ⊥) → ((t : List Bool) → after n B before t → unmet (holdsIn two t) (a .precondition) ≡ p .member) →
       Blocks n B (before ++ (a ∷ rest)) p
   blocks B before a rest p e ok stop m =
       record { before = before; action = a; rest = rest; parts = refl; at = e; applicable = ok; not-applicable = stop; member = m }
@@ -86,7 +86,7 @@ module _ (n : ℕ) (goal : Formula) where
     where
       by-test :
           (b : Bool) → applicable two a s ≡ b → (o : Outcome) → MeansFrom (Image n a B) plan (suc i) o →
-          MeansFrom B (a ∷ plan) i (goesOn b o (record { step = i; member = unmet two s (a .precondition) }))
+          MeansFrom B (a ∷ plan) i (goesOn b o (record { step = i; member = unmet (holdsIn two s) (a .precondition) }))
       by-test true e reached m = ((entails-alone B s h (a .precondition) .1 e, m .0), m .1)
       by-test true e missed m = ((entails-alone B s h (a .precondition) .1 e, m .0), m .1)
       by-test true e (blocked p) (l, b) =
@@ -97,7 +97,7 @@ module _ (n : ℕ) (goal : Formula) where
       by-test false e o m = (
         omega arith,
         blocks B [] a plan _ (omega arith) tt (λ g. false≢true (sym e ∙ entails-alone B s h (a .precondition) .0 g))
-            (λ t m. ap (λ (v : List Bool). unmet two v (a .precondition)) (h .1 t m)),
+            (λ t m. ap (λ (v : List Bool). unmet (holdsIn two v) (a .precondition)) (h .1 t m)),
       )
 
   -- a plan whose actions are applicable runs to its end
