@@ -30,18 +30,19 @@ fn exactly_one(facts: &[u8]) -> Vec<Formula> {
 }
 
 /// A move by one along a row of places, of which one fact each says "it is
-/// here"; in the last place it stays. What was unknown of the places before is
-/// forgotten, so the walk need not split on it.
+/// here"; in the last place it stays. A place between takes the value of the one
+/// before it: set where that is true, cleared where it is not. So no state has
+/// both conditions true.
 fn shift(row: &[u8]) -> Vec<Effect> {
     let last = row.len() - 1;
-    let mut effects: Vec<Effect> = (0..last)
-        .map(|place| Effect::sets(row[place + 1], Formula::fact(row[place])))
-        .collect();
-    effects.extend(
-        row[..last]
-            .iter()
-            .map(|fact| Effect::clears(*fact, Formula::always())),
-    );
+    let mut effects = vec![Effect::clears(row[0], Formula::always())];
+    for place in 1..=last {
+        let before = row[place - 1];
+        effects.push(Effect::sets(row[place], Formula::fact(before)));
+        if place < last {
+            effects.push(Effect::clears(row[place], Formula::not(before)));
+        }
+    }
     effects
 }
 
