@@ -55,10 +55,12 @@ larkhammock_answer larkhammock_read_plan(
  * of the state, fact 1 bit 46, and so on. Refusals as for the plan, then 40.
  *   word[0]  1 reached, 2 missed, 3 blocked
  *   word[1]  where blocked: the step, from 0
- *   word[2]  where blocked: the unmet part of its precondition. part: 0 member
+ *   word[2]  where blocked: the part of its action that blocks it. part: 0
+ *            member, the precondition is false; 1 fact, the precondition is
+ *            true, but the set and clear conditions of a fact are both true
  *   word[3]  where blocked: the part's number. Of a member: where the
  *            precondition is an "all", the first of its members, from 0, that
- *            is false; otherwise 0
+ *            is false; otherwise 0. Of a fact: the lowest such fact
  */
 larkhammock_answer larkhammock_run(
     const uint8_t *problem, size_t problem_len,
@@ -74,7 +76,8 @@ larkhammock_answer larkhammock_run(
  *            where wrong: the lowest start state that fails
  *   word[3]  where wrong: the outcome of that state, 2 missed or 3 blocked
  *   word[4]  where wrong and blocked: the step, from 0
- *   word[5]  where wrong and blocked: the part, as in a run. part: 0 member
+ *   word[5]  where wrong and blocked: the part, as in a run. part: 0 member,
+ *            1 fact
  *   word[6]  where wrong and blocked: the part's number
  */
 larkhammock_answer larkhammock_judge(

@@ -14,7 +14,7 @@ use Rattle.model.specs.declared.Limits.{Limits}
 use Rattle.model.specs.declared.Problem.{Problem}
 use Rattle.model.specs.declared.RunAnswer.{RunAnswer}
 use Rattle.model.specs.declared.RunAnswer.the-variants.{Refused, Ended}
-use Rattle.model.specs.Limits.{version1}
+use Rattle.model.specs.Limits.{version1, maxFacts}
 use Rattle.model.specs.Kleene.{Kleene, No, Unknown, three}
 use Rattle.model.specs.Answer as Answer
 use Rattle.model.specs.Answer.{answered}
@@ -22,9 +22,10 @@ use Rattle.model.specs.Case.{caseOf, Task, runOf}
 use Rattle.model.specs.Operations.{isState, runState}
 use Rattle.model.specs.Read.{headBytes}
 use Rattle.model.specs.WellFormed.{Sensible}
-use Rattle.model.specs.Answers.{refusal, runAnswer, outcome}
+use Rattle.model.specs.Answers.{refusal, runAnswer, part, outcome}
+use Rattle.model.specs.declared.Part.{Part}
 use Rattle.model.specs.declared.Outcome.{Outcome}
-use Rattle.model.specs.Planes.{Table, laneBit}
+use Rattle.model.specs.Planes.{Table}
 use Rattle.model.proofs.Laws.Splitting.{length-case, case-known, case-past}
 use Rattle.model.proofs.Laws.Verdicts.{run-full}
 use Rattle.blocks.specs.declared.plan.Task as blocks
@@ -39,17 +40,17 @@ use Rattle.blocks.proofs.Standing.{found-in}
 use native.Mathlib.Numerals.{add-one}
 use Rattle.model.specs.Action.{applicable}
 use Rattle.model.specs.Run.{reached, missed, blocked, atEnd, goesOn}
-use Rattle.model.specs.FormulaBytes.{encodeFormula}
-use Rattle.model.specs.ProblemBytes.{actionBytes, actionAt}
+use Rattle.model.specs.ProblemBytes.{actionAt}
 use Rattle.model.specs.Stands.{TaskStands}
-use Rattle.model.proofs.Laws.Planes.{ones, bit-ones}
+use Rattle.model.proofs.Laws.Planes.{low-bit}
 use Rattle.evaluate.specs.declared.Planes.{Planes}
 use Rattle.evaluate.specs.Planes.{FormulaPlanes}
-use Rattle.step.specs.Actions.{flag, ObeysAction}
+use Rattle.step.specs.declared.conflict.Going.{Going}
+use Rattle.step.specs.Conflicts.{flag}
+use Rattle.step.specs.Actions.{ObeysAction}
+use Rattle.step.proofs.Conflicts.{flag-true, flag-false}
 use Rattle.look.proofs.Lanes.{runFrom, stopAt, after, sized-after, acting-at, turned, ended}
-use Rattle.unmet.specs.Members.{UnmetMember}
-use Rattle.unmet.proofs.Members.{low-bit}
-use Rattle.model.proofs.Laws.Reading.{split}
+use Rattle.unmet.specs.Members.{UnmetPart}
 
 -- ---- the table
 
@@ -138,27 +139,19 @@ pub record Stating (problem steps actions : List ℕ) (goal : ℕ) (c : List ℕ
 pub stating-begins : (problem steps actions : List ℕ) (goal : ℕ) (c : List ℕ) → length c ≡ 256 → Stating problem steps actions goal c 0 c
 stating-begins problem steps actions goal c w = record { size = w; few = omega arith; is = λ initial T S case z t. (case, z, t, refl) }
 
-flag-false : (b : Bool) → flag b ≡ 0 → b ≡ false
-flag-false true e = absurd (omega arith)
-flag-false false e = refl
-
-flag-true : (b : Bool) → (flag b ≡ 0 → ⊥) → b ≡ true
-flag-true true h = refl
-flag-true false h = absurd (h refl)
-
 module _ (problem steps actions : List ℕ) (goal : ℕ) (c : List ℕ) (i : ℕ) (d : List ℕ) (R : Stating problem steps actions goal c i d) where
   module _ (more : i < length steps) (slot : ℕ) (named : slot ≡ getD steps i 0 % 64)
-      (alive : ℕ) (d′ : List ℕ) (O : ObeysAction problem (getD actions slot 0) d 1 d′ alive) where
+      (going : Going) (d′ : List ℕ) (O : ObeysAction problem (getD actions slot 0) d 1 d′ going) where
     -- the values before the step, whether it is applicable in them, the table after it, and what it leaves of the run
     stated :
         (initial : ℕ) (T : Task) → TaskStands problem steps actions initial goal T → (case : ℕ → List Kleene) → Sized (T .facts) case → Table c case →
-        (now′ : ℕ → List Kleene) × Table d now′ × (b : Bool) × (alive ≡ flag b) × ((alive ≡ 0 → ⊥) → Table d′ (λ j. after T i (now′ j))) ×
+        (now′ : ℕ → List Kleene) × Table d now′ × (b : Bool) × (going .lanes ≡ flag b) × ((going .lanes ≡ 0 → ⊥) → Table d′ (λ j. after T i (now′ j))) ×
         (runFrom T 0 (case 0) ≡ goesOn b (runFrom T (suc i) (after T i (now′ 0))) (stopAt T i (now′ 0)))
     stated initial T S case z t =
         let (now′, y, u, e) = R .is initial T S case z t in
-        let (bits, later, turn) = turned problem steps actions goal i more slot named 1 alive d d′ O initial T S now′ y u in
-        let b = applicable three (actionAt (T .plan) i) (now′ 0) in
-        let f : alive % 2 ≡ flag b = sym (low-bit alive) ∙ bits 0 (omega arith) ∙ rw (low-bit 1) (at-most b) in
+        let (bits, later, turn) = turned problem steps actions goal i more slot named 1 going d d′ O initial T S now′ y u in
+        let b = applicable three (T .facts) (actionAt (T .plan) i) (now′ 0) in
+        let f : going .lanes % 2 ≡ flag b = sym (low-bit (going .lanes)) ∙ bits 0 (omega arith) ∙ rw (low-bit 1) (at-most b) in
         (now′, u, b, omega (arith, O .among), later, e ∙ turn (now′ 0))
       where
         at-most : (b : Bool) → min 1 (flag b) ≡ flag b
@@ -166,21 +159,21 @@ module _ (problem steps actions : List ℕ) (goal : ℕ) (c : List ℕ) (i : ℕ
         at-most false = refl
 
     pub stating-blocked :
-        alive ≡ 0 → (m : ℕ) → UnmetMember problem d′ (getD actions slot 0) m → (r : Outcome) → outcome r ≡ blocked (record { step = i; member = m }) →
+        going .lanes ≡ 0 → (p : Part) → UnmetPart problem d′ (getD actions slot 0) (going .fact) p → (r : Outcome) → outcome r ≡ blocked (record { step = i; part = part p }) →
         RunsState problem steps actions goal c r
-    unfolding goesOn actionBytes
-    stating-blocked h m U r o =
+    unfolding goesOn
+    stating-blocked h p U r o =
         record {
           is =
               λ initial T S case z t.
               let (now′, u, b, f, later, e) = stated initial T S case z t in
               let (q, at) = acting-at problem steps actions goal i more slot named initial T S in
-              split (encodeFormula (actionAt (T .plan) i .precondition)) (at .bytes) λ p v w.
-              let k = U .is (T .facts) _ p (omega (arith, S .most)) (record { ok = at .precondition; bytes = v }) now′ (subst (λ (x : List ℕ). Table x now′) (sym (O .kept h)) u) in
-              o ∙ ap (λ (x : ℕ). blocked (record { step = i; member = x })) k ∙ sym (e ∙ rw (flag-false b (sym f ∙ h)));
+              let m : T .facts ≤ maxFacts = omega (arith, S .most) in
+              let k = U .is (T .facts) _ q m at now′ (subst (λ (x : List ℕ). Table x now′) (sym (O .kept h)) u) (O .lowest (T .facts) _ q m at now′ u refl h) in
+              o ∙ ap (λ x. blocked (record { step = i; part = x })) k ∙ sym (e ∙ rw (flag-false b (sym f ∙ h)));
         }
 
-    pub stating-next : (alive ≡ 0 → ⊥) → Stating problem steps actions goal c (i + 1) d′
+    pub stating-next : (going .lanes ≡ 0 → ⊥) → Stating problem steps actions goal c (i + 1) d′
     unfolding goesOn
     stating-next n =
         record {
@@ -189,7 +182,7 @@ module _ (problem steps actions : List ℕ) (goal : ℕ) (c : List ℕ) (i : ℕ
           is =
               λ initial T S case z t.
               let (now′, u, b, f, later, e) = stated initial T S case z t in
-              ((λ j. after T i (now′ j)), sized-after T i now′, later n, rw (add-one i) (e ∙ rw (flag-true b (λ w. n (f ∙ w)))));
+              ((λ j. after T i (now′ j)), sized-after T i now′, later n, rw (add-one i) (e ∙ rw (flag-true b (λ y. n (f ∙ y)))));
         }
 
   -- the goal decides

@@ -17,7 +17,7 @@ use step::obey_action;
 use table::fix_bits;
 use table::none_fixed;
 use table::word_of;
-use unmet::unmet_member;
+use unmet::unmet_part;
 
 // A number that was read as a state: whether it is one, and the state in every lane.
 pub struct StateTable {
@@ -63,7 +63,7 @@ fn run_state(
     while i < steps.len() {
         let slot = crate::wide(steps[i] % 64);
         // lane 0 alone is asked: where it stops no lane goes on, and the table has the values before the step
-        let alive = obey_action(
+        let going = obey_action(
             problem,
             actions[slot],
             &mut current,
@@ -71,9 +71,9 @@ fn run_state(
             &mut literals,
             1,
         );
-        if alive == 0 {
-            let member = unmet_member(problem, actions[slot], &current);
-            return Outcome::Blocked(Stop { step: i, member });
+        if going.lanes == 0 {
+            let part = unmet_part(problem, actions[slot], &current, going.fact);
+            return Outcome::Blocked(Stop { step: i, part });
         }
         i = i + 1;
     }

@@ -2,7 +2,7 @@
 use mathlib.Core.List.{List, [], _∷_}
 use Prim.Native.Nat.{ℕ}
 use Rattle.model.specs.Answer.{Answer, refused, answered}
-use Rattle.model.specs.Run.{Outcome, reached, missed, blocked}
+use Rattle.model.specs.Run.{Part, atMember, atFact, Outcome, reached, missed, blocked}
 use Rattle.model.specs.Walk.{Verdict, right, wrong, undecided}
 use Rattle.model.specs.Operations.{Counts}
 
@@ -23,15 +23,20 @@ abbrev pub countWords : Answer ℕ → List ℕ
 countWords (refused n q) = refusalWords n q
 countWords (answered n) = words 1 n 0 0 0
 
--- "part (from W-201 on): 0 member": what a block's number counts
-abbrev memberPart : ℕ
-memberPart = 0
+-- "part (from W-201 on): 0 member, 1 fact (W-202)", and "its number"
+abbrev pub partWord : Part → ℕ
+partWord (atMember m) = 0
+partWord (atFact f) = 1
+
+abbrev pub partNumber : Part → ℕ
+partNumber (atMember m) = m
+partNumber (atFact f) = f
 
 -- run: reached, missed, or blocked with its step, part and number
 abbrev pub endWords : Outcome → List ℕ
 endWords reached = words 1 0 0 0 0
 endWords missed = words 2 0 0 0 0
-endWords (blocked s) = words 3 (s .step) memberPart (s .member) 0
+endWords (blocked s) = words 3 (s .step) (partWord (s .part)) (partNumber (s .part)) 0
 
 abbrev pub runWords : Answer Outcome → List ℕ
 runWords (refused n q) = refusalWords n q
@@ -41,7 +46,7 @@ runWords (answered o) = endWords o
 abbrev pub wrongWords : ℕ → ℕ → Outcome → List ℕ
 wrongWords visits state reached = words 2 visits state 1 0
 wrongWords visits state missed = words 2 visits state 2 0
-wrongWords visits state (blocked s) = 2 ∷ visits ∷ state ∷ 3 ∷ s .step ∷ memberPart ∷ s .member ∷ 0 ∷ []
+wrongWords visits state (blocked s) = 2 ∷ visits ∷ state ∷ 3 ∷ s .step ∷ partWord (s .part) ∷ partNumber (s .part) ∷ 0 ∷ []
 
 -- judge: right with visits and lines, wrong, undecided with visits
 abbrev pub verdictWords : Verdict ℕ → List ℕ

@@ -2,12 +2,13 @@
 ghost use mathlib.Core.Path.{_≡_};
 ghost use mathlib.Core.List.{[], _∷_};
 ghost use Rattle.model.specs.Limits.{version1};
-ghost use Rattle.model.specs.Answers.{outcome as meaning};
+ghost use Rattle.model.specs.Answers.{part as partOf, outcome as meaning};
 ghost use Rattle.model.specs.Operations.{readProblem, readPlan, runState, judge, writeList, followList};
-ghost use Rattle.larkhammock.specs.Words.{refusalWords, wrongWords, problemWords, countWords, runWords, judgeWords};
+ghost use Rattle.larkhammock.specs.Words.{refusalWords, partWord, partNumber, wrongWords, problemWords, countWords, runWords, judgeWords};
 use model::FollowAnswer;
 use model::JudgeAnswer;
 use model::Outcome;
+use model::Part;
 use model::PlanAnswer;
 use model::ProblemAnswer;
 use model::Refusal;
@@ -20,8 +21,26 @@ pub struct Answer {
     pub word: [u64; 8],
 }
 
-// What the number of a block counts: a member of the precondition.
-const MEMBER: u64 = 0;
+// What a block names, 0 a member or 1 a fact, and its number.
+struct PartWords {
+    part: u64,
+    number: u64,
+}
+
+fn named(part: Part) -> PartWords
+    ensures { λ r. ⌜ (r .part ≡ partWord (partOf part)) × (r .number ≡ partNumber (partOf part)) ⌝ }
+{
+    match part {
+        Part::Member(member) => PartWords {
+            part: 0,
+            number: member as u64,
+        },
+        Part::Fact(fact) => PartWords {
+            part: 1,
+            number: fact as u64,
+        },
+    }
+}
 
 fn row(tag: u64, a: u64, b: u64, c: u64, d: u64) -> Answer
     ensures { λ r. ⌜ r .word ≡ tag ∷ a ∷ b ∷ c ∷ d ∷ 0 ∷ 0 ∷ 0 ∷ [] ⌝ }
@@ -66,7 +85,11 @@ pub extern "C" fn larkhammock_run(problem: &[u8], plan: &[u8], state: u64) -> An
         RunAnswer::Ended(outcome) => match outcome {
             Outcome::Reached => row(1, 0, 0, 0, 0),
             Outcome::Missed => row(2, 0, 0, 0, 0),
-            Outcome::Blocked(stop) => row(3, stop.step as u64, MEMBER, stop.member as u64, 0),
+            Outcome::Blocked(stop) => {
+                let part = stop.part;
+                let n = named(part);
+                row(3, stop.step as u64, n.part, n.number, 0)
+            }
         },
     }
 }
@@ -79,10 +102,11 @@ fn wrong(visits: u64, state: u64, outcome: Outcome) -> Answer
         Outcome::Reached => row(2, visits, state, 1, 0),
         Outcome::Missed => row(2, visits, state, 2, 0),
         Outcome::Blocked(stop) => {
+            let part = stop.part;
+            let n = named(part);
             let step = stop.step as u64;
-            let member = stop.member as u64;
             Answer {
-                word: [2, visits, state, 3, step, MEMBER, member, 0],
+                word: [2, visits, state, 3, step, n.part, n.number, 0],
             }
         }
     }

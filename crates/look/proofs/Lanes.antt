@@ -12,7 +12,7 @@ use lib.Bits.{bitAnd, bitXor}
 use Rattle.model.specs.Kleene.{Kleene, No, Unknown, Yes, isYes, three}
 use Rattle.model.specs.Formula.{eval}
 use Rattle.model.specs.Action.{Action, applicable, step}
-use Rattle.model.specs.Run.{unmet, holdsIn, Stop, reached, missed, blocked, atEnd, goesOn, run}
+use Rattle.model.specs.Run.{partOf, Stop, reached, missed, blocked, atEnd, goesOn, run}
 use Rattle.model.specs.Run as Run
 use Rattle.model.specs.Case.{Task}
 use Rattle.model.specs.Walk as Walk
@@ -24,8 +24,10 @@ use Rattle.model.proofs.Laws.Planes.{ones, bit-and, bit-zero, bit-flip}
 use Rattle.evaluate.specs.declared.Planes.{Planes}
 use Rattle.evaluate.specs.Planes.{FormulaPlanes}
 use Rattle.table.specs.Tables.{Sized}
-use Rattle.step.specs.Actions.{flag, ObeysAction}
-use Rattle.step.proofs.Obeying.{sure-flag}
+use Rattle.step.specs.declared.conflict.Going.{Going}
+use Rattle.step.specs.Conflicts.{flag}
+use Rattle.step.specs.Actions.{ObeysAction}
+use Rattle.step.proofs.Conflicts.{sure-flag}
 use Rattle.look.specs.declared.Looks.{Looks}
 use Rattle.look.specs.Cases.{reachedBit, RunsCases, lookBits, LooksAtCases}
 
@@ -57,7 +59,7 @@ runFrom T i v = run three (T .facts) (T .goal) (drop i (T .plan)) i v
 
 -- where it is blocked if step i is not applicable
 abbrev pub stopAt : Task → ℕ → List Kleene → Stop
-stopAt T i v = record { step = i; member = unmet (holdsIn three v) (actionAt (T .plan) i .precondition) }
+stopAt T i v = record { step = i; part = partOf three (T .facts) (actionAt (T .plan) i) v }
 
 abbrev pub after : Task → ℕ → List Kleene → List Kleene
 after T i v = step three (T .facts) (actionAt (T .plan) i) v
@@ -91,13 +93,13 @@ module _ (problem steps actions : List ℕ) (goal i : ℕ) where
 
   -- step i, whose slot the plan names: the lanes in which it is applicable, the table after it, and what it leaves of a run
   pub turned :
-      i < length steps → (slot : ℕ) → slot ≡ getD steps i 0 % 64 → (alive alive′ : ℕ) (d d′ : List ℕ) → ObeysAction problem (getD actions slot 0) d alive d′ alive′ →
+      i < length steps → (slot : ℕ) → slot ≡ getD steps i 0 % 64 → (alive : ℕ) (going : Going) (d d′ : List ℕ) → ObeysAction problem (getD actions slot 0) d alive d′ going →
       (initial : ℕ) (T : Task) → TaskStands problem steps actions initial goal T → (now′ : ℕ → List Kleene) → Sized (T .facts) now′ → Table d now′ →
-      ((j : ℕ) → j < 64 → laneBit j alive′ ≡ min (laneBit j alive) (flag (applicable three (actionAt (T .plan) i) (now′ j)))) ×
-      ((alive′ ≡ 0 → ⊥) → Table d′ (λ j. after T i (now′ j))) ×
-      ((v : List Kleene) → runFrom T i v ≡ goesOn (applicable three (actionAt (T .plan) i) v) (runFrom T (suc i) (after T i v)) (stopAt T i v))
+      ((j : ℕ) → j < 64 → laneBit j (going .lanes) ≡ min (laneBit j alive) (flag (applicable three (T .facts) (actionAt (T .plan) i) (now′ j)))) ×
+      ((going .lanes ≡ 0 → ⊥) → Table d′ (λ j. after T i (now′ j))) ×
+      ((v : List Kleene) → runFrom T i v ≡ goesOn (applicable three (T .facts) (actionAt (T .plan) i) v) (runFrom T (suc i) (after T i v)) (stopAt T i v))
   unfolding run
-  turned more slot named alive alive′ d d′ O initial T S now′ y u =
+  turned more slot named alive going d d′ O initial T S now′ y u =
       let (q, at) = acting-at more slot named initial T S in
       let (bits, later) = O .is (T .facts) (actionAt (T .plan) i) q (omega (arith, S .most)) at now′ y u in
       (bits, later, λ v. ap (λ (w : List Action). run three (T .facts) (T .goal) w i v) (drop-action (T .plan) i (omega (arith, S .counted))))
@@ -127,28 +129,28 @@ running-begins problem steps actions goal lanes c w =
 
 module _ (problem steps actions : List ℕ) (goal lanes : ℕ) (c : List ℕ) (i alive : ℕ) (d : List ℕ) (R : Running problem steps actions goal lanes c i alive d) where
   module _ (more : i < length steps) (slot : ℕ) (named : slot ≡ getD steps i 0 % 64)
-      (alive′ : ℕ) (d′ : List ℕ) (O : ObeysAction problem (getD actions slot 0) d alive d′ alive′) where
+      (going : Going) (d′ : List ℕ) (O : ObeysAction problem (getD actions slot 0) d alive d′ going) where
     obeyed :
         (initial : ℕ) (T : Task) → TaskStands problem steps actions initial goal T → (case : ℕ → List Kleene) → Sized (T .facts) case → Table c case →
-        (now′ : ℕ → List Kleene) × ((alive′ ≡ 0 → ⊥) → Table d′ (λ j. after T i (now′ j))) ×
-        ((j : ℕ) → j < 64 → min (laneBit j lanes) (reachedBit (runFrom T 0 (case j))) ≡ min (laneBit j alive′) (reachedBit (runFrom T (suc i) (after T i (now′ j)))))
+        (now′ : ℕ → List Kleene) × ((going .lanes ≡ 0 → ⊥) → Table d′ (λ j. after T i (now′ j))) ×
+        ((j : ℕ) → j < 64 → min (laneBit j lanes) (reachedBit (runFrom T 0 (case j))) ≡ min (laneBit j (going .lanes)) (reachedBit (runFrom T (suc i) (after T i (now′ j)))))
     obeyed initial T S case z t =
         let (now′, y, u, e) = R .is initial T S case z t in
-        let (bits, later, turn) = turned problem steps actions goal i more slot named alive alive′ d d′ O initial T S now′ y u in
-        (now′, later, λ j l. e j l ∙ turn-bit (laneBit j alive) (laneBit j alive′) _ _ _ _ (turn (now′ j)) (bits j l))
+        let (bits, later, turn) = turned problem steps actions goal i more slot named alive going d d′ O initial T S now′ y u in
+        (now′, later, λ j l. e j l ∙ turn-bit (laneBit j alive) (laneBit j (going .lanes)) _ _ _ _ (turn (now′ j)) (bits j l))
 
     -- no lane goes on
-    pub running-stops : alive′ ≡ 0 → RunsCases problem steps actions goal lanes c 0
+    pub running-stops : going .lanes ≡ 0 → RunsCases problem steps actions goal lanes c 0
     running-stops e =
         record {
           is =
               λ initial T S case z t j l.
               let (now′, later, eq) = obeyed initial T S case z t in
-              let k : laneBit j alive′ ≡ 0 = ap (laneBit j) e ∙ bit-zero j in
+              let k : laneBit j (going .lanes) ≡ 0 = ap (laneBit j) e ∙ bit-zero j in
               bit-zero j ∙ sym (eq j l ∙ rw k (omega arith));
         }
 
-    pub running-next : (alive′ ≡ 0 → ⊥) → Running problem steps actions goal lanes c (i + 1) alive′ d′
+    pub running-next : (going .lanes ≡ 0 → ⊥) → Running problem steps actions goal lanes c (i + 1) (going .lanes) d′
     running-next n =
         record {
           size = O .size;

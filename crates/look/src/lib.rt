@@ -30,7 +30,7 @@ fn run_cases(
     let mut i: usize = 0;
     while i < steps.len() {
         let slot = wide(steps[i] % 64);
-        alive = obey_action(
+        let going = obey_action(
             problem,
             actions[slot],
             &mut current,
@@ -38,6 +38,7 @@ fn run_cases(
             &mut literals,
             alive,
         );
+        alive = going.lanes;
         if alive == 0 {
             return 0;
         }

@@ -8,8 +8,11 @@ use Rattle.model.specs.Answer as Answer
 use Rattle.model.specs.ProblemBytes.{problem, problemOf, plan, planOf, encodeProblem, encodePlan}
 use Rattle.model.specs.ListBytes.{encodeList}
 use Rattle.model.specs.Operations.{readTask, listFor, writeList}
+use Rattle.model.specs.Kleene.{two, three}
+use Rattle.model.specs.Action.{OrderFree}
 use Rattle.model.specs.WellFormed.{Sensible}
 use Rattle.model.specs.Demands.{Demand1, Demands}
+use Rattle.model.proofs.Laws.Conflicts.{order-free-two, order-free-three}
 use Rattle.model.proofs.Laws.Reading.{answer-got}
 use Rattle.model.proofs.Laws.ProblemCodec.{problem-gives, problem-ok, plan-gives, plan-ok}
 use Rattle.model.proofs.Laws.ListCodec.{list-sound, list-ok}
@@ -54,3 +57,7 @@ version1-sensible = omega arith
 
 pub version1-holds : Demands version1
 version1-holds = demands-hold version1 version1-sensible
+
+-- document 004's assumption, in states and in cases
+pub order-free : OrderFree two × OrderFree three
+order-free = (order-free-two, order-free-three)

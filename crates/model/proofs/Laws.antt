@@ -1,4 +1,5 @@
 pub mod Tabulate
+pub mod Conflicts
 pub mod Agreement
 pub mod Held
 pub mod Planes

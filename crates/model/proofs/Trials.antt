@@ -7,12 +7,12 @@ use Rattle.model.specs.Limits.{version1}
 use Rattle.model.specs.Walk.{Line, Verdict, walked}
 use Rattle.model.specs.DeskText.{verdictLine, verdictRest}
 use Rattle.model.specs.Operations.{lineCount}
-use Rattle.model.specs.Trials.{Row, reply, P-no-start, starred, NoStart, edges, DeskGrant, unmet-members}
+use Rattle.model.specs.Trials.{Row, reply, P-no-start, starred, NoStart, edges, DeskGrant, unmet-members, conflicts}
 use Rattle.model.proofs.Laws.Tasks.{task-fits}
 use Rattle.model.proofs.Laws.Judging.{judged-in, judged-out}
 use Rattle.model.proofs.Laws.NoStart.{no-start}
 
-abbrev Hold : List Row → Type 0
+abbrev pub Hold : List Row → Type 0
 Hold rows = map (λ r. reply (r .call)) rows ≡ map (λ r. r .gives) rows
 
 pub starred-hold : Hold starred
@@ -26,6 +26,10 @@ edges-hold = refl
 pub members-hold : Hold unmet-members
 unfolding reply
 members-hold = refl
+
+pub conflicts-hold : Hold conflicts
+unfolding reply
+conflicts-hold = refl
 
 pub no-start-holds : NoStart
 unfolding reply

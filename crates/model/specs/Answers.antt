@@ -6,6 +6,8 @@ use Rattle.model.specs.Run as Run
 use Rattle.model.specs.Walk.{Verdict, right, wrong, undecided}
 use Rattle.model.specs.Operations.{Counts}
 use Rattle.model.specs.declared.Refusal.{Refusal}
+use Rattle.model.specs.declared.Part.{Part}
+use Rattle.model.specs.declared.Part.the-variants.{Member, Fact}
 use Rattle.model.specs.declared.Outcome.{Outcome}
 use Rattle.model.specs.declared.Outcome.the-variants.{Reached, Missed, Blocked}
 use Rattle.model.specs.declared.ProblemAnswer.{ProblemAnswer}
@@ -35,11 +37,16 @@ abbrev pub planAnswer : PlanAnswer → Answer ℕ
 planAnswer (PlanRefused r) = refusal r
 planAnswer (PlanAccepted n) = answered n
 
--- "reached, missed, or blocked with its step", and its member
+-- "a member number" (W-201), or "the lowest such fact instead of a member" (W-202)
+abbrev pub part : Part → Run.Part
+part (Member m) = Run.atMember m
+part (Fact f) = Run.atFact f
+
+-- "reached, missed, or blocked with its step", and its part
 abbrev pub outcome : Outcome → Run.Outcome
 outcome Reached = Run.reached
 outcome Missed = Run.missed
-outcome (Blocked s) = Run.blocked (record { step = s .step; member = s .member })
+outcome (Blocked s) = Run.blocked (record { step = s .step; part = part (s .part) })
 
 abbrev pub runAnswer : RunAnswer → Answer Run.Outcome
 runAnswer (RunRefused r) = refusal r

@@ -7,7 +7,7 @@ use lib.Dec.{ltb, leb}
 use Rattle.model.specs.declared.Limits.{Limits}
 use Rattle.model.specs.Answer.{Answer, refused, answered}
 use Rattle.model.specs.Action.{tabulate}
-use Rattle.model.specs.Run.{Outcome, reached, missed, blocked}
+use Rattle.model.specs.Run.{Part, atMember, atFact, Outcome, reached, missed, blocked}
 use Rattle.model.specs.Case.{bit, Task}
 use Rattle.model.specs.Walk.{Line, Verdict, right, wrong, undecided, judged}
 use Rattle.model.specs.Operations.{lineCount, readTask}
@@ -49,11 +49,16 @@ refusalLine number place = sentence (ascii "refused" ∷ blockText number ∷ de
 unfoldable pub rightLine : ℕ → ℕ → List ℕ
 rightLine lines a = sentence (ascii "right" ∷ ascii "lines" ∷ decimal lines ∷ ascii "visited" ∷ decimal a ∷ [])
 
+-- "member 0" (W-201) or "fact 2" (W-202)
+abbrev pub partText : Part → List (List ℕ) → List (List ℕ)
+partText (atMember m) rest = ascii "member" ∷ decimal m ∷ rest
+partText (atFact f) rest = ascii "fact" ∷ decimal f ∷ rest
+
 -- "at end", or "at step 0 member 0" for a block (W-201)
 abbrev pub whereText : Outcome → List (List ℕ) → List (List ℕ)
 whereText reached rest = ascii "at" ∷ ascii "end" ∷ rest
 whereText missed rest = ascii "at" ∷ ascii "end" ∷ rest
-whereText (blocked s) rest = ascii "at" ∷ ascii "step" ∷ decimal (s .step) ∷ ascii "member" ∷ decimal (s .member) ∷ rest
+whereText (blocked s) rest = ascii "at" ∷ ascii "step" ∷ decimal (s .step) ∷ partText (s .part) rest
 
 -- "Wrong is "wrong 010 at end visited 5"": the state's values over n facts
 unfoldable pub wrongLine : Limits → ℕ → ℕ → Outcome → ℕ → List ℕ

@@ -63,7 +63,7 @@ module _ (F : Limits) where
     answered (taskOf p steps)
 
   -- "Run one state. Problem, plan; 40 .. The state need not be a start state. Answer: reached, missed, or blocked with its step." A
-  -- block also carries its member (W-201).
+  -- block also carries its member (W-201), or its fact (W-202).
   unfoldable pub runState : List ℕ → List ℕ → ℕ → Answer Outcome
   runState problem plan s = do
     T ← readTask problem plan

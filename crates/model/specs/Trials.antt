@@ -2,14 +2,13 @@
 -- document 02 add: a call and what it gives. What no row can say, for every plan or for walks of a million visits, is a statement beside the tables.
 use mathlib.Core.Path.{_≡_}
 use mathlib.Core.List.{List, [], _∷_, _++_}
-use Prim.Native.Nat.{ℕ, zero, suc, _+_, _≤_, _<_}
-use Prim.Native.String.{String}
+use Prim.Native.Nat.{ℕ, _≤_, _<_}
 use lib.ListN.{length, drop, replicate}
 use Rattle.model.specs.declared.Limits.{Limits}
 use Rattle.model.specs.Limits.{version1}
 use Rattle.model.specs.Formula.{eval}
-use Rattle.model.specs.Action.{conditionIn, applicable, next, step}
-use Rattle.model.specs.Run.{firstFalse, unmet, Outcome, reached, missed, blocked, goesOn, run}
+use Rattle.model.specs.Action.{conditionIn, every, exclusive, applicable, next, step}
+use Rattle.model.specs.Run.{firstFalse, unmet, lowestFalse, atMember, atFact, partOf, Outcome, reached, missed, blocked, goesOn, run}
 use Rattle.model.specs.Case.{bit, stateOf, caseOf, Task, runOf}
 use Rattle.model.specs.Walk.{visits, Verdict, right, wrong, undecided, walkFrom, walk, lookAt, walked, found, judged}
 use Rattle.model.specs.Answer as Answer
@@ -42,7 +41,7 @@ pub data Reply : Type 0 where
 
 -- what the definitions give; a proof that unfolds this computes with all of them
 unfoldable pub reply : Call → Reply
-unfolding eval conditionIn applicable next step firstFalse unmet goesOn run bit stateOf caseOf runOf walkFrom walk lookAt walked judged Answer._>>=_ first refuseAt ends fault follow andThen _>>=_ _>>_ done position require answerOf bigEndianFrom bytesOf block byte counted header count isLiteral literalOf groupHead headFrom head members whole item stated formula effect effects effectList action actions ending parts body problem problemOf steps plan planOf actionAt lineAt linesFrom caseList listOf lineBytes linesBytes encodeList isState readProblem readPlan taskOf readTask runState judge listBytes linesFor written listFor writeList followList ascii hex digits decimal sentence marks refusalLine rightLine wrongLine undecidedLine verdictLine lineText linesText listText verdictRest answerLine answerRest firstLine laterLines deskText
+unfolding eval conditionIn every exclusive applicable next step firstFalse unmet lowestFalse partOf goesOn run bit stateOf caseOf runOf walkFrom walk lookAt walked judged Answer._>>=_ first refuseAt ends fault follow andThen _>>=_ _>>_ done position require answerOf bigEndianFrom bytesOf block byte counted header count isLiteral literalOf groupHead headFrom head members whole item stated formula effect effects effectList action actions ending parts body problem problemOf steps plan planOf actionAt lineAt linesFrom caseList listOf lineBytes linesBytes encodeList isState readProblem readPlan taskOf readTask runState judge listBytes linesFor written listFor writeList followList ascii hex digits decimal sentence marks refusalLine rightLine wrongLine undecidedLine verdictLine lineText linesText listText verdictRest answerLine answerRest firstLine laterLines deskText
 reply (read-problem p) = counts (readProblem version1 p)
 reply (read-plan p q) = number (readPlan version1 p q)
 reply (run-state p q s) = outcome (runState version1 p q s)
@@ -85,10 +84,10 @@ P-no-start =
 abbrev both-steps : List ℕ
 both-steps = hex "01 00000002 00 01"
 
-abbrev step-0 : List ℕ
+abbrev pub step-0 : List ℕ
 step-0 = hex "01 00000001 00"
 
-abbrev no-step : List ℕ
+abbrev pub no-step : List ℕ
 no-step = hex "01 00000000"
 
 -- "Its list", "its last line split into 10 and 11", "Last line dropped", "Last two swapped", "First line with kind 1"
@@ -108,7 +107,7 @@ swapped-list = hex "01 00000018 00 02 000000000000 01 01 800000000000 01 02 4000
 abbrev other-kind : List ℕ
 other-kind = hex "01 00000018 01 02 000000000000 01 02 400000000000 01 01 800000000000"
 
-abbrev grant : ℕ
+abbrev pub grant : ℕ
 grant = 1000000
 
 abbrev wrote : ℕ → List ℕ → Reply
@@ -127,7 +126,7 @@ starred =
     ∷ (judge-with P no-step grant ⇒ verdict (answered (wrong 0x400000000000 missed 5)))
     ∷ (judge-with P both-steps 4 ⇒ verdict (answered (undecided 4)))
     ∷ (judge-with P both-steps 0 ⇒ verdict (answered (undecided 0)))
-    ∷ (judge-with P-guarded both-steps grant ⇒ verdict (answered (wrong 0x400000000000 (blocked (record { step = 0; member = 0 })) 5)))
+    ∷ (judge-with P-guarded both-steps grant ⇒ verdict (answered (wrong 0x400000000000 (blocked (record { step = 0; part = atMember 0 })) 5)))
     ∷ (judge-with P-goal no-step grant ⇒ verdict (answered (right 1 1)))
     ∷ (judge-with P-no-start both-steps grant ⇒ verdict (answered (right 1 1)))
     ∷ (write-list version1 P-no-start both-steps grant (replicate 13 0) ⇒ wrote 13 (hex "01 00000008 00 00 000000000000"))
@@ -147,50 +146,22 @@ NoStart =
     writeList version1 P-no-start plan g out ≡ record { answer = answered 13; buffer = hex "01 00000008 00 00 000000000000" ++ drop 13 out })
 
 -- a block with this body
-abbrev block1 : List ℕ → List ℕ
+abbrev pub block1 : List ℕ → List ℕ
 block1 bytes = block 1 bytes
 
-abbrev accepts : ℕ → ℕ → Reply
+abbrev pub accepts : ℕ → ℕ → Reply
 accepts n m = counts (answered (record { facts = n; actions = m }))
 
-abbrev refuses : ℕ → ℕ → Reply
+abbrev pub refuses : ℕ → ℕ → Reply
 refuses n q = counts (refused n q)
 
 -- a problem of one fact whose initial formula has these bytes, length included
-abbrev initially : List ℕ → List ℕ
+abbrev pub initially : List ℕ → List ℕ
 initially f = block1 (hex "01 00" ++ (f ++ hex "0001 00"))
 
 -- a problem of one fact and one action with this effect count and these effects
 abbrev acting : List ℕ → List ℕ
 acting e = block1 (hex "01 01 0001 00 0001 00 0001 00" ++ e)
-
--- so many effects, each on condition fact 0, from a literal byte on
-abbrev rising : ℕ → ℕ → List ℕ
-rising zero b = []
-rising (suc n) b = b ∷ 0 ∷ 1 ∷ 0 ∷ rising n (b + 1)
-
--- so many actions with precondition fact 0 and no effect
-abbrev idle : ℕ → List ℕ
-idle zero = []
-idle (suc n) = 0 ∷ 1 ∷ 0 ∷ 0 ∷ idle n
-
--- 48 facts, one action that sets fact 47 always, and 256 steps of it
-abbrev wide : List ℕ
-wide = block1 (hex "30 01 0002 80 00 0001 2f 0002 80 00 01 2f 0002 80 00")
-
-abbrev long-plan : ℕ → List ℕ
-long-plan n = block 1 (replicate n 0)
-
--- 48 facts that are all true at the start, and no action
-abbrev deep : List ℕ
-deep =
-    block1
-    (hex "30 00 0032 80 30 00 01 02 03 04 05 06 07 08 09 0a 0b 0c 0d 0e 0f 10 11 12 13 14 15 16 17" ++
-    hex "18 19 1a 1b 1c 1d 1e 1f 20 21 22 23 24 25 26 27 28 29 2a 2b 2c 2d 2e 2f 0001 2f")
-
--- "An action that always sets and always clears 2", in P
-abbrev P-both : List ℕ
-P-both = hex "01 0000001d 03 01 0007 80 02 81 02 00 01 42 0001 02 0002 80 00 02 02 0002 80 00 42 0002 80 00"
 
 -- a version whose lists have two lines at most: 52 and "list too long" with few lines
 abbrev two-lines : Limits
@@ -208,32 +179,11 @@ two-lines =
 abbrev lines : List ℕ → List ℕ
 lines bytes = block 1 bytes
 
--- an "any" of 255 members
-abbrev 81ff : List ℕ
-81ff = hex "81 ff" ++ replicate 255 0
-
 -- nine facts that are all true at the start, and no action
 abbrev nine : List ℕ
 nine = block1 (hex "09 00 000b 80 09 00 01 02 03 04 05 06 07 08 0001 08")
 
--- six facts; initial: any of 2, 3; goal: any of 5, not 5, which reads unknown until fact 5 is fixed; two actions without effects, of
--- which action 1 is not applicable where all six are true
-abbrev bushy : List ℕ
-bushy = block1 (hex "06 02 0004 81 02 02 03 0004 81 02 05 45 0002 80 00 00 0008 81 06 40 41 42 43 44 45 00")
-
--- a "carries" line with the values v and each of the endings
-abbrev carrying : String → List String → List ℕ
-carrying v [] = []
-carrying v (e ∷ es) = ascii "carries " ++ (ascii v ++ (ascii e ++ (ascii "\n" ++ carrying v es)))
-
--- the thirteen lines of `bushy`, with no step, whose first two values are v
-abbrev quarter : String → List ℕ
-quarter v =
-    ascii "no-start " ++
-    (ascii v ++ (ascii "00??\n" ++
-    carrying v ("0100" ∷ "0101" ∷ "0110" ∷ "0111" ∷ "1000" ∷ "1001" ∷ "1010" ∷ "1011" ∷ "1100" ∷ "1101" ∷ "1110" ∷ "1111" ∷ [])))
-
--- each refusal in the order of its number, and the call just inside its edge
+-- each refusal in the order of its number, and the call just inside its edge; those of a format's full size are in the crate `trials`
 abbrev pub edges : List Row
 edges =
     -- 10 to 13
@@ -253,17 +203,13 @@ edges =
     ∷ (read-problem (block1 (hex "01 00 0001 00")) ⇒ refuses 14 10)
     ∷ (read-problem (block1 (hex "01 01 0001 00 0001 00 0001 00")) ⇒ refuses 14 16)
     ∷ (read-problem (acting (hex "01")) ⇒ refuses 14 17)
-    -- 15, 16
+    -- 15
     ∷ (read-problem (block1 (hex "00 00 0001 00 0001 00")) ⇒ refuses 15 5)
     ∷ (read-problem (block1 (hex "31 00 0001 00 0001 00")) ⇒ refuses 15 5)
     ∷ (read-problem (block1 (hex "30 00 0001 2f 0001 6f")) ⇒ accepts 48 0)
-    ∷ (read-problem (block1 (hex "01 41 0001 00 0001 00" ++ idle 65)) ⇒ refuses 16 6)
-    ∷ (read-problem (block1 (hex "01 40 0001 00 0001 00" ++ idle 64)) ⇒ accepts 1 64)
     -- 17
     ∷ (read-problem (initially (hex "0000")) ⇒ refuses 17 7)
     ∷ (read-problem (initially (hex "0001 00")) ⇒ accepts 1 0)
-    ∷ (read-problem (initially (hex "0400 80 04" ++ (81ff ++ (81ff ++ (81ff ++ (hex "81 f9" ++ replicate 249 0)))))) ⇒ accepts 1 0)
-    ∷ (read-problem (initially (hex "0401 80 04" ++ (81ff ++ (81ff ++ (81ff ++ (hex "81 fa" ++ replicate 250 0)))))) ⇒ refuses 17 7)
     -- 18
     ∷ (read-problem (initially (hex "0001 01")) ⇒ refuses 18 9)
     ∷ (read-problem (initially (hex "0001 40")) ⇒ accepts 1 0)
@@ -286,7 +232,6 @@ edges =
     ∷ (read-problem (initially (hex "0003 80 00 00")) ⇒ refuses 21 11)
     -- 22
     ∷ (read-problem (acting (hex "61")) ⇒ refuses 22 16)
-    ∷ (read-problem (block1 (hex "30 01 0001 00 0001 00 0001 00 60" ++ (rising 48 0 ++ rising 48 64))) ⇒ accepts 48 1)
     -- 23, then 24
     ∷ (read-problem (acting (hex "01 01 0001 00")) ⇒ refuses 23 17)
     ∷ (read-problem (acting (hex "01 41 0001 00")) ⇒ refuses 23 17)
@@ -299,7 +244,7 @@ edges =
     ∷ (read-problem (block1 (hex "01 00 0001 00 0001 00")) ⇒ accepts 1 0)
     -- 30 to 34, after the problem's
     ∷ (read-plan P (replicate 262 0) ⇒ number (refused 30 261))
-    ∷ (read-plan P (long-plan 256) ⇒ number (answered 256))
+    ∷ (read-plan P (block1 (replicate 256 0)) ⇒ number (answered 256))
     ∷ (read-plan P (hex "01 0000") ⇒ number (refused 31 3))
     ∷ (read-plan P (hex "02 00000000") ⇒ number (refused 32 0))
     ∷ (read-plan P (hex "01 00000001") ⇒ number (refused 33 1))
@@ -311,8 +256,7 @@ edges =
     ∷ (run-state P both-steps 0x100000000000 ⇒ outcome (refused 40 0))
     ∷ (run-state P both-steps 0x1000000000000 ⇒ outcome (refused 40 0))
     ∷ (run-state P both-steps 0 ⇒ outcome (answered missed))
-    ∷ (run-state P-guarded both-steps 0 ⇒ outcome (answered (blocked (record { step = 0; member = 0 }))))
-    ∷ (run-state P-both step-0 0 ⇒ outcome (answered reached))
+    ∷ (run-state P-guarded both-steps 0 ⇒ outcome (answered (blocked (record { step = 0; part = atMember 0 }))))
     ∷ (run-state P [] 0 ⇒ outcome (refused 31 0))
     -- 50 to 53: no byte of the buffer is changed
     ∷ (write-list version1 P both-steps 4 (replicate 29 7) ⇒ kept 50 4 (replicate 29 7))
@@ -338,9 +282,6 @@ edges =
     ∷ (follow-list P both-steps (lines []) ⇒ number (refused 70 0))
     ∷ (follow-list P both-steps (lines (hex "00 03 000000000000 00 03 200000000000")) ⇒ number (refused 70 2))
     ∷ (follow-list P both-steps (the-list ++ hex "00") ⇒ number (refused 63 1))
-    -- 48 facts and 256 steps
-    ∷ (judge-with wide (long-plan 256) grant ⇒ verdict (answered (right 1 1)))
-    ∷ (judge-with deep no-step grant ⇒ verdict (answered (right 49 97)))
     -- the desk program
     ∷ (desk version1 P both-steps ⇒ text (ascii "right lines 3 visited 5\nno-start 00?\ncarries 01?\ncarries 1??\n"))
     ∷ (desk version1 P step-0 ⇒ text (ascii "wrong 010 at end visited 5\n"))
@@ -350,8 +291,6 @@ edges =
     -- its numbers of one, two and three digits
     ∷ (desk version1 P (hex "01 00000005 01 01 01 01 02") ⇒ text (ascii "refused plan 34 at 9\n"))
     ∷ (desk version1 nine no-step ⇒ text (ascii "right lines 10 visited 19\nno-start 0????????\nno-start 10???????\nno-start 110??????\nno-start 1110?????\nno-start 11110????\nno-start 111110???\nno-start 1111110??\nno-start 11111110?\nno-start 111111110\ncarries 111111111\n"))
-    ∷ (desk version1 bushy no-step ⇒ text (ascii "right lines 52 visited 103\n" ++ (quarter "00" ++ (quarter "01" ++ (quarter "10" ++ quarter "11")))))
-    ∷ (desk version1 bushy (hex "01 0000000b 00 00 00 00 00 00 00 00 00 00 01") ⇒ text (ascii "wrong 111111 at step 10 member 0 visited 103\n"))
     -- the last refusal of a problem, the first of a plan, and a list that just fits or is too long
     ∷ (desk version1 (block1 (hex "01 00 0001 00 0001 00 00")) [] ⇒ text (ascii "refused problem 25 at 13\n"))
     ∷ (desk version1 P (replicate 262 0) ⇒ text (ascii "refused plan 30 at 261\n"))
@@ -377,7 +316,7 @@ guards =
     hex "0008 80 03 00 81 02 01 02 03 00 0002 80 00 01 00 0002 80 00")
 
 abbrev blocks-at : ℕ → ℕ → Reply
-blocks-at i m = outcome (answered (blocked (record { step = i; member = m })))
+blocks-at i m = outcome (answered (blocked (record { step = i; part = atMember m })))
 
 -- a block's member (document 02, W-201): the second and the third of an "all", the first of several, none; an "any", a literal, an
 -- empty "any"; an "any" in an "all"; in the state before a later step; and what judge and desk program make of it
@@ -392,6 +331,44 @@ unmet-members =
     ∷ (run-state guards (block1 (3 ∷ [])) 0xf00000000000 ⇒ blocks-at 0 0)
     ∷ (run-state guards (block1 (4 ∷ [])) 0x900000000000 ⇒ blocks-at 0 1)
     ∷ (run-state guards (block1 (5 ∷ 0 ∷ [])) 0x400000000000 ⇒ blocks-at 1 2)
-    ∷ (judge-with guards (block1 (5 ∷ 0 ∷ [])) grant ⇒ verdict (answered (wrong 0 (blocked (record { step = 1; member = 1 })) 5)))
+    ∷ (judge-with guards (block1 (5 ∷ 0 ∷ [])) grant ⇒ verdict (answered (wrong 0 (blocked (record { step = 1; part = atMember 1 })) 5)))
     ∷ (desk version1 guards (block1 (5 ∷ 0 ∷ [])) ⇒ text (ascii "wrong 0000 at step 1 member 1 visited 5\n"))
+    ∷ []
+
+-- "An action that always sets and always clears 2", in P
+abbrev P-both : List ℕ
+P-both = hex "01 0000001d 03 01 0007 80 02 81 02 00 01 42 0001 02 0002 80 00 02 02 0002 80 00 42 0002 80 00"
+
+-- three facts, of which 0 is false at the start, and no goal; actions: 0 sets and clears 1 and 2, 1 sets and clears 2 where 1 is true;
+-- 2 sets and clears 1 if 0 is true; 3 sets 0; 4 sets 2 if 1 is true and clears it if not; 5 clears 1
+abbrev stalls : List ℕ
+stalls =
+    block1
+    (hex "03 06 0001 40 0002 80 00 0002 80 00 04 01 0002 80 00 02 0002 80 00 41 0002 80 00 42 0002 80 00" ++
+    (hex "0001 01 02 02 0002 80 00 42 0002 80 00 0002 80 00 02 01 0001 00 41 0001 00" ++
+    hex "0002 80 00 01 00 0002 80 00 0002 80 00 02 02 0001 01 42 0001 41 0002 80 00 01 41 0002 80 00"))
+
+abbrev pub stalls-at : ℕ → ℕ → Outcome
+stalls-at i f = blocked (record { step = i; part = atFact f })
+
+-- an action that sets and clears a fact (document 02, W-202): "The last trial problem becomes a block"; the lower of two facts;
+-- "an unmet precondition comes first"; a fact that is false, and one that is true already; conditions that are true in no start state, and
+-- after a step that makes them so; a case in which the pair reads unknown is open and its parts close; set or clear alone
+abbrev pub conflicts : List Row
+conflicts =
+    (run-state P-both step-0 0 ⇒ outcome (answered (stalls-at 0 2)))
+    ∷ (judge-with P-both step-0 grant ⇒ verdict (answered (wrong 0x400000000000 (stalls-at 0 2) 5)))
+    ∷ (desk version1 P-both step-0 ⇒ text (ascii "wrong 010 at step 0 fact 2 visited 5\n"))
+    ∷ (run-state stalls (block1 (0 ∷ [])) 0 ⇒ outcome (answered (stalls-at 0 1)))
+    ∷ (run-state stalls (block1 (1 ∷ [])) 0 ⇒ blocks-at 0 0)
+    ∷ (run-state stalls (block1 (1 ∷ [])) 0x400000000000 ⇒ outcome (answered (stalls-at 0 2)))
+    ∷ (run-state stalls (block1 (1 ∷ [])) 0x600000000000 ⇒ outcome (answered (stalls-at 0 2)))
+    ∷ (run-state stalls (block1 (2 ∷ [])) 0x800000000000 ⇒ outcome (answered (stalls-at 0 1)))
+    ∷ (judge-with stalls (block1 (2 ∷ [])) grant ⇒ verdict (answered (right 2 3)))
+    ∷ (run-state stalls (block1 (3 ∷ 2 ∷ [])) 0 ⇒ outcome (answered (stalls-at 1 1)))
+    ∷ (judge-with stalls (block1 (3 ∷ 2 ∷ [])) grant ⇒ verdict (answered (wrong 0 (stalls-at 1 1) 4)))
+    ∷ (desk version1 stalls (block1 (4 ∷ [])) ⇒ text (ascii "right lines 3 visited 5\ncarries 00?\ncarries 01?\nno-start 1??\n"))
+    ∷ (follow-list stalls (block1 (4 ∷ [])) (lines (hex "01 02 000000000000 01 02 400000000000 00 01 800000000000")) ⇒ number (answered 3))
+    ∷ (follow-list stalls (block1 (4 ∷ [])) (lines (hex "01 01 000000000000 00 01 800000000000")) ⇒ number (refused 69 0))
+    ∷ (judge-with stalls (block1 (3 ∷ 5 ∷ [])) grant ⇒ verdict (answered (right 1 1)))
     ∷ []

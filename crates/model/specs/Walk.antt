@@ -67,7 +67,7 @@ lookEnd missed = opened
 lookEnd (blocked s) = opened
 
 -- "A case is empty if the initial formula reads no. It carries if it isn't empty, every precondition reads yes in turn, and the goal
--- reads yes."
+-- reads yes"; and "the "all" of each fact's two conditions must also read no at each step" (W-202): the run in three values is reached.
 abbrev pub lookOf : Kleene → Outcome → Look
 lookOf No r = closed empty
 lookOf Unknown r = lookEnd r

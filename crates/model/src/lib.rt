@@ -120,10 +120,17 @@ pub struct Refusal {
     pub number: u8,
 }
 
-// Where a run is blocked: the first step that is not applicable, from 0, and the first member of its precondition, from 0, that is false.
+// What keeps a step from being applicable: the first member of its precondition, from 0, that is false, or the lowest fact that it would
+// set and clear at once.
+pub enum Part {
+    Member(usize),
+    Fact(usize),
+}
+
+// Where a run is blocked: the first step that is not applicable, from 0, and which part of it.
 pub struct Stop {
     pub step: usize,
-    pub member: usize,
+    pub part: Part,
 }
 
 // How a run ends.

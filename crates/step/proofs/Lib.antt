@@ -1,4 +1,3 @@
 -- Laws of the definitions, for several functions' proofs.
-pub mod Settling
-pub mod Finding
+pub mod Conflicts
 pub mod Obeying

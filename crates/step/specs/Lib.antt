@@ -1,3 +1,3 @@
 -- What the functions of this crate answer, in the words of model/specs.
-pub mod Effects
+pub mod Conflicts
 pub mod Actions

@@ -2,7 +2,8 @@
 // tested again, and a step touches only the facts that its action names.
 
 pub mod action;
-pub mod effects;
+pub mod conflict;
 
 pub use action::obey_action;
+pub use conflict::Going;
 use numbers::wide;

@@ -3,11 +3,11 @@ ghost use mathlib.Core.List.{[], _∷_, _++_};
 ghost use Prim.Native.Nat.{_+_, _*_, _≤_};
 ghost use lib.ListN.{length};
 ghost use Rattle.model.specs.Read.{headBytes};
-ghost use Rattle.model.specs.Answers.{outcome as outcomeOf, judgeAnswer};
+ghost use Rattle.model.specs.Answers.{part as partOf, outcome as outcomeOf, judgeAnswer};
 ghost use Rattle.model.specs.DeskText.{refusalLine, wrongLine, kindText, lineText, tooLong};
 ghost use Rattle.lines.specs.Lines.{lineNumber};
 ghost use Rattle.model.specs.WellFormed.{Sensible};
-ghost use Rattle.text.specs.Written.{lineRoom, firstOf};
+ghost use Rattle.text.specs.Written.{lineRoom, partRoom, partLine, firstOf};
 ghost use Rattle.forms.specs.Written.{Put};
 use forms::put_form;
 use forms::put_marks;
@@ -15,6 +15,7 @@ use lines::read_line;
 use model::JudgeAnswer;
 use model::Limits;
 use model::Outcome;
+use model::Part;
 use model::Refusal;
 
 // The refusals of a plan are numbered from 30 on.
@@ -29,7 +30,18 @@ fn put_refusal(out: &mut [u8], refusal: Refusal) -> usize
     put_form(out, 0, b"refused plan A at B\n", number, refusal.place)
 }
 
-// A state's values, and where its run went wrong: at its end, or at the step that was blocked, and the member that is false there.
+// What a block names, a member or a fact, and the visits.
+fn put_part(out: &mut [u8], at: usize, part: Part, visits: u64) -> usize
+    requires { ⌜ at + partRoom ≤ length (now out) ⌝ }
+    ensures { λ r. ⌜ Put (now (out .entry)) at (partLine (partOf part) visits) r (now (out .exit)) ⌝ }
+{
+    match part {
+        Part::Member(member) => put_form(out, at, b"member A visited B\n", member as u64, visits),
+        Part::Fact(fact) => put_form(out, at, b"fact A visited B\n", fact as u64, visits),
+    }
+}
+
+// A state's values, and where its run went wrong: at its end, or at the step that was blocked, and by which part.
 fn put_wrong(
     out: &mut [u8],
     limits: Limits,
@@ -47,10 +59,9 @@ fn put_wrong(
         Outcome::Reached => put_form(out, q, b" at end visited A\n", visits, 0),
         Outcome::Missed => put_form(out, q, b" at end visited A\n", visits, 0),
         Outcome::Blocked(stop) => {
-            let step = stop.step as u64;
-            let member = stop.member as u64;
-            let w = put_form(out, q, b" at step A member ", step, 0);
-            put_form(out, w, b"A visited B\n", member, visits)
+            let w = put_form(out, q, b" at step A ", stop.step as u64, 0);
+            let part = stop.part;
+            put_part(out, w, part, visits)
         }
     }
 }

@@ -1,1 +1,2 @@
 pub mod Members
+pub mod Parts

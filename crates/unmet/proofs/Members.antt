@@ -10,8 +10,9 @@ use Rattle.model.specs.Kleene.{Kleene, No, Unknown, Yes, isYes, three}
 use Rattle.model.specs.Formula.{Formula, Formulas, none, more, eval}
 use Rattle.model.specs.Run.{firstFalse, unmet, holdsIn}
 use Rattle.model.specs.FormulaBytes.{Group, conjunction, disjunction, mark, memberCount, formulaBytes, memberBytes}
-use Rattle.model.specs.Planes.{laneBit, sureBit, Table}
+use Rattle.model.specs.Planes.{sureBit, Table}
 use Rattle.model.specs.Stands.{Span, Members}
+use Rattle.model.proofs.Laws.Planes.{low-bit}
 use Rattle.model.proofs.Laws.Reading.{split}
 use Rattle.evaluate.specs.declared.Planes.{Planes}
 use Rattle.evaluate.specs.Planes.{GroupPlanes}
@@ -19,10 +20,6 @@ use Rattle.evaluate.proofs.Evaluating.{join-unit, Item, leaf, nest, stated}
 use Rattle.unmet.specs.Members.{FirstFalse, UnmetMember}
 
 -- ---- one member
-
-pub low-bit : (x : ℕ) → laneBit 0 x ≡ x % 2
-unfolding laneBit
-low-bit x = ap (λ (y : ℕ). y % 2) (omega arith)
 
 -- what a member leaves of the count
 abbrev turns : Kleene → ℕ → ℕ

@@ -1,5 +1,6 @@
 //! The counterexample encoding of document 004, section 6: a satisfying
-//! assignment is a start state from which the plan fails (Lemma 4).
+//! assignment is a start state from which the plan fails (Lemma 4). A step fails
+//! also where a fact has both conditions true.
 
 use conformance::model::{Action, Formula, Kind, Literal, Problem};
 
@@ -34,7 +35,9 @@ pub fn encode(problem: &Problem, steps: &[u8]) -> Encoded {
     for step in steps {
         let action = &problem.actions[usize::from(*step)];
         fails.push(-cnf.formula(&action.precondition, &state));
-        state = cnf.after(action, &state);
+        let conditions = cnf.conditions(action, &state);
+        fails.extend(cnf.conflicts(&conditions));
+        state = cnf.after(&conditions, &state);
     }
     fails.push(-cnf.formula(&problem.goal, &state));
     cnf.clauses.push(fails);
@@ -91,19 +94,30 @@ impl Cnf {
         -self.all(members.into_iter().map(|m| -m).collect())
     }
 
-    /// Equation 2. A fact that the action does not name keeps its variable.
-    fn after(&mut self, action: &Action, state: &[Lit]) -> Vec<Lit> {
+    /// The set and the clear condition of each fact.
+    fn conditions(&mut self, action: &Action, state: &[Lit]) -> Vec<[Lit; 2]> {
         let mut conditions = vec![[-TRUE; 2]; state.len()];
         for effect in &action.effects {
             let Literal { fact, denied } = effect.literal;
             let condition = self.formula(&effect.condition, state);
             conditions[usize::from(fact)][usize::from(denied)] = condition;
         }
+        conditions
+    }
+
+    /// A literal for each fact that may be told both: true where it is.
+    fn conflicts(&mut self, conditions: &[[Lit; 2]]) -> Vec<Lit> {
+        let both = conditions.iter().map(|pair| self.all(pair.to_vec()));
+        both.filter(|conflict| *conflict != -TRUE).collect()
+    }
+
+    /// Equation 2. A fact that the action does not name keeps its variable.
+    fn after(&mut self, conditions: &[[Lit; 2]], state: &[Lit]) -> Vec<Lit> {
         let pairs = state.iter().zip(conditions);
         pairs
             .map(|(before, [set, clear])| {
                 let kept = self.all(vec![*before, -clear]);
-                self.any(vec![set, kept])
+                self.any(vec![*set, kept])
             })
             .collect()
     }

@@ -143,10 +143,10 @@ pub fn section() -> String {
 const ABOUT: &str = "
 ## Beside SAT solvers
 
-What one would take otherwise: the counterexample encoding of document 004, section 6 (Lemma 4), written as DIMACS by
-`rust/bench/src/sat.rs` and handed to `cadical` and to `minisat` as Debian has them. Times are of the whole way: encoding, writing the
-file, starting the solver, reading its answer. The last row is the start alone: a problem of one fact that is its own goal. Each
-solver's verdict was held to the judge's, and each counterexample was run.
+What one would take otherwise: the counterexample encoding of document 004, section 6 (Lemma 4), in which a step fails also where a fact
+has both conditions true, written as DIMACS by `rust/bench/src/sat.rs` and handed to `cadical` and to `minisat` as Debian has them. Times
+are of the whole way: encoding, writing the file, starting the solver, reading its answer. The last row is the start alone: a problem of
+one fact that is its own goal. Each solver's verdict was held to the judge's, and each counterexample was run.
 ";
 
 const VERDICT: &str = "\

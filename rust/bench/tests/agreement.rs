@@ -36,12 +36,12 @@ fn library(problem: &[u8], plan: &[u8], grant: u64) -> plain::Verdict {
             outcome: match outcome {
                 Outcome::Reached => plain::Outcome::Reached,
                 Outcome::Missed => plain::Outcome::Missed,
-                Outcome::Blocked {
-                    step,
-                    part: Part::Member(member),
-                } => plain::Outcome::Blocked {
+                Outcome::Blocked { step, part } => plain::Outcome::Blocked {
                     step: step as usize,
-                    member: member as usize,
+                    part: match part {
+                        Part::Member(member) => plain::Part::Member(member as usize),
+                        Part::Fact(fact) => plain::Part::Fact(fact as usize),
+                    },
                 },
             },
             visits,
@@ -49,18 +49,18 @@ fn library(problem: &[u8], plan: &[u8], grant: u64) -> plain::Verdict {
     }
 }
 
-/// Holds each judge in plain Rust to the library; the member that their verdict
+/// Holds each judge in plain Rust to the library; the part that their verdict
 /// names, where it tells of a block.
-fn agree(problem: &[u8], plan: &[u8], grant: u64, what: &str) -> Option<usize> {
+fn agree(problem: &[u8], plan: &[u8], grant: u64, what: &str) -> Option<plain::Part> {
     let verdict = library(problem, plan, grant);
     for (name, judge) in JUDGES {
         assert_eq!(judge(problem, plan, grant), verdict, "{name}, {what}");
     }
     match verdict {
         plain::Verdict::Wrong {
-            outcome: plain::Outcome::Blocked { member, .. },
+            outcome: plain::Outcome::Blocked { part, .. },
             ..
-        } => Some(member),
+        } => Some(part),
         _ => None,
     }
 }
@@ -68,7 +68,7 @@ fn agree(problem: &[u8], plan: &[u8], grant: u64, what: &str) -> Option<usize> {
 #[test]
 fn plain_judges_judge_and_refuse_alike() {
     let mut rng = Rng::new(0xbe7c);
-    let mut members = BTreeSet::new();
+    let mut parts = BTreeSet::new();
     for round in 0..20_000 {
         let case = match round % 2 {
             0 => sound_case(&mut rng, &VERSION_1),
@@ -76,13 +76,17 @@ fn plain_judges_judge_and_refuse_alike() {
         };
         for grant in [case.grant.min(2_000), 2_000] {
             let what = format!("round {round}");
-            members.extend(agree(&case.problem, &case.plan, grant, &what));
+            parts.extend(agree(&case.problem, &case.plan, grant, &what));
         }
     }
     for measured in problems::for_solvers() {
         agree(&measured.problem, &measured.plan, 1 << 16, &measured.name);
     }
-    assert!((0..4).all(|m| members.contains(&m)), "members {members:?}");
+    for number in 0..4 {
+        for part in [plain::Part::Member(number), plain::Part::Fact(number)] {
+            assert!(parts.contains(&part), "{part:?} in {parts:?}");
+        }
+    }
 }
 
 /// Whether the clauses hold once the start facts have these values: every other
@@ -121,11 +125,12 @@ fn holds(cnf: &Cnf, start: &[Lit], facts: &[bool]) -> bool {
     }
 }
 
-/// Lemma 4: the satisfying assignments are the counterexamples.
+/// Lemma 4: the satisfying assignments are the counterexamples, a conflict
+/// included.
 #[test]
 fn satisfying_assignments_are_counterexamples() {
     let mut rng = Rng::new(0x5a7);
-    let (mut some, mut none) = (0, 0);
+    let (mut some, mut none, mut conflicts) = (0, 0, 0);
     for _ in 0..300 {
         let case = sound_case(&mut rng, &VERSION_1);
         let problem = oracle::read_problem(&case.problem).expect("the case is sound");
@@ -134,15 +139,21 @@ fn satisfying_assignments_are_counterexamples() {
         let unused = problem.version.width - u32::from(problem.facts);
         for state in (0..1u64 << problem.facts.min(6)).map(|n| n << unused) {
             let facts = problem.version.values(state, problem.facts);
-            let fails = oracle::holds(&problem.initial, &facts)
-                && larkhammock::run(&case.problem, &case.plan, state) != Ok(Outcome::Reached);
+            let outcome = larkhammock::run(&case.problem, &case.plan, state);
+            let fails = oracle::holds(&problem.initial, &facts) && outcome != Ok(Outcome::Reached);
             assert_eq!(holds(&cnf, &start, &facts), fails);
-            if fails {
-                some += 1;
-            } else {
-                none += 1;
-            }
+            let conflict = matches!(
+                outcome,
+                Ok(Outcome::Blocked {
+                    part: Part::Fact(_),
+                    ..
+                })
+            );
+            some += u32::from(fails);
+            none += u32::from(!fails);
+            conflicts += u32::from(fails && conflict);
         }
     }
-    assert!(some > 100 && none > 100, "{some} {none}");
+    let least = some.min(none).min(conflicts);
+    assert!(least > 100, "{some} {none} {conflicts}");
 }

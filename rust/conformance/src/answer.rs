@@ -71,5 +71,6 @@ fn outcome_words(outcome: &Outcome) -> [u64; 4] {
 fn part_words(part: &Part) -> [u64; 2] {
     match part {
         Part::Member(member) => [0, *member],
+        Part::Fact(fact) => [1, *fact],
     }
 }

@@ -37,7 +37,7 @@ fn lines(problem: &[u8], plan: &[u8]) -> Vec<String> {
         } => {
             let state = marks(tree, state, tree.facts);
             let end = match outcome {
-                Outcome::Blocked { step, part } => format!("step {step} {}", unmet(part)),
+                Outcome::Blocked { step, part } => format!("step {step} {}", named(part)),
                 Outcome::Missed => "end".into(),
                 Outcome::Reached => unreachable!("a failing state does not reach the goal"),
             };
@@ -56,9 +56,10 @@ fn lines(problem: &[u8], plan: &[u8]) -> Vec<String> {
     }
 }
 
-fn unmet(part: Part) -> String {
+fn named(part: Part) -> String {
     match part {
         Part::Member(member) => format!("member {member}"),
+        Part::Fact(fact) => format!("fact {fact}"),
     }
 }
 

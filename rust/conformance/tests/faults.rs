@@ -1,15 +1,17 @@
 //! The tests tested: a library with one fault does not get past the harness.
 
+mod former;
 mod support;
 
-use conformance::answer::{words, Answer};
+use conformance::answer::{self, words, Answer};
 use conformance::encode;
 use conformance::gen::{case_of_round, sound_case, Rng};
 use conformance::harness::{check, expected, Arena, Case, Operation, Subject};
 use conformance::model::{Formula, Kind};
-use conformance::oracle::{self, holds};
+use conformance::oracle::{self, after_steps, conflicts, holds, walk, Task};
 use conformance::trial;
 use conformance::version::{HEADER, VERSION_1};
+use former::{with_sets_winning, MOVES};
 use support::Library;
 
 /// The library with one word of one operation's answer changed.
@@ -144,7 +146,10 @@ enum Fault {
     GoalReadAtTheStart,
     OnlyStep0IsObeyed,
     EffectsStoredOneByOne,
-    ClearWinsOverSet,
+    SetWinsOverClear,
+    UnknownConflictIsNone,
+    ConflictBeforePrecondition,
+    HighestFact,
     MemberIsAlways0,
     MemberReadAtTheStart,
     LastFalseMember,
@@ -163,14 +168,17 @@ enum Fault {
     EmptyCarriesToo,
 }
 
-const WRONG_IDEAS: [Fault; 23] = [
+const WRONG_IDEAS: [Fault; 26] = [
     Fault::NoProblemIsSound,
     Fault::NoPlanIsSound,
     Fault::RunIsNeverMissed,
     Fault::GoalReadAtTheStart,
     Fault::OnlyStep0IsObeyed,
     Fault::EffectsStoredOneByOne,
-    Fault::ClearWinsOverSet,
+    Fault::SetWinsOverClear,
+    Fault::UnknownConflictIsNone,
+    Fault::ConflictBeforePrecondition,
+    Fault::HighestFact,
     Fault::MemberIsAlways0,
     Fault::MemberReadAtTheStart,
     Fault::LastFalseMember,
@@ -207,10 +215,10 @@ impl Subject for Fault {
     fn run(&self, problem: &[u8], plan: &[u8], state: u64) -> Answer {
         let answer = Oracle.run(problem, plan, state);
         let reached = |yes| words(&[if yes { 1 } else { 2 }]);
-        match (self, answer[0]) {
-            (_, 0) => answer,
-            (Fault::RunIsNeverMissed, 2) => words(&[1]),
-            (Fault::GoalReadAtTheStart, 1 | 2) => {
+        match (self, answer) {
+            (_, [0, ..]) => answer,
+            (Fault::RunIsNeverMissed, [2, ..]) => words(&[1]),
+            (Fault::GoalReadAtTheStart, [1 | 2, ..]) => {
                 let problem = oracle::read_problem(problem).expect("it is sound");
                 reached(holds(
                     &problem.goal,
@@ -220,31 +228,55 @@ impl Subject for Fault {
             (Fault::OnlyStep0IsObeyed, _) if plan.len() > HEADER => {
                 Oracle.run(problem, &encode::plan(&plan[HEADER..=HEADER]), state)
             }
-            (Fault::EffectsStoredOneByOne | Fault::ClearWinsOverSet, 1 | 2) => {
+            (Fault::EffectsStoredOneByOne, [1 | 2, ..]) => {
                 let problem = oracle::read_problem(problem).expect("it is sound");
                 let mut now = problem.version.values(state, problem.facts);
                 for step in &plan[HEADER..] {
-                    let before = now.clone();
-                    // Later entries win here, and the clears come last.
                     for effect in &problem.actions[usize::from(*step)].effects {
-                        let one_by_one = matches!(self, Fault::EffectsStoredOneByOne);
-                        let read = if one_by_one { &now } else { &before };
-                        if holds(&effect.condition, read) {
+                        if holds(&effect.condition, &now) {
                             now[usize::from(effect.literal.fact)] = !effect.literal.denied;
                         }
                     }
                 }
                 reached(holds(&problem.goal, &now))
             }
-            (Fault::MemberIsAlways0, 3) => words(&[3, answer[1]]),
-            (Fault::MemberReadAtTheStart, 3) => {
-                let at = HEADER + answer[1] as usize;
-                let alone = Oracle.run(problem, &encode::plan(&plan[at..=at]), state);
-                words(&[3, answer[1], alone[2], alone[3]])
+            (Fault::SetWinsOverClear, [3, _, 1, ..]) => {
+                let task = Task::parse(problem, plan).expect("both are sound");
+                let Some(task) = with_sets_winning(&task) else {
+                    return answer;
+                };
+                let mut start = VERSION_1.values(state, task.problem.facts / 2);
+                start.resize(task.problem.facts.into(), false);
+                let [tag, step, rest @ ..] = answer::run(&Ok(oracle::outcome(&task, &start)));
+                words(&[&[tag, step / u64::from(MOVES)], &rest[..]].concat())
             }
-            (Fault::LastFalseMember, 3) => {
+            (Fault::ConflictBeforePrecondition, [3, step, 0, ..]) => {
                 let mut problem = oracle::read_problem(problem).expect("it is sound");
-                let action = plan[HEADER + answer[1] as usize];
+                let action = plan[HEADER + step as usize];
+                problem.actions[usize::from(action)].precondition = Formula::always();
+                match Oracle.run(&encode::problem(&problem), plan, state) {
+                    [3, again, 1, fact, ..] if again == step => words(&[3, step, 1, fact]),
+                    _ => answer,
+                }
+            }
+            (Fault::HighestFact, [3, step, 1, ..]) => {
+                let task = Task::parse(problem, plan).expect("both are sound");
+                let start = VERSION_1.values(state, task.problem.facts);
+                let before = after_steps(&task, &start, step as usize);
+                let action = usize::from(task.plan[step as usize]);
+                let facts = conflicts(&task.problem.actions[action], &before);
+                let highest = facts.last().expect("a fact blocks it");
+                words(&[3, step, 1, u64::from(*highest)])
+            }
+            (Fault::MemberIsAlways0, [3, step, 0, ..]) => words(&[3, step]),
+            (Fault::MemberReadAtTheStart, [3, step, 0, ..]) => {
+                let at = HEADER + step as usize;
+                let alone = Oracle.run(problem, &encode::plan(&plan[at..=at]), state);
+                words(&[3, step, alone[2], alone[3]])
+            }
+            (Fault::LastFalseMember, [3, step, 0, ..]) => {
+                let mut problem = oracle::read_problem(problem).expect("it is sound");
+                let action = plan[HEADER + step as usize];
                 let precondition = &mut problem.actions[usize::from(action)].precondition;
                 let Formula::Group(Kind::All, members) = precondition else {
                     return answer;
@@ -252,7 +284,7 @@ impl Subject for Fault {
                 members.reverse();
                 let last = members.len() as u64 - 1;
                 let turned = Oracle.run(&encode::problem(&problem), plan, state);
-                words(&[3, answer[1], 0, last - turned[3]])
+                words(&[3, step, 0, last - turned[3]])
             }
             _ => answer,
         }
@@ -275,6 +307,13 @@ impl Subject for Fault {
             (Fault::FirstCompletionDecides, [2, _, state, ..]) if state != 0 => words(&[1, 1, 1]),
             (Fault::GrantMustExceedVisits, [1 | 2, visits, ..]) if visits == grant => {
                 words(&[3, grant])
+            }
+            (Fault::UnknownConflictIsNone, [1, ..]) => {
+                let task = Task::parse(problem, plan).expect("both are sound");
+                with_sets_winning(&task).map_or(answer, |task| {
+                    let walk = walk(&task, grant);
+                    words(&[1, walk.visits, walk.lines.len() as u64])
+                })
             }
             _ => answer,
         }

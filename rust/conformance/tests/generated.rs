@@ -7,7 +7,7 @@ use std::collections::BTreeSet;
 use conformance::answer::Answer;
 use conformance::gen::{arbitrary_case, case_of_round, damaged_case, sound_case, wide_case, Rng};
 use conformance::harness::{check_all, Case, Operation};
-use conformance::oracle;
+use conformance::oracle::{self, after_steps, conflicts, holds, Task};
 use conformance::version::{Version, VERSION_1};
 use support::Library;
 
@@ -20,8 +20,9 @@ const SWEEPS: [(u64, usize, Maker); 4] = [
     (0x1a54, 12, wide_case),
 ];
 
-/// Runs and judges are blocked at each of an "all"'s first so many members.
-const MEMBERS: u64 = 4;
+/// Runs and judges are blocked at each of an "all"'s first so many members, and at
+/// each of the first so many facts.
+const NUMBERS: u64 = 4;
 
 /// Every number that a call can be refused with.
 fn every_refusal() -> BTreeSet<u64> {
@@ -29,12 +30,67 @@ fn every_refusal() -> BTreeSet<u64> {
     ranges.into_iter().flatten().collect()
 }
 
-/// The member that an answer names, where it tells of a block.
-fn member(operation: Operation, answer: &Answer) -> Option<u64> {
-    match (operation, answer) {
-        (Operation::Run, [3, _, 0, member, ..]) => Some(*member),
-        (Operation::Judge, [2, _, _, 3, _, 0, member, _]) => Some(*member),
-        _ => None,
+/// A block that an answer tells of.
+struct Block {
+    state: u64,
+    step: u64,
+    part: u64,
+    number: u64,
+}
+
+fn block(operation: Operation, case: &Case, answer: &Answer) -> Option<Block> {
+    let (state, [step, part, number]) = match (operation, *answer) {
+        (Operation::Run, [3, step, part, number, ..]) => (case.state, [step, part, number]),
+        (Operation::Judge, [2, _, state, 3, step, part, number, _]) => {
+            (state, [step, part, number])
+        }
+        _ => return None,
+    };
+    Some(Block {
+        state,
+        step,
+        part,
+        number,
+    })
+}
+
+/// The blocks of one operation.
+#[derive(Default)]
+struct Blocks {
+    /// Part and number of each.
+    parts: BTreeSet<(u64, u64)>,
+    /// At so many, several facts had both conditions true.
+    of_several_facts: u32,
+    /// At so many, the precondition was unmet and a fact had both conditions true.
+    unmet_with_conflict: u32,
+}
+
+impl Blocks {
+    fn meet(&mut self, case: &Case, block: &Block) {
+        self.parts.insert((block.part, block.number));
+        let task = Task::parse(&case.problem, &case.plan).expect("a block needs sound input");
+        let start = VERSION_1.values(block.state, task.problem.facts);
+        let step = block.step as usize;
+        let before = after_steps(&task, &start, step);
+        let action = &task.problem.actions[usize::from(task.plan[step])];
+        let facts = conflicts(action, &before).len();
+        let met = holds(&action.precondition, &before);
+        self.of_several_facts += u32::from(met && facts > 1);
+        self.unmet_with_conflict += u32::from(!met && facts > 0);
+    }
+
+    fn are_of_every_kind(&self, operation: &str) {
+        for part in [0, 1] {
+            for number in 0..NUMBERS {
+                let met = self.parts.contains(&(part, number));
+                assert!(met, "{operation}, part {part}, number {number}");
+            }
+        }
+        let (several, unmet) = (self.of_several_facts, self.unmet_with_conflict);
+        assert!(
+            several > 100 && unmet > 100,
+            "{operation}: {several} {unmet}"
+        );
     }
 }
 
@@ -42,7 +98,7 @@ fn member(operation: Operation, answer: &Answer) -> Option<u64> {
 fn every_operation_answers_as_the_oracle_and_every_refusal_is_met() {
     let mut refusals = BTreeSet::new();
     let mut tags = BTreeSet::new();
-    let mut members = BTreeSet::new();
+    let (mut runs, mut judges) = (Blocks::default(), Blocks::default());
     for (seed, count, make) in SWEEPS {
         let mut rng = Rng::new(seed);
         for round in 0..count {
@@ -52,7 +108,13 @@ fn every_operation_answers_as_the_oracle_and_every_refusal_is_met() {
                 Err(difference) => panic!("seed {seed:x}, round {round}: {difference:?}"),
             };
             for (operation, answer) in Operation::ALL.into_iter().zip(answers) {
-                members.extend(member(operation, &answer).map(|m| (operation as u8, m)));
+                if let Some(block) = block(operation, &case, &answer) {
+                    let blocks = match operation {
+                        Operation::Run => &mut runs,
+                        _ => &mut judges,
+                    };
+                    blocks.meet(&case, &block);
+                }
                 match answer {
                     [0, number, ..] => {
                         refusals.insert(number);
@@ -84,10 +146,8 @@ fn every_operation_answers_as_the_oracle_and_every_refusal_is_met() {
         (Operation::FollowList as u8, 1, 0),
     ];
     assert_eq!(tags, every_tag.into());
-    for member in 0..MEMBERS {
-        assert!(members.contains(&(run, member)), "run, member {member}");
-        assert!(members.contains(&(judge, member)), "judge, member {member}");
-    }
+    runs.are_of_every_kind("run");
+    judges.are_of_every_kind("judge");
 }
 
 fn refusal(refusal: oracle::Refusal) -> larkhammock::Refusal {
@@ -101,9 +161,9 @@ fn outcome(outcome: oracle::Outcome) -> larkhammock::Outcome {
     match outcome {
         oracle::Outcome::Reached => larkhammock::Outcome::Reached,
         oracle::Outcome::Missed => larkhammock::Outcome::Missed,
-        oracle::Outcome::Blocked { step, part: unmet } => larkhammock::Outcome::Blocked {
+        oracle::Outcome::Blocked { step, part: named } => larkhammock::Outcome::Blocked {
             step,
-            part: part(unmet),
+            part: part(named),
         },
     }
 }
@@ -111,6 +171,7 @@ fn outcome(outcome: oracle::Outcome) -> larkhammock::Outcome {
 fn part(part: oracle::Part) -> larkhammock::Part {
     match part {
         oracle::Part::Member(member) => larkhammock::Part::Member(member),
+        oracle::Part::Fact(fact) => larkhammock::Part::Fact(fact),
     }
 }
 

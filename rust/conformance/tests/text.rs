@@ -30,8 +30,11 @@ fn by_library(problem: &[u8], plan: &[u8]) -> Result<String, Refusal> {
             let state = bits(state, facts);
             match outcome {
                 Outcome::Blocked { step, part } => {
-                    let Part::Member(member) = part;
-                    format!("wrong {state} at step {step} member {member} visited {visits}\n")
+                    let part = match part {
+                        Part::Member(member) => format!("member {member}"),
+                        Part::Fact(fact) => format!("fact {fact}"),
+                    };
+                    format!("wrong {state} at step {step} {part} visited {visits}\n")
                 }
                 outcome => {
                     assert_eq!(outcome, Outcome::Missed);

@@ -205,26 +205,26 @@ fn any_state_can_be_run() {
     }
 }
 
+/// Where document 01 let the set condition win, the action blocks (W-202).
 #[test]
-fn set_wins_over_clear() {
+fn to_set_and_clear_a_fact_blocks_at_step_0_fact_2() {
     let mut problem = p_tree();
     problem.actions[0].effects = vec![
         Effect::sets(2, Formula::always()),
         Effect::clears(2, Formula::always()),
     ];
-    let case = with_problem(&problem, &[0]);
-    for state in [0, S010, S011] {
-        expect(
-            Run,
-            &Case {
+    for (steps, step) in [(&[0][..], 0), (&[0, 1], 0), (&[1, 1, 0], 2)] {
+        let case = with_problem(&problem, steps);
+        for state in [0, S010, S011] {
+            let case = Case {
                 state,
                 ..case.clone()
-            },
-            &[1],
-        );
+            };
+            expect(Run, &case, &[3, step, 1, 2]);
+        }
+        expect(Judge, &case, &[2, 5, S010, 3, step, 1, 2]);
+        expect(WriteList, &case, &[0, 51, 5]);
     }
-    // Known in three values too, so the whole is closed at once.
-    expect(Judge, &case, &[1, 1, 1]);
 }
 
 /// A problem of two facts with one action, and a state to run it from.
@@ -258,7 +258,9 @@ fn all_conditions_are_read_before_any_effect() {
     ask(Run, &[0], &[2]);
     ask(Run, &[0, 0], &[1]);
     ask(Judge, &[0], &[2, 3, 0, 2]);
-    ask(Judge, &[0, 0], &[1, 1, 1]);
+    // Fact 0 is always set, and not known to be left uncleared before fact 1 is
+    // fixed.
+    ask(Judge, &[0, 0], &[1, 5, 3]);
 }
 
 #[test]

@@ -66,21 +66,41 @@ pub enum Outcome {
     Reached,
     /// Every step was applicable and the goal is not true at the end.
     Missed,
-    /// A step's precondition was not true.
+    /// A step was not applicable: its precondition was not true, or a fact's
+    /// set and clear conditions both were.
     Blocked {
         /// The first such step, from 0.
         step: u64,
-        /// What of its precondition was not true.
+        /// The part of its action that blocks it.
         part: Part,
     },
 }
 
-/// The part of a precondition that blocks a step.
+/// The part of an action that blocks a step. An unmet precondition comes first.
+///
+/// ```
+/// use larkhammock::{run, Outcome, Part};
+///
+/// let problem = [
+///     1, 0, 0, 0, 23, // version, length
+///     1, 1, // facts, actions
+///     0, 1, 0, 0, 1, 0, // initial and goal: 0
+///     0, 2, 0x80, 0, 2, // action 0: always applicable, were it not for
+///     0, 0, 2, 0x80, 0, // that it always sets 0
+///     64, 0, 2, 0x80, 0, // and always clears 0
+/// ];
+/// let part = Part::Fact(0);
+/// let blocked = Outcome::Blocked { step: 0, part };
+/// assert_eq!(run(&problem, &[1, 0, 0, 0, 1, 0], 0), Ok(blocked));
+/// ```
 #[derive(Clone, Copy, Debug, PartialEq, Eq, Hash)]
 pub enum Part {
-    /// Where the precondition is an "all", the first of its members, from 0,
-    /// that is false in the state before the step. Otherwise 0.
+    /// The precondition is not true. Where it is an "all", the first of its
+    /// members, from 0, that is false in the state before the step. Otherwise 0.
     Member(u64),
+    /// The lowest fact whose set and clear conditions are both true in the state
+    /// before the step.
+    Fact(u64),
 }
 
 /// What the judge says of a plan.
@@ -245,6 +265,10 @@ fn outcome(word: &[u64; 8], at: usize) -> Outcome {
             step,
             part: Part::Member(number),
         },
+        [3, step, 1, number, ..] => Outcome::Blocked {
+            step,
+            part: Part::Fact(number),
+        },
         _ => broken(word),
     }
 }
@@ -258,18 +282,17 @@ mod tests {
     use super::*;
 
     #[test]
-    fn a_block_has_its_step_and_member() {
-        let blocked = Outcome::Blocked {
-            step: 14,
-            part: Part::Member(2),
-        };
-        assert_eq!(outcome(&[3, 14, 0, 2, 0, 0, 0, 0], 0), blocked);
-        assert_eq!(outcome(&[2, 5, 0, 3, 14, 0, 2, 0], 3), blocked);
+    fn a_block_has_its_step_and_part() {
+        for (kind, part) in [(0, Part::Member(2)), (1, Part::Fact(2))] {
+            let blocked = Outcome::Blocked { step: 14, part };
+            assert_eq!(outcome(&[3, 14, kind, 2, 0, 0, 0, 0], 0), blocked);
+            assert_eq!(outcome(&[2, 5, 0, 3, 14, kind, 2, 0], 3), blocked);
+        }
     }
 
     #[test]
     #[should_panic(expected = "none that its interface names")]
     fn a_part_of_no_known_kind_is_no_answer() {
-        outcome(&[3, 14, u64::MAX, 2, 0, 0, 0, 0], 0);
+        outcome(&[3, 14, 2, 2, 0, 0, 0, 0], 0);
     }
 }

@@ -20,7 +20,9 @@ larkhammock-run-spec =
     (λ c κs. search needs)
     (λ c. search needs)
     (λ c κs. search needs)
+    (λ c κs. search needs)
     (λ c. search (laid-out runAnswer runWords, needs))
     (λ c. rw (← c .before .before .before .before .before .before .run .ensures .0, c .before .before .before .before .outcome .given .1, c .before .enum-told .given .1) (c .row .ensures))
     (λ c. rw (← c .before .before .before .before .before .before .run .ensures .0, c .before .before .before .before .outcome .given .1, c .before .enum-told2 .given .1) (c .row2 .ensures))
-    (λ c. rw (← c .before .before .before .before .before .before .before .run .ensures .0, c .before .before .before .before .before .outcome .given .1, c .before .before .outcome2 .given .1) (c .row3 .ensures)))
+    (λ c. let n = c .before .named .ensures in
+    rw (← c .before .before .before .before .before .before .before .before .run .ensures .0, c .before .before .before .before .before .before .outcome .given .1, c .before .before .before .outcome2 .given .1, ← n .0, ← n .1) (c .row3 .ensures)))

@@ -12,6 +12,7 @@ wrong-spec =
     (λ c. search needs)
     (λ c κs. search needs)
     (λ c. search needs)
+    (λ c κs. search needs)
     (λ c. rw (c .before .enum-told .given .1) (c .row .ensures))
     (λ c. rw (c .before .enum-told2 .given .1) (c .row2 .ensures))
-    (λ c. rw (c .before .outcome .given .1)))
+    (λ c. rw (c .before .before .outcome .given .1, c .named .ensures .0, c .named .ensures .1)))

@@ -1,15 +1,16 @@
 -- A relation between two logics that every connective keeps is kept by every reading, step and run. Two instances: a case that says
 -- more (`refining`), and a case with every fact fixed (`exact`). Assumes nothing.
-use mathlib.Core.Path.{_≡_, refl, sym, ap, ap₂, _∙_}
-use mathlib.Core.Bool.{Bool, true, false}
+use mathlib.Core.Path.{_≡_, refl, sym, ap, _∙_}
+use mathlib.Core.Bool.{Bool, true, false, cond, _&&_}
 use mathlib.Core.List.{List, [], _∷_}
 use Prim.Native.Nat.{ℕ, zero, suc, _<_, suc-le-suc}
 use lib.ListN.{getD}
 use native.Mathlib.Omega.{arith}
 use Rattle.model.specs.Kleene.{Kleene, No, Unknown, Yes, both, either, denied, isYes, known, Logic, two, three}
 use Rattle.model.specs.Formula.{fact, denial, Formula, Formulas, lit, all, any, none, more, eval, evalAll, evalAny}
-use Rattle.model.specs.Action.{Action, conditionOf, tabulate, applicable, next, step}
-use Rattle.model.specs.Run.{unmet, holdsIn, Outcome, reached, Stop, atEnd, goesOn, run}
+use Rattle.model.specs.Action.{Action, conditionOf, tabulate, every, sets, clears, exclusive, applicable, next, step}
+use Rattle.model.specs.Run.{unmet, holdsIn, lowestFalse, atMember, atFact, partOf, Outcome, reached, Stop, atEnd, goesOn, run}
+use Rattle.model.proofs.Laws.Conflicts.{and-true, every-at, every-all}
 
 -- an equation in one value, or in two, by the table of its instances
 abbrev row : {A : Type 0} → (Kleene → A) → List A
@@ -81,29 +82,42 @@ module _ {X Y : Type 0} (L : Logic X) (M : Logic Y) (R : X → Y → Type 0) (K 
       (eval-keeps c s h (conditionOf (fact f) (a .effects)))
       (K .both (h f) (K .denied (eval-keeps c s h (conditionOf (denial f) (a .effects)))))
 
+  -- the "all" of a fact's two conditions, denied
+  exclusive-keeps :
+      (a : Action) (c : List X) (s : List Y) → Along c s → (f : ℕ) →
+      R (L .denied (L .both (sets L a c f) (clears L a c f))) (M .denied (M .both (sets M a s f) (clears M a s f)))
+  exclusive-keeps a c s h f = K .denied (K .both (eval-keeps c s h _) (eval-keeps c s h _))
+
   -- where what holds on the left holds on the right, so does a run that is reached
   pub run-keeps :
       ((x : X) (y : Y) → R x y → L .holds x ≡ true → M .holds y ≡ true) →
       (n : ℕ) (goal : Formula) (plan : List Action) (i : ℕ) (c : List X) (s : List Y) → Along c s →
       run L n goal plan i c ≡ reached → run M n goal plan i s ≡ reached
-  unfolding run goesOn applicable
+  unfolding run goesOn applicable exclusive
   run-keeps up n goal [] i c s h e = rw (up _ _ (eval-keeps c s h goal) (at-end-reached _ e))
   run-keeps up n goal (a ∷ plan) i c s h e =
-      let g = goes-on-reached _ _ _ e in
-      rw (up _ _ (eval-keeps c s h (a .precondition)) (g .0))
-      (run-keeps up n goal plan (suc i) _ _ (step-keeps n a c s h) (g .1))
+      let (b, r) = goes-on-reached _ _ _ e in
+      let (p, x) = and-true _ _ b in
+      rw (
+        up _ _ (eval-keeps c s h (a .precondition)) p,
+        every-all n (exclusive M a s) (λ f l. up _ _ (exclusive-keeps a c s h f) (every-at n (exclusive L a c) x f l)),
+      )
+      (run-keeps up n goal plan (suc i) _ _ (step-keeps n a c s h) r)
 
   -- where both hold the same, the runs end the same
   pub run-same :
       ((x : X) (y : Y) → R x y → L .holds x ≡ M .holds y) →
       (n : ℕ) (goal : Formula) (plan : List Action) (i : ℕ) (c : List X) (s : List Y) → Along c s →
       run L n goal plan i c ≡ run M n goal plan i s
-  unfolding run goesOn applicable
+  unfolding run goesOn applicable exclusive partOf
   run-same same n goal [] i c s h = ap atEnd (same _ _ (eval-keeps c s h goal))
   run-same same n goal (a ∷ plan) i c s h =
       let e : (φ : Formula) → holdsIn L c φ ≡ holdsIn M s φ = λ φ. same _ _ (eval-keeps c s h φ) in
+      let x : (f : ℕ) → exclusive L a c f ≡ exclusive M a s f = λ f. same _ _ (exclusive-keeps a c s h f) in
       let rest = run-same same n goal plan (suc i) (step L n a c) (step M n a s) (step-keeps n a c s h) in
-      λ j. goesOn (e (a .precondition) j) (rest j) (record { step = i; member = unmet (λ φ. e φ j) (a .precondition) })
+      λ j.
+      goesOn (e (a .precondition) j && every n (λ f. x f j)) (rest j)
+      (record { step = i; part = cond (e (a .precondition) j) (atFact (lowestFalse n (λ f. x f j))) (atMember (unmet (λ φ. e φ j) (a .precondition))) })
 
 -- ---- a case that says more
 

@@ -22,6 +22,10 @@ pub bit-small : (j x : ℕ) → laneBit j x < 2
 unfolding laneBit
 bit-small j x = mod-lt (x / 2 ^ j) (omega arith)
 
+pub low-bit : (x : ℕ) → laneBit 0 x ≡ x % 2
+unfolding laneBit
+low-bit x = ap (λ (y : ℕ). y % 2) (omega arith)
+
 pub bit-and : (j a b : ℕ) → laneBit j (bitAnd a b) ≡ min (laneBit j a) (laneBit j b)
 unfolding laneBit
 bit-and j a b = rw (and-shr a b j, and-step (a / 2 ^ j) (b / 2 ^ j)) (omega arith)

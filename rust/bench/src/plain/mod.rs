@@ -12,12 +12,16 @@ use read::Refusal;
 pub enum Outcome {
     Reached,
     Missed,
-    /// The step, and the first false member of its precondition if that is an
-    /// "all", or else 0.
-    Blocked {
-        step: usize,
-        member: usize,
-    },
+    Blocked { step: usize, part: Part },
+}
+
+/// What makes a step not applicable.
+#[derive(Clone, Copy, Debug, PartialEq, Eq, PartialOrd, Ord)]
+pub enum Part {
+    /// The first false member of its precondition if that is an "all", or else 0.
+    Member(usize),
+    /// The lowest fact with both conditions true, under a true precondition.
+    Fact(usize),
 }
 
 #[derive(Clone, Copy, Debug, PartialEq, Eq)]

@@ -2,7 +2,7 @@
 //! 2 (yes).
 
 use super::read::{Task, ALL, ANY};
-use super::{Outcome, Verdict};
+use super::{Outcome, Part, Verdict};
 
 type Values = [u8; 64];
 
@@ -18,6 +18,13 @@ enum End {
     Spent,
     Failing(u64),
     Covered,
+}
+
+/// A step that is not surely applicable: by its precondition, or by the lowest fact
+/// of which neither condition is no.
+struct Stop {
+    step: usize,
+    fact: Option<usize>,
 }
 
 struct Walk<'a> {
@@ -110,24 +117,30 @@ fn outcome(task: &Task, state: u64) -> Outcome {
     match run(task, &mut values) {
         Ok(2) => Outcome::Reached,
         Ok(_) => Outcome::Missed,
-        Err(step) => {
+        Err(Stop { step, fact }) => {
             let action = task.actions[usize::from(task.steps[step])];
-            let member = unmet(task.bytes, action, &values);
-            Outcome::Blocked { step, member }
+            let member = || unmet(task.bytes, action, &values);
+            Outcome::Blocked {
+                step,
+                part: fact.map_or_else(|| Part::Member(member()), Part::Fact),
+            }
         }
     }
 }
 
-/// The goal's value at the end; or the first step that is not surely applicable,
-/// with the values before it left in `values`.
-fn run(task: &Task, values: &mut Values) -> Result<u8, usize> {
-    for (i, step) in task.steps.iter().enumerate() {
-        let action = task.actions[usize::from(*step)];
+/// The goal's value at the end; or the first step that is not surely applicable.
+/// Where its precondition is not yes, the values before it are left in `values`.
+fn run(task: &Task, values: &mut Values) -> Result<u8, Stop> {
+    for (step, action) in task.steps.iter().enumerate() {
+        let action = task.actions[usize::from(*action)];
         let (applicable, effects) = condition(task.bytes, action, values);
         if applicable != 2 {
-            return Err(i);
+            return Err(Stop { step, fact: None });
         }
-        apply(task.bytes, effects, values);
+        if let Err(fact) = apply(task.bytes, effects, values) {
+            let fact = Some(fact);
+            return Err(Stop { step, fact });
+        }
     }
     Ok(formula(task.bytes, task.goal, values))
 }
@@ -147,28 +160,29 @@ fn unmet(bytes: &[u8], at: usize, values: &Values) -> usize {
 }
 
 /// Applies the effects whose count stands at `at`: a fact is set, or it was true
-/// and is not cleared.
-fn apply(bytes: &[u8], at: usize, values: &mut Values) {
+/// and is not cleared. Literals rise, so all sets come before the clears, and the
+/// first clear that is not apart from its set is of the lowest such fact.
+fn apply(bytes: &[u8], at: usize, values: &mut Values) -> Result<(), usize> {
     let before = *values;
-    // by the literal's byte
-    let mut conditions = [0u8; 128];
+    let mut sets = [0u8; 64];
     let mut at = at;
     let count = bytes[at];
     at += 1;
     for _ in 0..count {
-        let literal = usize::from(bytes[at] % 128);
-        let fact = literal % 64;
+        let literal = bytes[at];
+        let fact = usize::from(literal % 64);
         let (value, next) = condition(bytes, at + 1, &before);
-        conditions[literal] = value;
-        let other = conditions[(literal + 64) % 128];
-        let (set, clear) = if literal < 64 {
-            (value, other)
+        if literal < 64 {
+            sets[fact] = value;
+            values[fact] = before[fact].max(value);
+        } else if sets[fact].min(value) != 0 {
+            return Err(fact);
         } else {
-            (other, value)
-        };
-        values[fact] = set.max(before[fact].min(2 - clear));
+            values[fact] = values[fact].min(2 - value);
+        }
         at = next;
     }
+    Ok(())
 }
 
 /// The value of a condition or a precondition, and where it ends. Most are one

@@ -48,4 +48,10 @@ Actions, all of them always applicable:
 - 1: one row south
 - 2: one column west
 - 3: one column east
+
+A move has a set and a clear entry for each row or column between the walls: set
+where the one that it comes from is true, cleared where that is not. While that
+is unknown, the two read unknown together, and no case carries. So each case that
+carries fixes all columns: 25 lines, one for each start state, and the other 66
+hold no start state. Were unknown taken for no, 41 lines would do.
 ";

@@ -48,7 +48,7 @@ that the bits rise: where fact i is true, fact i + 1 is.
 
 Actions: each compares two channels and leaves the lower bit in the first of
 them. It sets the second if the first is true, and clears the first if the second
-is false, both as they were before it.
+is false, both as they were before it. No fact has both entries.
 
 | Action | Channels |
 |---|---|

@@ -65,5 +65,9 @@ Actions, 9 in all:
 - 3, 4, 5: carriage 0, 1, 2 moves one aisle up; in aisle 2 it stays
 - 6, 7, 8: carriage 0, 1, 2 is unloaded
 
-A move is applicable only where its carriage is not loaded.
+A move is applicable only where its carriage is not loaded. It has a set and a
+clear entry for aisle 1: set where the aisle that it comes from is true, cleared
+where that is not. While that is unknown, the two read unknown together, and no
+case carries. It costs no line here: for other reasons every case that carries
+fixes those aisles.
 ";

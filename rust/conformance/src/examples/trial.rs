@@ -2,14 +2,19 @@
 
 use super::{Example, Trial};
 use crate::encode;
-use crate::model::Formula;
+use crate::model::{Effect, Formula};
 use crate::oracle;
 use crate::trial;
 
 pub fn example() -> Example {
     let problem = trial::problem();
     let mut guarded = oracle::read_problem(&problem).expect("P is sound");
+    let mut stalling = guarded.clone();
     guarded.actions[0].precondition = Formula::fact(0);
+    stalling.actions[0].effects = vec![
+        Effect::sets(2, Formula::always()),
+        Effect::clears(2, Formula::always()),
+    ];
     Example {
         folder: "trial",
         about: ABOUT.into(),
@@ -28,6 +33,16 @@ pub fn example() -> Example {
                     &[0, 1],
                     "In the guarded problem, action 0 is applicable only where fact 0 is true.\n\
                      The same plan is blocked at its first step.",
+                )
+            },
+            Trial {
+                problem: ("stalling-problem", encode::problem(&stalling)),
+                output: "stalling-output",
+                ..Trial::right(
+                    &problem,
+                    &[0, 1],
+                    "In the stalling problem, action 0 always sets and always clears fact 2, and so\n\
+                     is never applicable.",
                 )
             },
         ],

@@ -32,7 +32,8 @@ fn exactly_one(facts: &[u8]) -> Vec<Formula> {
 /// A move by one along a row of places, of which one fact each says "it is
 /// here"; in the last place it stays. A place between takes the value of the one
 /// before it: set where that is true, cleared where it is not. So no state has
-/// both conditions true.
+/// both conditions true; but they read unknown as long as the one before is, and
+/// the walk must split on it.
 fn shift(row: &[u8]) -> Vec<Effect> {
     let last = row.len() - 1;
     let mut effects = vec![Effect::clears(row[0], Formula::always())];

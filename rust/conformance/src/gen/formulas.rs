@@ -17,7 +17,7 @@ pub fn formula(rng: &mut Rng, facts: u8) -> Formula {
     }
 }
 
-fn literal(rng: &mut Rng, facts: u8) -> Formula {
+pub fn literal(rng: &mut Rng, facts: u8) -> Formula {
     let fact = rng.below(facts.into()) as u8;
     if rng.chance(1, 2) {
         Formula::fact(fact)

@@ -2,11 +2,11 @@
 
 use std::collections::BTreeSet;
 
-use super::formulas::formula;
+use super::formulas::{formula, literal};
 use super::Rng;
 use crate::encode;
 use crate::model::{Action, Effect, Formula, Literal, Problem};
-use crate::oracle::{after, holds, Task};
+use crate::oracle::{after, conflicts, holds, Task};
 use crate::version::{Version, MOST_ACTIONS, MOST_PROBLEM_BYTES, MOST_STEPS};
 
 /// A plan with steps among the actions; empty where there are none.
@@ -63,7 +63,8 @@ fn action(rng: &mut Rng, version: &Version, facts: u8) -> Action {
     }
 }
 
-/// Effects with literals that rise: sets first, then clears.
+/// Effects with literals that rise: sets first, then clears. Of the facts with
+/// an entry, half have both.
 fn effects(rng: &mut Rng, version: &Version, facts: u8) -> Vec<Effect> {
     let likely = rng.pick(&[1, 2, 4]);
     let most = if rng.chance(1, 40) {
@@ -71,23 +72,50 @@ fn effects(rng: &mut Rng, version: &Version, facts: u8) -> Vec<Effect> {
     } else {
         12
     };
-    let mut effects = Vec::new();
-    for denied in [false, true] {
-        for fact in 0..facts {
-            if effects.len() < most && rng.chance(likely, 6) {
-                effects.push(Effect {
-                    literal: Literal { fact, denied },
-                    condition: formula(rng, facts),
-                });
-            }
+    let (mut sets, mut clears) = (Vec::new(), Vec::new());
+    for fact in 0..facts {
+        if sets.len() + clears.len() + 2 > most || !rng.chance(likely, 6) {
+            continue;
+        }
+        let [set, clear] = conditions(rng, facts);
+        let entries = rng.below(4);
+        if entries != 0 {
+            sets.push(Effect::sets(fact, set));
+        }
+        if entries != 1 {
+            clears.push(Effect::clears(fact, clear));
         }
     }
-    effects
+    [sets, clears].concat()
+}
+
+/// The conditions of one fact: any two, one twice, or two that no state makes true
+/// both.
+fn conditions(rng: &mut Rng, facts: u8) -> [Formula; 2] {
+    match rng.below(6) {
+        0 | 1 => [formula(rng, facts), formula(rng, facts)],
+        2 => {
+            let one = formula(rng, facts);
+            [one.clone(), one]
+        }
+        _ => apart(rng, facts),
+    }
+}
+
+/// They differ on a fact.
+fn apart(rng: &mut Rng, facts: u8) -> [Formula; 2] {
+    let fact = rng.below(facts.into()) as u8;
+    let mut sides = [Formula::fact(fact), Formula::not(fact)];
+    sides.rotate_left(rng.below(2));
+    sides.map(|side| match rng.below(3) {
+        0 => Formula::all([literal(rng, facts), side]),
+        _ => side,
+    })
 }
 
 /// A problem whose plan is right, mostly: what the plan brings about is worked
-/// out first, and preconditions and goal are chosen to be true of it. One in
-/// four is then spoilt in one formula.
+/// out first, with conflicts on the way taken out, and preconditions and goal are
+/// chosen to be true of it. One in four is then spoilt in one formula.
 pub fn right_task(rng: &mut Rng, version: &Version) -> Task {
     let facts = rng.between(1, 8) as u8;
     let initial = formula(rng, facts);
@@ -99,25 +127,26 @@ pub fn right_task(rng: &mut Rng, version: &Version) -> Task {
         .collect();
     let plan = plan(rng, actions.len());
 
-    let mut belief: BTreeSet<Vec<bool>> = (0..1u32 << facts)
+    let starts: States = (0..1u32 << facts)
         .map(|n| (0..facts).map(|fact| n >> fact & 1 == 1).collect())
         .filter(|state: &Vec<bool>| holds(&initial, state))
         .collect();
-    let mut met = vec![BTreeSet::new(); actions.len()];
-    for step in &plan {
-        let step = usize::from(*step);
-        met[step].extend(belief.iter().cloned());
-        belief = belief
-            .iter()
-            .map(|state| after(&actions[step], state))
-            .collect();
-    }
-    for (action, states) in actions.iter_mut().zip(&met) {
+    let way = loop {
+        match way(&actions, &plan, &starts) {
+            Ok(way) => break way,
+            Err(Conflict { action, fact }) => {
+                let denied = rng.chance(1, 2);
+                let lost = Literal { fact, denied };
+                actions[action].effects.retain(|e| e.literal != lost);
+            }
+        }
+    };
+    for (action, states) in actions.iter_mut().zip(&way.before) {
         if rng.chance(1, 2) {
             action.precondition = formula_true_of(rng, facts, states);
         }
     }
-    let goal = formula_true_of(rng, facts, &belief);
+    let goal = formula_true_of(rng, facts, &way.end);
     let mut problem = Problem {
         version: *version,
         facts,
@@ -131,8 +160,43 @@ pub fn right_task(rng: &mut Rng, version: &Version) -> Task {
     Task { problem, plan }
 }
 
+type States = BTreeSet<Vec<bool>>;
+
+/// The states in which a plan meets each action, and those in which it ends.
+struct Way {
+    before: Vec<States>,
+    end: States,
+}
+
+/// An action that sets and clears a fact at once.
+struct Conflict {
+    action: usize,
+    fact: u8,
+}
+
+/// The way of a plan from these states, whatever its preconditions say; or the
+/// first conflict on it.
+fn way(actions: &[Action], plan: &[u8], starts: &States) -> Result<Way, Conflict> {
+    let mut before = vec![BTreeSet::new(); actions.len()];
+    let mut end = starts.clone();
+    for action in plan {
+        let action = usize::from(*action);
+        let met = end;
+        let mut told = met.iter().map(|state| conflicts(&actions[action], state));
+        if let Some(fact) = told.find_map(|facts| facts.first().copied()) {
+            return Err(Conflict { action, fact });
+        }
+        end = met
+            .iter()
+            .map(|state| after(&actions[action], state))
+            .collect();
+        before[action].extend(met);
+    }
+    Ok(Way { before, end })
+}
+
 /// A formula that holds in all these states: a chance find, or one made of them.
-fn formula_true_of(rng: &mut Rng, facts: u8, states: &BTreeSet<Vec<bool>>) -> Formula {
+fn formula_true_of(rng: &mut Rng, facts: u8, states: &States) -> Formula {
     for _ in 0..12 {
         let found = formula(rng, facts);
         if states.iter().all(|state| holds(&found, state)) && found != Formula::always() {

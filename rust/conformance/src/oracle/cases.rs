@@ -72,8 +72,14 @@ fn read(formula: &Formula, case: &[Value]) -> Value {
     }
 }
 
-/// Equation 2 in three values, fact by fact.
-fn after(action: &Action, before: &[Value]) -> Vec<Value> {
+/// The two conditions of a fact.
+struct Conditions {
+    set: Value,
+    clear: Value,
+}
+
+/// The conditions of every fact. One that has no entry never holds.
+fn conditions(action: &Action, before: &[Value]) -> Vec<Conditions> {
     let condition = |fact: usize, denied: bool| {
         action
             .effects
@@ -81,14 +87,28 @@ fn after(action: &Action, before: &[Value]) -> Vec<Value> {
             .find(|e| usize::from(e.literal.fact) == fact && e.literal.denied == denied)
             .map_or(Value::NO, |e| read(&e.condition, before))
     };
-    before
-        .iter()
-        .enumerate()
-        .map(|(fact, value)| {
-            let kept = value.and(condition(fact, true).denied());
-            condition(fact, false).or(kept)
+    (0..before.len())
+        .map(|fact| Conditions {
+            set: condition(fact, false),
+            clear: condition(fact, true),
         })
         .collect()
+}
+
+/// The case after an action, if that is surely applicable: its precondition
+/// reads yes, and the "all" of each fact's two conditions reads no.
+fn after(action: &Action, before: &[Value]) -> Option<Vec<Value>> {
+    if !read(&action.precondition, before).is_yes() {
+        return None;
+    }
+    let told = conditions(action, before);
+    if !told.iter().all(|c| c.set.and(c.clear).is_no()) {
+        return None;
+    }
+    // Equation 2.
+    let facts = before.iter().zip(told);
+    let values = facts.map(|(value, c)| c.set.or(value.and(c.clear.denied())));
+    Some(values.collect())
 }
 
 /// The kind of line that closes the case with these facts fixed, if any does.
@@ -99,10 +119,7 @@ pub fn closes(task: &Task, fixed: &[bool]) -> Option<u8> {
         return Some(0);
     }
     for action in task.steps() {
-        if !read(&action.precondition, &case).is_yes() {
-            return None;
-        }
-        case = after(action, &case);
+        case = after(action, &case)?;
     }
     read(&task.problem.goal, &case).is_yes().then_some(1)
 }

@@ -12,7 +12,7 @@ use crate::encode;
 use crate::model::{Action, Line, Problem};
 
 pub use cases::{closes, walk, End, Walk};
-pub use states::{after, holds, lowest_failing, outcome};
+pub use states::{after, after_steps, conflicts, holds, lowest_failing, outcome};
 
 /// Up to this many facts the judge's verdict comes from every state in turn.
 pub const ENUMERABLE: u8 = 10;
@@ -37,11 +37,15 @@ pub enum Outcome {
     Blocked { step: u64, part: Part },
 }
 
-/// What of a precondition is not true.
+/// What makes an action not applicable.
 #[derive(Clone, Copy, Debug, PartialEq, Eq)]
 pub enum Part {
-    /// The first false member of an "all"; 0 of any other formula.
+    /// The precondition is not true: the first false member of an "all"; 0 of
+    /// any other formula.
     Member(u64),
+    /// The precondition is true: the lowest fact that is told to be set and to
+    /// be cleared.
+    Fact(u64),
 }
 
 #[derive(Clone, Copy, Debug, PartialEq, Eq)]

@@ -1,5 +1,7 @@
 //! Two values: one state at a time, and all of them in turn.
 
+use std::collections::BTreeSet;
+
 use super::{Outcome, Part, Task};
 use crate::model::{Action, Formula, Kind};
 
@@ -30,8 +32,20 @@ pub fn after(action: &Action, before: &[bool]) -> Vec<bool> {
         .collect()
 }
 
-/// The part that is named of a precondition which does not hold.
-fn unmet(precondition: &Formula, state: &[bool]) -> Part {
+/// The facts that an action tells to be set and to be cleared.
+pub fn conflicts(action: &Action, state: &[bool]) -> BTreeSet<u8> {
+    let told = |denied: bool| -> BTreeSet<u8> {
+        let entries = action.effects.iter();
+        entries
+            .filter(|e| e.literal.denied == denied && holds(&e.condition, state))
+            .map(|e| e.literal.fact)
+            .collect()
+    };
+    &told(false) & &told(true)
+}
+
+/// The member that is named of a precondition which does not hold.
+fn unmet(precondition: &Formula, state: &[bool]) -> u64 {
     let member = match precondition {
         Formula::Group(Kind::All, members) => members
             .iter()
@@ -39,17 +53,24 @@ fn unmet(precondition: &Formula, state: &[bool]) -> Part {
             .expect("an \"all\" is false by a member"),
         _ => 0,
     };
-    Part::Member(member as u64)
+    member as u64
+}
+
+/// Why an action is not applicable, if it is not.
+fn hindrance(action: &Action, state: &[bool]) -> Option<Part> {
+    if !holds(&action.precondition, state) {
+        return Some(Part::Member(unmet(&action.precondition, state)));
+    }
+    let lowest = conflicts(action, state).into_iter().min()?;
+    Some(Part::Fact(lowest.into()))
 }
 
 pub fn outcome(task: &Task, start: &[bool]) -> Outcome {
     let mut state = start.to_vec();
     for (step, action) in task.steps().enumerate() {
-        if !holds(&action.precondition, &state) {
-            return Outcome::Blocked {
-                step: step as u64,
-                part: unmet(&action.precondition, &state),
-            };
+        if let Some(part) = hindrance(action, &state) {
+            let step = step as u64;
+            return Outcome::Blocked { step, part };
         }
         state = after(action, &state);
     }
@@ -58,6 +79,12 @@ pub fn outcome(task: &Task, start: &[bool]) -> Outcome {
     } else {
         Outcome::Missed
     }
+}
+
+/// The state after the first so many steps, whether they are applicable or not.
+pub fn after_steps(task: &Task, start: &[bool], count: usize) -> Vec<bool> {
+    let steps = task.steps().take(count);
+    steps.fold(start.to_vec(), |state, action| after(action, &state))
 }
 
 /// The lowest start state that does not reach the goal, by trying every state.

@@ -18,6 +18,14 @@ static const uint8_t guarded[] = {
     0, 4, 0x80, 2, 2, 0, 1, 2, 0, 1, 0,           /* action 0: all of 2, 0 */
     0, 2, 0x80, 0, 1, 2, 0, 1, 1,
 };
+static const uint8_t stalling[] = {
+    1, 0, 0, 0, 0x26, 3, 2,
+    0, 7, 0x80, 2, 0x81, 2, 0, 1, 0x42,
+    0, 1, 2,
+    0, 2, 0x80, 0, 2,                             /* action 0: */
+    2, 0, 2, 0x80, 0, 0x42, 0, 2, 0x80, 0,        /* sets 2, clears 2 */
+    0, 2, 0x80, 0, 1, 2, 0, 1, 1,
+};
 static const uint8_t both[] = {1, 0, 0, 0, 2, 0, 1};
 static const uint8_t other_way[] = {1, 0, 0, 0, 2, 1, 0};
 static const uint8_t one[] = {1, 0, 0, 0, 1, 0};
@@ -60,6 +68,7 @@ int main(void)
     const uint64_t s010 = (uint64_t)2 << 45, s011 = (uint64_t)3 << 45;
     const uint64_t plenty = UINT64_MAX;
     const uint64_t wrong_blocked[8] = {2, 5, s010, 3, 1, 0, 1, 0};
+    const uint64_t wrong_stalled[8] = {2, 5, s010, 3, 1, 1, 2, 0};
     uint8_t out[40], kept[40];
 
     is("read_problem", larkhammock_read_problem(SLICE(problem)), 1, 3, 2, 0);
@@ -76,6 +85,8 @@ int main(void)
        2, 0, 0, 0);
     is("run, blocked", larkhammock_run(SLICE(guarded), SLICE(other_way), s010),
        3, 1, 0, 1);
+    is("run, stalled", larkhammock_run(SLICE(stalling), SLICE(other_way), s010),
+       3, 1, 1, 2);
     is("run, no state", larkhammock_run(SLICE(problem), SLICE(both), 1),
        0, 40, 0, 0);
 
@@ -86,6 +97,9 @@ int main(void)
     are("judge, wrong and blocked",
         larkhammock_judge(SLICE(guarded), SLICE(other_way), plenty),
         wrong_blocked);
+    are("judge, wrong and stalled",
+        larkhammock_judge(SLICE(stalling), SLICE(other_way), plenty),
+        wrong_stalled);
     is("judge, undecided", larkhammock_judge(SLICE(problem), SLICE(both), 4),
        3, 4, 0, 0);
 

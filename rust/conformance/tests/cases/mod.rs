@@ -1,11 +1,12 @@
 //! What the desk program is tried on, one case or more for each kind of print.
 
+mod apart;
 mod blocked;
 
 use conformance::encode;
 use conformance::gen::formula_of_size;
-use conformance::model::{Action, Formula, Kind, Problem};
-use conformance::oracle;
+use conformance::model::{Action, Effect, Formula, Kind, Problem};
+use conformance::oracle::{self, Part};
 use conformance::trial;
 use conformance::version::VERSION_1;
 
@@ -70,6 +71,7 @@ pub fn all() -> Vec<Case> {
     [
         trials(),
         blocks(),
+        conflicts(),
         many_facts(),
         many_visits(),
         many_lines(),
@@ -87,6 +89,11 @@ fn trials() -> Vec<Case> {
     no_start.initial = Formula::never();
     let late = |steps: usize| [vec![1; steps], vec![0]].concat();
     let missed = "wrong 010 at end visited 5";
+    let mut stalling = p();
+    stalling.actions[0].effects = vec![
+        Effect::sets(2, Formula::always()),
+        Effect::clears(2, Formula::always()),
+    ];
     vec![
         sound("p-0-1", &p(), &[0, 1], right_for_p()),
         sound("p-0", &p(), &[0], missed),
@@ -109,6 +116,12 @@ fn trials() -> Vec<Case> {
             &late(255),
             "wrong 010 at step 255 member 0 visited 5",
         ),
+        sound(
+            "stalling",
+            &stalling,
+            &[0, 1],
+            "wrong 010 at step 0 fact 2 visited 5",
+        ),
         sound("no-start", &no_start, &[1], "right lines 1 visited 1"),
     ]
 }
@@ -118,8 +131,26 @@ fn blocks() -> Vec<Case> {
         .into_iter()
         .map(|row| {
             let name = format!("blocked-{}", row.name);
-            let at = format!("step {} member {}", row.step, row.member);
-            let says = format!("wrong 100 at {at} visited 5");
+            let values = VERSION_1.values(row.state, row.problem.facts);
+            let state: String = values.iter().map(|v| if *v { '1' } else { '0' }).collect();
+            let part = match row.part {
+                Part::Member(member) => format!("member {member}"),
+                Part::Fact(fact) => format!("fact {fact}"),
+            };
+            let (step, visits) = (row.step, row.visits);
+            let says = format!("wrong {state} at step {step} {part} visited {visits}");
+            sound(&name, &row.problem, &row.steps, &says)
+        })
+        .collect()
+}
+
+fn conflicts() -> Vec<Case> {
+    apart::all()
+        .into_iter()
+        .map(|row| {
+            let name = format!("apart-{}", row.name);
+            let lines = row.list.len();
+            let says = format!("right lines {lines} visited {}", 2 * lines - 1);
             sound(&name, &row.problem, &row.steps, &says)
         })
         .collect()

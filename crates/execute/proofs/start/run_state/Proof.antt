@@ -20,12 +20,12 @@ obey-action-requires c κs = let i = c .before .before .before .before .before .
 
 returns : tie.Need-returns Inv-loop μ-loop
 returns c = let b = c .before .before .before in
-    let w = b .before .before .before .before .before .before in
-    stating-blocked _ _ _ _ _ _ _ (w .before .before .before .loop .inv .0) (omega arith) _ (w .wide .ensures .0) _ _ (b .before .obey-action .ensures .0) (b .if1 .taken) _ (c .unmet-member .ensures) _ refl
+    let w = b .before .before .before .before .before .before .before in
+    stating-blocked _ _ _ _ _ _ _ (w .before .before .before .loop .inv .0) (omega arith) _ (w .wide .ensures .0) _ _ (b .before .before .obey-action .ensures .0) (b .if1 .taken) _ (c .unmet-part .ensures) _ refl
 
 loop-again : tie.Need-loop-again Inv-loop μ-loop
-loop-again c = let w = c .before .before .before .before .before .before in
-    let o = c .before .obey-action .ensures in
+loop-again c = let w = c .before .before .before .before .before .before .before in
+    let o = c .before .before .obey-action .ensures in
     (stating-next _ _ _ _ _ _ _ (w .before .before .before .loop .inv .0) (omega arith) _ (w .wide .ensures .0) _ _ (o .0) (c .if1 .left), o .1, o .2)
 
 pub run-state-spec : {M : Type 1} → statement M

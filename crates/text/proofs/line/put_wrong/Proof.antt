@@ -9,9 +9,8 @@ use Rattle.text.proofs.line.put_wrong.Tie as tie
 returns-3 : tie.Need-returns-3
 unfolding filled shown ascii
 returns-3 c =
-    let w = c .before .before .before .before .before .before .before .before .before .before .before in
-    let m = w .before .before .before .before in
-    blocked-put _ _ _ _ _ _ (w .outcome .given .1) (m .before .before .before .before .put-form .ensures .0) (m .put-marks .ensures .0) (c .before .before .before .before .before .before .before .put-form4 .ensures .0) (c .before .before .put-form5 .ensures .0)
+    let w = c .before .before .before .before .before .before .before .before .before .before in
+    blocked-put _ _ _ _ _ _ (w .outcome .given .1) (w .before .before .before .before .before .before .before .before .put-form .ensures .0) (w .before .before .before .before .put-marks .ensures .0) (c .before .before .before .before .before .before .put-form4 .ensures .0) (c .before .before .put-part .ensures)
 
 pub put-wrong-spec : {M : Type 1} → statement M
 unfolding filled shown ascii
@@ -30,7 +29,6 @@ put-wrong-spec =
     (λ c. search needs)
     (λ c. search needs)
     (λ c κs. search needs)
-    (λ c. search needs)
     (λ c κs. search needs)
     (λ c. search needs)
     (λ c. search (wrong-put, needs))

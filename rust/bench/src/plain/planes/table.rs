@@ -69,7 +69,7 @@ pub struct Table {
 }
 
 /// What a fact's byte and that of its denial differ in.
-const DENIAL: usize = 64;
+pub const DENIAL: u8 = 64;
 
 impl Table {
     /// Nothing is known in any lane.
@@ -102,7 +102,7 @@ impl Table {
         let denied = !value;
         self.some[literal] = value.some;
         self.sure[literal] = value.sure;
-        self.some[literal ^ DENIAL] = denied.some;
-        self.sure[literal ^ DENIAL] = denied.sure;
+        self.some[literal ^ usize::from(DENIAL)] = denied.some;
+        self.sure[literal ^ usize::from(DENIAL)] = denied.sure;
     }
 }

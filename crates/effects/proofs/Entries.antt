@@ -1,0 +1,64 @@
+-- The entries of an action by their numbers: their literals rise, so each has its own condition. Assumes nothing.
+use mathlib.Core.Path.{_≡_, refl, sym, ap, _∙_}
+use mathlib.Core.List.{List, [], _∷_}
+use Prim.Native.Nat.{ℕ, zero, suc, _+_, _≤_, _<_, suc-le-suc}
+use native.Mathlib.Omega.{arith}
+use lib.ListN.{length}
+use Rattle.model.specs.Limits.{maxFacts}
+use Rattle.model.specs.Formula.{Literal, fact, denial, any, none}
+use Rattle.model.specs.Action.{Effect, conditionIn, conditionOf}
+use Rattle.model.specs.FormulaBytes.{literalByte}
+use Rattle.model.specs.WellFormed.{Declared, EffectsOk}
+use Rattle.effects.specs.Effects.{entryAt}
+use Rattle.effects.proofs.Settling.{own-condition, other-condition}
+
+-- the literal's byte of the entry numbered i
+abbrev pub byteAt : List Effect → ℕ → ℕ
+byteAt es i = literalByte (entryAt es i .literal)
+
+pub declared-at : (facts least : ℕ) (es : List Effect) (i : ℕ) → EffectsOk facts least es → i < length es → Declared facts (entryAt es i .literal)
+declared-at facts least [] i ok h = absurd (omega arith)
+declared-at facts least (e ∷ es) zero ok h = ok .0
+declared-at facts least (e ∷ es) (suc i) ok h = declared-at facts (literalByte (e .literal) + 1) es i (ok .3) (omega arith)
+
+least-at : (facts least : ℕ) (es : List Effect) (i : ℕ) → EffectsOk facts least es → i < length es → least ≤ byteAt es i
+least-at facts least [] i ok h = absurd (omega arith)
+least-at facts least (e ∷ es) zero ok h = ok .1
+least-at facts least (e ∷ es) (suc i) ok h = omega (arith, ok .1, least-at facts (literalByte (e .literal) + 1) es i (ok .3) (omega arith))
+
+pub rises : (facts least : ℕ) (es : List Effect) (i k : ℕ) → EffectsOk facts least es → i < k → k < length es → byteAt es i < byteAt es k
+rises facts least [] i k ok l h = absurd (omega arith)
+rises facts least (e ∷ es) zero zero ok l h = absurd (omega arith)
+rises facts least (e ∷ es) zero (suc k) ok l h = omega (arith, least-at facts (literalByte (e .literal) + 1) es k (ok .3) (omega arith))
+rises facts least (e ∷ es) (suc i) zero ok l h = absurd (omega arith)
+rises facts least (e ∷ es) (suc i) (suc k) ok l h = rises facts (literalByte (e .literal) + 1) es i k (ok .3) (omega arith) (omega arith)
+
+module _ (facts : ℕ) (m : facts ≤ maxFacts) where
+  pub condition-at :
+      (least : ℕ) (es : List Effect) (i : ℕ) → EffectsOk facts least es → i < length es → conditionOf (entryAt es i .literal) es ≡ entryAt es i .condition
+  condition-at least [] i ok h = absurd (omega arith)
+  condition-at least (e ∷ es) zero ok h = own-condition facts least e es m ok
+  condition-at least (e ∷ es) (suc i) ok h =
+      let l : i < length es = omega arith in
+      let b = least-at facts (literalByte (e .literal) + 1) es i (ok .3) l in
+      other-condition facts least e es (entryAt es i .literal) m ok (declared-at facts _ es i (ok .3) l) (λ z. omega arith) ∙
+      condition-at (literalByte (e .literal) + 1) es i (ok .3) l
+
+  -- "A literal without an entry has a condition that never holds."
+  pub condition-none :
+      (least : ℕ) (es : List Effect) (l : Literal) → EffectsOk facts least es → Declared facts l → ((i : ℕ) → i < length es → byteAt es i ≡ literalByte l → ⊥) →
+      conditionOf l es ≡ any none
+  unfolding conditionIn
+  condition-none least [] l ok d h = refl
+  condition-none least (e ∷ es) l ok d h =
+      other-condition facts least e es l m ok d (λ z. h zero (omega arith) (sym z)) ∙
+      condition-none (literalByte (e .literal) + 1) es l (ok .3) d (λ i b. h (suc i) (suc-le-suc b))
+
+  -- a declared literal by its byte
+  pub fact-at : (l : Literal) (f : ℕ) → Declared facts l → literalByte l ≡ f → f < facts → l ≡ fact f
+  fact-at (fact g) f d e b = ap fact e
+  fact-at (denial g) f d e b = absurd (omega arith)
+
+  pub denial-at : (l : Literal) (f : ℕ) → Declared facts l → literalByte l ≡ f + 64 → l ≡ denial f
+  denial-at (fact g) f d e = absurd (omega arith)
+  denial-at (denial g) f d e = let i : g ≡ f = omega arith in ap denial i

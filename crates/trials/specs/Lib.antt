@@ -1,0 +1,2 @@
+-- Rows of the trial tables that take long to compute.
+pub mod Sizes
