@@ -3,6 +3,7 @@ use mathlib.Core.Path.{_≡_, refl, sym, ap, _∙_}
 use mathlib.Core.List.{List, [], _∷_}
 use Prim.Native.Nat.{ℕ, zero, suc, _+_, _≤_, _<_, suc-le-suc}
 use native.Mathlib.Omega.{arith}
+use native.Mathlib.Decide.{ℕ-discrete}
 use lib.ListN.{length}
 use Rattle.model.specs.Limits.{maxFacts}
 use Rattle.model.specs.Formula.{Literal, fact, denial, any, none}
@@ -32,6 +33,10 @@ rises facts least (e ∷ es) zero zero ok l h = absurd (omega arith)
 rises facts least (e ∷ es) zero (suc k) ok l h = omega (arith, least-at facts (literalByte (e .literal) + 1) es k (ok .3) (omega arith))
 rises facts least (e ∷ es) (suc i) zero ok l h = absurd (omega arith)
 rises facts least (e ∷ es) (suc i) (suc k) ok l h = rises facts (literalByte (e .literal) + 1) es i k (ok .3) (omega arith) (omega arith)
+
+pub rises-from : (facts : ℕ) (es : List Effect) (i k : ℕ) → EffectsOk facts 0 es → i ≤ k → k < length es → byteAt es i ≤ byteAt es k
+rises-from facts es i k ok l h =
+    elim (ℕ-discrete i k) [ yes e ↦ omega (arith, ap (byteAt es) e) | no n ↦ omega (arith, rises facts 0 es i k ok (omega arith) h) ]
 
 module _ (facts : ℕ) (m : facts ≤ maxFacts) where
   pub condition-at :

@@ -21,7 +21,7 @@ use Rattle.model.proofs.Laws.Conflicts.{every-at, every-last, every-same, every
 use Rattle.model.proofs.Laws.Planes.{ones, low-bit, bit-small, bit-and, bit-zero, lane-both, lane-denied}
 use Rattle.effects.specs.Effects.{entryAt, Entries}
 use Rattle.step.specs.Conflicts.{flag, WithoutConflicts}
-use Rattle.effects.proofs.Entries.{byteAt, declared-at, rises, condition-at, condition-none, fact-at, denial-at}
+use Rattle.effects.proofs.Entries.{byteAt, declared-at, rises, rises-from, condition-at, condition-none, fact-at, denial-at}
 
 pub sure-flag : (t : Kleene) → sureBit t ≡ flag (isYes t)
 sure-flag No = refl
@@ -143,12 +143,7 @@ module _ (n : ℕ) (literals found : List ℕ) (alive lanes i e : ℕ) (P : Pass
               sets =
                   λ k l m d q.
                   elim (ℕ-discrete k i) [
-                    | yes g ↦
-                        rw g
-                        (elim (ℕ-discrete m e) [
-                          | yes r ↦ rw r (omega arith)
-                          | no r ↦ omega (arith, rises facts 0 (a .effects) e m ok (omega arith) (omega arith))
-                        ])
+                    | yes g ↦ rw g (omega (arith, rises-from facts (a .effects) e m ok d (omega arith)))
                     | no g ↦ p .sets k (omega arith) m d q
                   ];
             };
@@ -172,7 +167,7 @@ module _ (n : ℕ) (literals found : List ℕ) (alive lanes i e : ℕ) (P : Pass
         not-cleared facts h a ok (case j) f (omega (arith, within)) λ k d y.
         elim (decLt k e) [
           | yes u ↦ omega (arith, p .before k u)
-          | no u ↦ elim (ℕ-discrete k e) [ yes w ↦ omega (arith, ap (byteAt (a .effects)) w) | no w ↦ omega (arith, rises facts 0 (a .effects) e k ok (omega arith) d) ]
+          | no u ↦ omega (arith, rises-from facts (a .effects) e k ok (omega arith) d)
         ]
 
     one-more : 64 ≤ b → (j : ℕ) → flag (every (suc (b - 64)) (q j)) ≡ min (flag (every (p .limit) (q j))) (flag (q j (b - 64)))
@@ -192,7 +187,7 @@ module _ (n : ℕ) (literals found : List ℕ) (alive lanes i e : ℕ) (P : Pass
                 limit = p .limit;
                 few = p .few;
                 bits = λ j m. ap (laneBit j) (low l) ∙ p .bits j m;
-                before = λ k d. elim (ℕ-discrete k e) [ yes w ↦ omega (arith, ap (byteAt (a .effects)) w) | no w ↦ p .before k (omega arith) ];
+                before = λ k d. omega (arith, rises-from facts (a .effects) k e ok (omega arith) (omega arith));
                 from = λ k d. p .from k (omega arith);
                 sets = λ k d m u. p .sets k d m (omega arith);
               }
@@ -201,12 +196,7 @@ module _ (n : ℕ) (literals found : List ℕ) (alive lanes i e : ℕ) (P : Pass
                 limit = suc (b - 64);
                 few = omega (arith, within);
                 bits = λ j m. high (omega arith) j m ∙ rw (p .bits j m, one-more (omega arith) j) (omega arith);
-                before =
-                    λ k d.
-                    elim (ℕ-discrete k e) [
-                      | yes w ↦ omega (arith, ap (byteAt (a .effects)) w)
-                      | no w ↦ omega (arith, p .before k (omega arith), p .from e (omega arith) more (omega arith))
-                    ];
+                before = λ k d. omega (arith, rises-from facts (a .effects) k e ok (omega arith) (omega arith));
                 from = λ k d u v. omega (arith, rises facts 0 (a .effects) e k ok (omega arith) (omega arith));
                 sets = λ k d m u. p .sets k d m (omega arith);
               }
@@ -231,11 +221,7 @@ module _ (n : ℕ) (literals found : List ℕ) (alive lanes i e : ℕ) (P : Pass
             (not-set facts h a ok (case j) (byteAt (a .effects) e - 64) (omega (arith, within facts a h ok z case p)) λ k d y.
             elim (decLt k i) [
               | yes v ↦ omega (arith, p .sets k v e (omega arith) more)
-              | no v ↦
-                  elim (ℕ-discrete k i) [
-                    | yes r ↦ omega (arith, ap (byteAt (a .effects)) r)
-                    | no r ↦ omega (arith, rises facts 0 (a .effects) i k ok (omega arith) d)
-                  ]
+              | no v ↦ omega (arith, rises-from facts (a .effects) i k ok (omega arith) d)
             ])
             (omega (arith, bit-small j lanes));
       }
