@@ -6,7 +6,7 @@ use native.Mathlib.Omega.{arith}
 use native.Mathlib.Decide.{ℕ-discrete}
 use lib.ListN.{length}
 use Rattle.model.specs.Limits.{maxFacts}
-use Rattle.model.specs.Formula.{Literal, fact, denial, any, none}
+use Rattle.model.specs.Formula.{Literal, any, none}
 use Rattle.model.specs.Action.{Effect, conditionIn, conditionOf}
 use Rattle.model.specs.FormulaBytes.{literalByte}
 use Rattle.model.specs.WellFormed.{Declared, EffectsOk}
@@ -58,12 +58,3 @@ module _ (facts : ℕ) (m : facts ≤ maxFacts) where
   condition-none least (e ∷ es) l ok d h =
       other-condition facts least e es l m ok d (λ z. h zero (omega arith) (sym z)) ∙
       condition-none (literalByte (e .literal) + 1) es l (ok .3) d (λ i b. h (suc i) (suc-le-suc b))
-
-  -- a declared literal by its byte
-  pub fact-at : (l : Literal) (f : ℕ) → Declared facts l → literalByte l ≡ f → f < facts → l ≡ fact f
-  fact-at (fact g) f d e b = ap fact e
-  fact-at (denial g) f d e b = absurd (omega arith)
-
-  pub denial-at : (l : Literal) (f : ℕ) → Declared facts l → literalByte l ≡ f + 64 → l ≡ denial f
-  denial-at (fact g) f d e = absurd (omega arith)
-  denial-at (denial g) f d e = let i : g ≡ f = omega arith in ap denial i

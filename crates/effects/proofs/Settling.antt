@@ -95,13 +95,14 @@ other-fact : (l : Literal) (t : Kleene) (v : List Kleene) (f : ℕ) → (f ≡ f
 other-fact (fact g) t v f h = getD-set-other v g f _ No h
 other-fact (denial g) t v f h = getD-set-other v g f _ No h
 
-fact-byte : (facts f : ℕ) (l : Literal) → facts ≤ maxFacts → f < facts → Declared facts l → f ≡ literalByte l → f ≡ factOf l
-fact-byte facts f (fact g) h b d e = e
-fact-byte facts f (denial g) h b d e = absurd (omega arith)
+-- a declared literal by its byte
+pub fact-at : (facts f : ℕ) (l : Literal) → facts ≤ maxFacts → f < facts → Declared facts l → f ≡ literalByte l → l ≡ fact f
+fact-at facts f (fact g) h b d e = ap fact (sym e)
+fact-at facts f (denial g) h b d e = absurd (omega arith)
 
-denial-byte : (facts f : ℕ) (l : Literal) → facts ≤ maxFacts → f < facts → Declared facts l → f + 64 ≡ literalByte l → f ≡ factOf l
-denial-byte facts f (fact g) h b d e = absurd (omega arith)
-denial-byte facts f (denial g) h b d e = omega arith
+pub denial-at : (facts f : ℕ) (l : Literal) → facts ≤ maxFacts → Declared facts l → f + 64 ≡ literalByte l → l ≡ denial f
+denial-at facts f (fact g) h d e = absurd (omega arith)
+denial-at facts f (denial g) h d e = let i : g ≡ f = omega arith in ap denial i
 
 module _ (facts : ℕ) (h : facts ≤ maxFacts) (v : List Kleene) (n : length v ≡ facts) (f : ℕ) (b : f < facts) where
   abbrev Due : List Effect → Type 0
@@ -113,8 +114,8 @@ module _ (facts : ℕ) (h : facts ≤ maxFacts) (v : List Kleene) (n : length v 
   due-other least e es ok d i =
       other-fact (e .literal) (eval three v (e .condition)) (settled v es) f d ∙ i ∙
       rw (
-        other-condition facts least e es (fact f) h ok b (λ z. d (fact-byte facts f (e .literal) h b (ok .0) z)),
-        other-condition facts least e es (denial f) h ok b (λ z. d (denial-byte facts f (e .literal) h b (ok .0) z)),
+        other-condition facts least e es (fact f) h ok b (λ z. d (sym (ap factOf (fact-at facts f (e .literal) h b (ok .0) z)))),
+        other-condition facts least e es (denial f) h ok b (λ z. d (sym (ap factOf (denial-at facts f (e .literal) h (ok .0) z)))),
       )
 
   within : (es : List Effect) → f < length (settled v es)

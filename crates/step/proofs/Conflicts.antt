@@ -21,7 +21,8 @@ use Rattle.model.proofs.Laws.Conflicts.{every-at, every-last, every-same, every
 use Rattle.model.proofs.Laws.Planes.{ones, low-bit, bit-small, bit-and, bit-zero, lane-both, lane-denied}
 use Rattle.effects.specs.Effects.{entryAt, Entries}
 use Rattle.step.specs.Conflicts.{flag, WithoutConflicts}
-use Rattle.effects.proofs.Entries.{byteAt, declared-at, rises, rises-from, condition-at, condition-none, fact-at, denial-at}
+use Rattle.effects.proofs.Entries.{byteAt, declared-at, rises, rises-from, condition-at, condition-none}
+use Rattle.effects.proofs.Settling.{fact-at, denial-at}
 
 pub sure-flag : (t : Kleene) → sureBit t ≡ flag (isYes t)
 sure-flag No = refl
@@ -70,14 +71,13 @@ module _ (facts : ℕ) (h : facts ≤ maxFacts) (a : Action) (ok : EffectsOk fac
   -- entry i sets it, and entry e clears it
   set-and-cleared :
       (i e : ℕ) → i < length es → e < length es → byteAt es i ≡ f → byteAt es e ≡ f + 64 →
-      (f < facts) × (exclusive three a v f ≡ isYes (denied (both (eval three v (entryAt es i .condition)) (eval three v (entryAt es e .condition)))))
+      exclusive three a v f ≡ isYes (denied (both (eval three v (entryAt es i .condition)) (eval three v (entryAt es e .condition))))
   unfolding exclusive
   set-and-cleared i e x y b d =
       let q = declared-at facts 0 es e ok y in
-      let k = denial-at facts h (entryAt es e .literal) f q d in
-      let l : f < facts = subst (Declared facts) k q in
-      let j = fact-at facts h (entryAt es i .literal) f (declared-at facts 0 es i ok x) b l in
-      (l, rw (← condition-at facts h 0 es i ok x, ← condition-at facts h 0 es e ok y, j, k))
+      let k = denial-at facts f (entryAt es e .literal) h q (sym d) in
+      let j = fact-at facts f (entryAt es i .literal) h (subst (Declared facts) k q) (declared-at facts 0 es i ok x) (sym b) in
+      rw (← condition-at facts h 0 es i ok x, ← condition-at facts h 0 es e ok y, j, k)
 
 -- ---- all entries
 
@@ -249,7 +249,7 @@ module _ (n : ℕ) (literals found : List ℕ) (alive lanes i e : ℕ) (P : Pass
           ap (min (laneBit j lanes))
           (lane-denied j (lane-both j (x .condition case t i in-row .lane j l) (x .condition case t e more .lane j l)) l .is-sure ∙
           sure-flag (denied (both (eval three (case j) (entryAt (a .effects) i .condition)) (eval three (case j) (entryAt (a .effects) e .condition)))) ∙
-          ap flag (sym (set-and-cleared facts h a ok (case j) f i e (omega (arith, in-row)) (omega arith) refl clears .1)))
+          ap flag (sym (set-and-cleared facts h a ok (case j) f i e (omega (arith, in-row)) (omega arith) refl clears)))
 
       now : Passed facts a case n alive lanes i e
       now = P .is facts a h ok z c x case t

@@ -1,6 +1,6 @@
 -- The first false member: one member after another, in lane 0; and a formula by its first bytes. Assumes nothing.
 use mathlib.Core.Path.{_≡_, refl, sym, ap, _∙_}
-use mathlib.Core.Bool.{true, cond}
+use mathlib.Core.Bool.{true, false, cond}
 use mathlib.Core.List.{List, append-nil}
 use Prim.Native.Nat.{ℕ, suc, _+_, _%_, _≤_, _<_}
 use native.Mathlib.Omega.{arith}
@@ -9,7 +9,7 @@ use Rattle.model.specs.Limits.{maxFacts}
 use Rattle.model.specs.Kleene.{Kleene, No, Unknown, Yes, isYes, three}
 use Rattle.model.specs.Formula.{Formula, Formulas, none, more, eval}
 use Rattle.model.specs.Run.{firstFalse, unmet, holdsIn}
-use Rattle.model.specs.FormulaBytes.{Group, conjunction, disjunction, mark, memberCount, formulaBytes, memberBytes}
+use Rattle.model.specs.FormulaBytes.{Group, conjunction, disjunction, memberCount, formulaBytes, memberBytes}
 use Rattle.model.specs.Planes.{sureBit, Table}
 use Rattle.model.specs.Stands.{Span, Members}
 use Rattle.model.proofs.Laws.Planes.{low-bit}
@@ -21,19 +21,25 @@ use Rattle.unmet.specs.Members.{FirstFalse, UnmetMember}
 
 -- ---- one member
 
+pub not-yes : (t : Kleene) → sureBit t ≡ 0 → isYes t ≡ false
+not-yes No e = refl
+not-yes Unknown e = refl
+not-yes Yes e = absurd (omega arith)
+
+pub is-yes : (t : Kleene) → (sureBit t ≡ 0 → ⊥) → isYes t ≡ true
+is-yes No h = absurd (h refl)
+is-yes Unknown h = absurd (h refl)
+is-yes Yes h = refl
+
 -- what a member leaves of the count
 abbrev turns : Kleene → ℕ → ℕ
 turns t rest = cond (isYes t) (suc rest) 0
 
 stops : (t : Kleene) (x : ℕ) → sureBit t ≡ 0 → turns t x ≡ 0
-stops No x e = refl
-stops Unknown x e = refl
-stops Yes x e = absurd (omega arith)
+stops t x e = rw (not-yes t e)
 
 goes-on : (t : Kleene) (x : ℕ) → (sureBit t ≡ 0 → ⊥) → turns t x ≡ suc x
-goes-on No x h = absurd (h refl)
-goes-on Unknown x h = absurd (h refl)
-goes-on Yes x h = refl
+goes-on t x h = rw (is-yes t h)
 
 -- ---- the members one by one
 

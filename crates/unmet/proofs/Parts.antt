@@ -1,11 +1,10 @@
 -- The part of an action that is not applicable: a member where the precondition does not hold, and else a fact. Assumes nothing.
-use mathlib.Core.Path.{_≡_, refl, sym, ap, _∙_}
-use mathlib.Core.Bool.{true, false}
+use mathlib.Core.Path.{_≡_, sym, ap, _∙_}
 use mathlib.Core.List.{List}
 use Prim.Native.Nat.{ℕ, _%_, _≤_}
 use native.Mathlib.Omega.{arith}
 use Rattle.model.specs.Limits.{maxFacts}
-use Rattle.model.specs.Kleene.{Kleene, No, Unknown, Yes, isYes, three}
+use Rattle.model.specs.Kleene.{Kleene, three}
 use Rattle.model.specs.Formula.{eval}
 use Rattle.model.specs.Action.{Action}
 use Rattle.model.specs.Run.{atMember, atFact, partOf}
@@ -19,16 +18,7 @@ use Rattle.model.proofs.Laws.Reading.{split}
 use Rattle.evaluate.specs.declared.Planes.{Planes}
 use Rattle.evaluate.specs.Planes.{FormulaPlanes}
 use Rattle.unmet.specs.Members.{UnmetMember, UnmetPart}
-
-not-yes : (t : Kleene) → sureBit t ≡ 0 → isYes t ≡ false
-not-yes No e = refl
-not-yes Unknown e = refl
-not-yes Yes e = absurd (omega arith)
-
-is-yes : (t : Kleene) → (sureBit t ≡ 0 → ⊥) → isYes t ≡ true
-is-yes No h = absurd (h refl)
-is-yes Unknown h = absurd (h refl)
-is-yes Yes h = refl
+use Rattle.unmet.proofs.Members.{not-yes, is-yes}
 
 precondition-at : (s : List ℕ) (facts p : ℕ) (a : Action) (q : ℕ) → ActionAt s facts p a q → (m : ℕ) × FormulaAt s facts p (a .precondition) m
 unfolding actionBytes

@@ -2,7 +2,6 @@
 use Rattle.unmet.proofs.first_false.Statement.{statement}
 use Rattle.unmet.proofs.first_false.Tie as tie
 use Prim.Native.Nat.{_-_}
-use native.Mathlib.Omega.{arith}
 use borrow.Author.Needs.{needs}
 use Rattle.unmet.proofs.Members.{Meeting, meeting-begins, meeting-ends, meeting-false, meeting-next}
 
