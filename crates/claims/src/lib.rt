@@ -9,7 +9,7 @@ use blocks::Places;
 use lines::Checked;
 use lines::check_at;
 use look::look_at_cases;
-use numbers::span;
+use numbers::end_of;
 use numbers::wide;
 use table::lane_bit;
 use table::set_case;
@@ -77,7 +77,7 @@ pub fn follow_line(
             let word = word_of(width, l.value);
             set_case(c, before.k, before.word, k, word);
             if check_claim(problem, steps, actions, at, l.kind, c) {
-                let end = l.value + span(width, k);
+                let end = end_of(l.value, width, k);
                 Followed::Next(Before { k, word, end })
             } else {
                 Followed::Fault(69)

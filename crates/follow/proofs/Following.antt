@@ -1,12 +1,14 @@
--- Following a list line by line. Assumes nothing.
+-- Following a list line by line, its running value, and the test of it. Assumes nothing.
 use mathlib.Core.Path.{_≡_, refl, sym, ap, ap₂, _∙_, subst}
 use mathlib.Core.Bool.{Bool, true, false, cond}
 use mathlib.Core.List.{List, _∷_}
 use Prim.Native.Nat.{ℕ, zero, suc, _+_, _-_, _*_, _/_, _%_, _^_, _≤_, _<_}
-use native.Mathlib.Nat.{mul-zero, mul-suc, mul-add, mul-le-mul-left, mul-div-le}
+use native.Mathlib.Nat.{mul-zero, mul-suc, mul-add, mul-le-mul-left, mul-div-le, div-le-self}
 use native.Mathlib.Numerals.{add-one}
 use native.Mathlib.Omega.{arith}
+use native.Mathlib.Decide.{decLt}
 use lib.ListN.{length, take, drop}
+use lib.Seq.{take-all}
 use lib.Dec.{eqb}
 use borrow.Author.Tests.{eq-eqb, ne-eqb}
 use Rattle.model.specs.declared.Limits.{Limits}
@@ -14,20 +16,27 @@ use Rattle.model.specs.Limits.{version1}
 use Rattle.model.specs.Answer as Answer
 use Rattle.model.specs.Answer.{Answer, refused, answered}
 use Rattle.model.specs.Read.{Read, andThen, _>>_, done, require, answerOf, headBytes, header}
-use Rattle.model.specs.Operations.{followList}
-use Rattle.model.specs.Answers.{refusal, followAnswer}
+use Rattle.model.specs.Operations.{followList, coverAfter}
+use Rattle.model.specs.Answers.{refusal, coverAnswer}
+use Rattle.model.specs.Demands.{linesIn}
 use Rattle.model.specs.declared.Refusal.{Refusal}
-use Rattle.model.specs.declared.FollowAnswer.{FollowAnswer}
-use Rattle.model.specs.declared.FollowAnswer.the-variants.{Refused as FollowRefused, Passes}
+use Rattle.model.specs.declared.CoverAnswer.{CoverAnswer}
+use Rattle.model.specs.declared.CoverAnswer.the-variants.{Refused as CoverRefused, Ends}
 use Rattle.model.specs.declared.Problem.{Problem}
 use Rattle.model.specs.Case.{Task}
 use Rattle.model.specs.WellFormed.{Sensible}
 use Rattle.model.specs.Walk as model
 use Rattle.model.specs.Walk.{lookAt}
-use Rattle.model.specs.CaseList.{refuseAt, ends, fault, follow}
+use Rattle.model.specs.CaseList.{ends, fault}
+use Rattle.model.specs.Cover.{coverEnd}
 use Rattle.model.specs.ListBytes.{lineAt, linesFrom, caseList, listOf}
 use Rattle.model.proofs.Laws.Splitting.{case-first}
-use Rattle.model.proofs.Laws.Tasks.{follow-is}
+use Rattle.model.proofs.Laws.Reading.{answer-got, then-got}
+use Rattle.model.proofs.Laws.ListCodec.{length-linesFrom}
+use Rattle.model.proofs.Laws.Tasks.{cover-is}
+use Rattle.model.proofs.Laws.RunningEnd.{next-line, fault-line}
+use Rattle.model.proofs.Laws.Covers.{cover-read, follow-tested}
+use Rattle.model.proofs.Demands.{version1-sensible}
 use Rattle.formula.specs.Readings.{nextOf}
 use Rattle.formula.specs.declared.read.Reading.the-variants.{Refused, Next as Reading-Next}
 use Rattle.formula.proofs.Readers.{next-got, next-refused}
@@ -52,34 +61,35 @@ module _ (F : Limits) (w : ℕ) (look : ℕ → ℕ → model.Look) (n : ℕ) (l
   lines-more zero p h = absurd (omega arith)
   lines-more (suc m) p h = let e : suc m - 1 ≡ m = omega arith in rw e
 
-  follow-fault :
+  cover-fault :
       (m p i x f : ℕ) → 0 < m → fault w look n (lineAt F list p) x ≡ f → 0 < f →
-      follow w look n (linesFrom F list m p) i x ≡ refused f i
-  unfolding follow
-  follow-fault m p i x f h e g = rw (lines-more m p h, e) (refuses f g)
-    where
-      refuses : (f : ℕ) → 0 < f → refuseAt f i (follow w look n (linesFrom F list (m - 1) (p + F .line)) (suc i) (x + 2 ^ (w - lineAt F list p .k))) ≡ refused f i
-      refuses zero g = absurd (omega arith)
-      refuses (suc f) g = unfold refuseAt in refl
+      coverEnd w look n (linesFrom F list m p) i x ≡ refused f i
+  cover-fault m p i x f h e g = rw (lines-more m p h) (fault-line w look n _ _ i x f e g)
 
-  follow-next :
+  cover-next :
       (m p i x e : ℕ) → 0 < m → fault w look n (lineAt F list p) x ≡ 0 → e ≡ x + 2 ^ (w - lineAt F list p .k) →
-      follow w look n (linesFrom F list m p) i x ≡ follow w look n (linesFrom F list (m - 1) (p + F .line)) (i + 1) e
-  unfolding follow refuseAt
-  follow-next m p i x e h f g = rw (lines-more m p h, f, refuseAt, add-one, g)
+      coverEnd w look n (linesFrom F list m p) i x ≡ coverEnd w look n (linesFrom F list (m - 1) (p + F .line)) (i + 1) e
+  cover-next m p i x e h f g = rw (lines-more m p h, add-one, g) (next-line w look n _ _ i x f)
 
-  follow-ends : (m p i x : ℕ) → m ≡ 0 → follow w look n (linesFrom F list m p) i x ≡ ends (eqb x (2 ^ w)) i
-  unfolding linesFrom follow
-  follow-ends m p i x z = rw (z, linesFrom, follow)
+  cover-ends : (m p i x : ℕ) → m ≡ 0 → coverEnd w look n (linesFrom F list m p) i x ≡ answered x
+  unfolding linesFrom coverEnd
+  cover-ends m p i x z = rw (z, linesFrom, coverEnd)
 
--- ---- whole lists
+-- the first m of all lines
+lines-first : (F : Limits) (list : List ℕ) (m all p : ℕ) → m ≤ all → linesFrom F list m p ≡ take m (linesFrom F list all p)
+unfolding linesFrom
+lines-first F list zero all p h = refl
+lines-first F list (suc m) zero p h = absurd (omega arith)
+lines-first F list (suc m) (suc all) p h = ap (λ (ls : List model.Line). lineAt F list p ∷ ls) (lines-first F list m all (p + F .line) (omega arith))
+
+-- ---- so many lines
 
 -- i of m lines are followed, the last of them b, whose case the table c has: what is left answers for all
 pub record Followed-so-far (F : Limits) (problem steps actions : List ℕ) (facts : ℕ) (at : Places) (list : List ℕ) (m : ℕ) (c : List ℕ) (b : Before) (i : ℕ) : Type 0 where
   pub same :
       (T : Task) → VersionTask F problem steps actions facts at T →
-      (follow (T .width) (lookAt T) facts (linesFrom F list m headBytes) 0 0 ≡
-      follow (T .width) (lookAt T) facts (linesFrom F list (m - i) (headBytes + F .line * i)) i (b .end)) ×
+      (coverEnd (T .width) (lookAt T) facts (linesFrom F list m headBytes) 0 0 ≡
+      coverEnd (T .width) (lookAt T) facts (linesFrom F list (m - i) (headBytes + F .line * i)) i (b .end)) ×
       Lanes c T (b .k) (b .word)
   pub sensible : Sensible F
   pub few : i ≤ m
@@ -94,7 +104,7 @@ module _ (F : Limits) (problem steps actions : List ℕ) (facts : ℕ) (at : Pla
   abbrev So-far : List ℕ → Before → ℕ → Type 0
   So-far c b i = Followed-so-far F problem steps actions facts at list m c b i
 
-  abbrev Answers : FollowAnswer → Type 0
+  abbrev Answers : CoverAnswer → Type 0
   Answers r = FollowsLines F problem steps actions facts at list m r
 
   line-task : Sensible F → (T : Task) → VersionTask F problem steps actions facts at T → LineTask (F .line) problem steps actions facts at T
@@ -105,7 +115,7 @@ module _ (F : Limits) (problem steps actions : List ℕ) (facts : ℕ) (at : Pla
       record {
         same =
             λ T Q. (
-              ap₂ (λ (k p : ℕ). follow (T .width) (lookAt T) facts (linesFrom F list k p) 0 0) (omega arith) (omega (arith, mul-zero (F .line))),
+              ap₂ (λ (k p : ℕ). coverEnd (T .width) (lookAt T) facts (linesFrom F list k p) 0 0) (omega arith) (omega (arith, mul-zero (F .line))),
               rw (case-first 64 (T .facts), sym (Q .facts), sym e) (N .is),
             );
         sensible = S;
@@ -119,14 +129,14 @@ module _ (F : Limits) (problem steps actions : List ℕ) (facts : ℕ) (at : Pla
     line-told : (T : Task) → VersionTask F problem steps actions facts at T → (q : Followed) → r ≡ q → LineIs (F .line) list facts i (b .end) T q d
     line-told T Q q e = subst (λ (q : Followed). LineIs (F .line) list facts i (b .end) T q d) e (y .is T (line-task (o .sensible) T Q) (o .same T Q .1))
 
-    pub lines-fault : (f : ℕ) → r ≡ Fault f → Answers (FollowRefused (record { number = f; place = i }))
+    pub lines-fault : (f : ℕ) → r ≡ Fault f → Answers (CoverRefused (record { number = f; place = i }))
     unfolding lineAt
     lines-fault f e =
         record {
           is =
               λ T Q.
               let (a, l) = line-told T Q (Fault f) e in
-              sym (o .same T Q .0 ∙ follow-fault F (T .width) (lookAt T) facts list (m - i) (headBytes + F .line * i) i (b .end) f (omega arith) a l);
+              sym (o .same T Q .0 ∙ cover-fault F (T .width) (lookAt T) facts list (m - i) (headBytes + F .line * i) i (b .end) f (omega arith) a l);
         }
 
     pub lines-next : (b′ : Before) → r ≡ Next b′ → So-far d b′ (i + 1)
@@ -137,8 +147,8 @@ module _ (F : Limits) (problem steps actions : List ℕ) (facts : ℕ) (at : Pla
               λ T Q.
               let (a, z, t) = line-told T Q (Next b′) e in (
                 o .same T Q .0 ∙
-                    follow-next F (T .width) (lookAt T) facts list (m - i) (headBytes + F .line * i) i (b .end) (b′ .end) (omega arith) a z ∙
-                    ap₂ (λ (k p : ℕ). follow (T .width) (lookAt T) facts (linesFrom F list k p) (i + 1) (b′ .end)) (omega arith) (omega (arith, mul-add (F .line) i 1)),
+                    cover-next F (T .width) (lookAt T) facts list (m - i) (headBytes + F .line * i) i (b .end) (b′ .end) (omega arith) a z ∙
+                    ap₂ (λ (k p : ℕ). coverEnd (T .width) (lookAt T) facts (linesFrom F list k p) (i + 1) (b′ .end)) (omega arith) (omega (arith, mul-add (F .line) i 1)),
                 t,
               );
           sensible = o .sensible;
@@ -147,50 +157,51 @@ module _ (F : Limits) (problem steps actions : List ℕ) (facts : ℕ) (at : Pla
           size = y .words;
         }
 
-  module _ (c : List ℕ) (b : Before) (i : ℕ) (o : So-far c b i) (h : m ≤ i) (w whole : ℕ) (w-as : w ≡ F .width) (all : whole ≡ 2 ^ (w - 0)) where
-    -- the cover's end answers for all
-    lines-ended : (t : Bool) → eqb (b .end) whole ≡ t → (r : FollowAnswer) → followAnswer r ≡ ends t m → Answers r
-    lines-ended t e r a =
-        record {
-          is =
-              λ T Q.
-              let g : whole ≡ 2 ^ T .width = all ∙ ap (λ (x : ℕ). 2 ^ x) (omega (arith, Q .width)) in
-              a ∙ ap₂ ends (sym e ∙ ap (eqb (b .end)) g) (omega (arith, o .few)) ∙
-              sym (o .same T Q .0 ∙ follow-ends F (T .width) (lookAt T) facts list (m - i) _ i (b .end) (omega arith));
-        }
-
-    pub lines-short : (b .end ≡ whole → ⊥) → Answers (FollowRefused (record { number = 70; place = m }))
-    unfolding ends
-    lines-short d = lines-ended false (ne-eqb (b .end) whole d) _ refl
-
-    pub lines-pass : b .end ≡ whole → Answers (Passes m)
-    unfolding ends
-    lines-pass d = lines-ended true (eq-eqb (b .end) whole d) _ refl
+  -- after the last line the running value is the answer
+  pub lines-ended : (c : List ℕ) (b : Before) (i : ℕ) → So-far c b i → m ≤ i → Answers (Ends (b .end))
+  lines-ended c b i o h =
+      record {
+        is = λ T Q. sym (o .same T Q .0 ∙ cover-ends F (T .width) (lookAt T) facts list (m - i) _ i (b .end) (omega arith));
+      }
 
 -- ---- the block
 
-pub lines-inside : (size n : ℕ) → 0 < size → headBytes ≤ n → headBytes + size * ((n - headBytes) / size) ≤ n
-lines-inside size n h l = omega (arith, mul-div-le (n - headBytes) size)
+pub lines-inside : (size n k : ℕ) → 0 < size → headBytes ≤ n → k ≤ (n - headBytes) / size → headBytes + size * k ≤ n
+lines-inside size n k h l m = omega (arith, mul-div-le (n - headBytes) size, mul-le-mul-left size m)
 
-module _ (F : Limits) (problem steps : List ℕ) (parts : Problem) (list : List ℕ) where
+-- k is the lesser of m and n
+module _ (m n k : ℕ) (least : (m < n → k ≡ m) × (n ≤ m → k ≡ n)) where
+  pub least-fits : k ≤ n
+  least-fits = elim (decLt m n) [ yes h ↦ omega (arith, least .0 h) | no h ↦ omega (arith, least .1 (omega arith)) ]
+
+  least-lines : (F : Limits) → Sensible F → (list : List ℕ) (p : ℕ) → linesFrom F list k p ≡ take m (linesFrom F list n p)
+  least-lines F S list p =
+      elim (decLt m n) [
+        | yes h ↦ rw (least .0 h) (lines-first F list m n p (omega arith))
+        | no h ↦
+            let few : length (linesFrom F list n p) ≤ m = omega (arith, length-linesFrom F S list n p) in
+            rw (least .1 (omega arith)) (sym (take-all m _ few))
+      ]
+
+module _ (F : Limits) (problem steps : List ℕ) (parts : Problem) (list : List ℕ) (m : ℕ) where
   pub body-refused :
-      ((length list - headBytes) % F .line ≡ 0 → ⊥) → FollowsBody F problem steps parts list (FollowRefused (record { number = 64; place = length list }))
+      ((length list - headBytes) % F .line ≡ 0 → ⊥) → FollowsBody F problem steps parts list m (CoverRefused (record { number = 64; place = length list }))
   body-refused h = record { is = λ T S. rw (ne-eqb ((length list - headBytes) % F .line) 0 h) }
 
   pub body-lines :
-      (r : FollowAnswer) → (length list - headBytes) % F .line ≡ 0 →
-      FollowsLines F problem steps (parts .action) (parts .facts) (placesOf parts) list ((length list - headBytes) / F .line) r →
-      FollowsBody F problem steps parts list r
-  body-lines r h y =
+      Sensible F → (k : ℕ) → (m < (length list - headBytes) / F .line → k ≡ m) × ((length list - headBytes) / F .line ≤ m → k ≡ (length list - headBytes) / F .line) →
+      (r : CoverAnswer) → (length list - headBytes) % F .line ≡ 0 →
+      FollowsLines F problem steps (parts .action) (parts .facts) (placesOf parts) list k r → FollowsBody F problem steps parts list m r
+  body-lines S k least r h y =
       record {
         is =
-            λ T S.
-            y .is T S ∙
+            λ T Q.
+            y .is T Q ∙
             rw (eq-eqb ((length list - headBytes) % F .line) 0 h)
-            (ap (λ (n : ℕ). follow (T .width) (lookAt T) n (linesFrom F list ((length list - headBytes) / F .line) headBytes) 0 0) (S .facts));
+            (ap₂ (λ (n : ℕ) (ls : List model.Line). coverEnd (T .width) (lookAt T) n ls 0 0) (Q .facts) (least-lines m _ k least F S list headBytes));
       }
 
--- ---- the operation
+-- ---- the running value of a list
 
 tested-list :
     (b : Bool) (n q : ℕ) (ls : List model.Line) →
@@ -224,10 +235,10 @@ module _ (F : Limits) (list : List ℕ) (most : ℕ) (most-is : most ≡ headByt
   unfolding listOf caseList _>>_ andThen
   list-body q e = let g = next-got headed q (sym e) in rw (← most-is, g .is) (tested-list _ (length list) q _)
 
-pub follow-refused :
-    (s t list : List ℕ) (r : blocks.Task) → FindsTask version1 s t r → r .refused ≡ true → refusal (r .refusal) ≡ followList version1 s t list
-unfolding followList Answer._>>=_
-follow-refused s t list r f h = rw (f .refusal h)
+module _ (problem plan list : List ℕ) (m : ℕ) where
+  pub cover-refused : (r : blocks.Task) → FindsTask version1 problem plan r → r .refused ≡ true → refusal (r .refusal) ≡ coverAfter version1 problem plan list m
+  unfolding coverAfter Answer._>>=_
+  cover-refused r f h = rw (f .refusal h)
 
 -- F are the numbers that were found
 module _ (problem plan : List ℕ) (r : blocks.Task) (f : FindsTask version1 problem plan r) (o : StandsFound version1 problem plan r) (F : Limits) (F-is : F ≡ version1) where
@@ -242,20 +253,63 @@ module _ (problem plan : List ℕ) (r : blocks.Task) (f : FindsTask version1 pro
       let S = found-sensible in
       record { least = S .line; most = rw F-is (omega arith); facts = omega (arith, o .facts, subst (λ (G : Limits). o .task .facts ≤ G .facts) found-is (o .few), S .width, S .bits) }
 
-  module _ (list : List ℕ) (most : ℕ) (most-is : most ≡ headBytes + F .line * F .lines) where
-    -- the operation, by these numbers
-    follow-by : followList version1 problem plan list ≡ Answer._>>=_ (listOf F list) (λ ls. follow (o .task .width) (lookAt (o .task)) (o .task .facts) ls 0 0)
+  module _ (list : List ℕ) (m : ℕ) (most : ℕ) (most-is : most ≡ headBytes + F .line * F .lines) where
+    -- the running value, by these numbers
+    cover-by :
+        coverAfter version1 problem plan list m ≡
+        Answer._>>=_ (listOf F list) (λ ls. coverEnd (o .task .width) (lookAt (o .task)) (o .task .facts) (take m ls) 0 0)
     unfolding Answer._>>=_
-    follow-by = follow-is version1 problem plan (o .task) (o .read) list ∙ rw F-is
+    cover-by = cover-is version1 problem plan (o .task) (o .read) list m ∙ rw F-is
 
-    pub follow-header : (y : Refusal) → Refused y ≡ nextOf (headed F list most most-is) → refusal y ≡ followList version1 problem plan list
+    pub cover-header : (y : Refusal) → Refused y ≡ nextOf (headed F list most most-is) → refusal y ≡ coverAfter version1 problem plan list m
     unfolding Answer._>>=_
-    follow-header y e = sym (follow-by ∙ rw (list-refused F list most most-is y e))
+    cover-header y e = sym (cover-by ∙ rw (list-refused F list most most-is y e))
 
-    pub follow-body :
-        (u : FollowAnswer) (q : ℕ) → Reading-Next q ≡ nextOf (headed F list most most-is) → (steps : List ℕ) →
-        steps ≡ take (length plan - headBytes) (drop headBytes plan) → FollowsBody F problem steps (r .problem) list u →
-        followAnswer u ≡ followList version1 problem plan list
-    follow-body u q e steps p y =
+    pub cover-body :
+        (u : CoverAnswer) (q : ℕ) → Reading-Next q ≡ nextOf (headed F list most most-is) → (steps : List ℕ) →
+        steps ≡ take (length plan - headBytes) (drop headBytes plan) → FollowsBody F problem steps (r .problem) list m u →
+        coverAnswer u ≡ coverAfter version1 problem plan list m
+    cover-body u q e steps p y =
         y .is (o .task) (subst (λ (G : Limits). TaskIn G problem steps (r .problem) (o .task)) found-is (found-in version1 problem plan r o steps p)) ∙
-        sym (follow-by ∙ rw (list-body F list most most-is q e) (by-test (eqb ((length list - headBytes) % F .line) 0) _ _ (length list)))
+        sym (cover-by ∙ rw (list-body F list most most-is q e) (by-test (eqb ((length list - headBytes) % F .line) 0) _ _ (length list)))
+
+-- ---- the operation
+
+list-headed : (F : Limits) (list : List ℕ) (ls : List model.Line) → listOf F list ≡ answered ls → headBytes ≤ length list
+unfolding listOf caseList _>>_
+list-headed F list ls h = then-got (answer-got (caseList F list 0) h .1) λ u p e _. header-got list 60 _ _ p u e .0
+
+-- the running value after every line tells all
+module _ (problem plan list : List ℕ) (r : CoverAnswer) (y : coverAnswer r ≡ coverAfter version1 problem plan list (length list)) where
+  abbrev lines : ℕ
+  lines = linesIn version1 list
+
+  tested : followList version1 problem plan list ≡ Answer._>>=_ (coverAnswer r) (λ e. ends (eqb e (2 ^ 48)) lines)
+  unfolding Answer._>>=_
+  tested =
+      let few : lines ≤ length list = omega (arith, div-le-self (length list - headBytes) 8) in
+      follow-tested version1 problem plan list version1-sensible (length list) few ∙ rw (sym y)
+
+  pub follow-refused : (t : Refusal) → r ≡ CoverRefused t → refusal t ≡ followList version1 problem plan list
+  unfolding Answer._>>=_
+  follow-refused t e = sym (tested ∙ rw e)
+
+  module _ (e : ℕ) (ended : r ≡ Ends e) where
+    pub has-head : headBytes ≤ length list
+    has-head = let (_, _, ls, read) = cover-read version1 problem plan list (length list) e (sym y ∙ ap coverAnswer ended) in list-headed version1 list ls read
+
+    -- F are version 1's numbers
+    module _ (F : Limits) (F-is : F ≡ version1) (w whole : ℕ) (w-as : w ≡ F .width) (all : whole ≡ 2 ^ (w - 0)) where
+      follow-ended : (t : Bool) → eqb e whole ≡ t → ends t (linesIn F list) ≡ followList version1 problem plan list
+      unfolding Answer._>>=_
+      follow-ended t h =
+          let z : whole ≡ 2 ^ 48 = all ∙ rw (w-as, F-is) in
+          sym (tested ∙ rw (ended, sym z, h, F-is))
+
+      pub follow-short : (e ≡ whole → ⊥) → refused 70 (linesIn F list) ≡ followList version1 problem plan list
+      unfolding ends
+      follow-short h = follow-ended false (ne-eqb e whole h)
+
+      pub follow-passes : e ≡ whole → answered (linesIn F list) ≡ followList version1 problem plan list
+      unfolding ends
+      follow-passes h = follow-ended true (eq-eqb e whole h)

@@ -1,5 +1,6 @@
 -- The three demands hold of every version whose numbers are sensible, and so of version 1. Assumes nothing.
 use mathlib.Core.Path.{refl}
+use Prim.Native.Nat.{ℕ}
 use native.Mathlib.Omega.{arith}
 use lib.ListN.{length}
 use Rattle.model.specs.declared.Limits.{Limits}
@@ -9,6 +10,8 @@ use Rattle.model.specs.ProblemBytes.{problem, problemOf, plan, planOf, e
 use Rattle.model.specs.ListBytes.{encodeList}
 use Rattle.model.specs.Operations.{readTask, listFor, writeList}
 use Rattle.model.specs.Kleene.{two, three}
+use Rattle.model.specs.Walk.{Look}
+use Rattle.model.specs.Cover.{RunningEnd}
 use Rattle.model.specs.Action.{OrderFree}
 use Rattle.model.specs.WellFormed.{Sensible}
 use Rattle.model.specs.Demands.{Demand1, Demands}
@@ -18,6 +21,7 @@ use Rattle.model.proofs.Laws.ProblemCodec.{problem-gives, problem-ok, p
 use Rattle.model.proofs.Laws.ListCodec.{list-sound, list-ok}
 use Rattle.model.proofs.Laws.Tasks.{answer-then, task-fits}
 use Rattle.model.proofs.Laws.Judging.{verdicts}
+use Rattle.model.proofs.Laws.RunningEnd.{running-end}
 use Rattle.model.proofs.Laws.Lists.{written-answered, refused-unchanged, wrote, lists, n≤w}
 
 module _ (F : Limits) (S : Sensible F) where
@@ -57,6 +61,10 @@ version1-sensible = omega arith
 
 pub version1-holds : Demands version1
 version1-holds = demands-hold version1 version1-sensible
+
+-- W-203, for every width, fact count and look
+pub running-end-holds : (w : ℕ) (look : ℕ → ℕ → Look) (n : ℕ) → RunningEnd w look n
+running-end-holds = running-end
 
 -- document 004's assumption, in states and in cases
 pub order-free : OrderFree two × OrderFree three

@@ -9,6 +9,7 @@ pub mod Verdicts
 pub mod Beliefs
 pub mod Grants
 pub mod Following
+pub mod RunningEnd
 pub mod Reading
 pub mod FormulaCodec
 pub mod ProblemCodec
@@ -16,4 +17,5 @@ pub mod ListCodec
 pub mod Tasks
 pub mod Judging
 pub mod Lists
+pub mod Covers
 pub mod NoStart

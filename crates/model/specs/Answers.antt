@@ -20,6 +20,8 @@ use Rattle.model.specs.declared.JudgeAnswer.{JudgeAnswer}
 use Rattle.model.specs.declared.JudgeAnswer.the-variants.{Refused as JudgeRefused, Right, Wrong, Undecided}
 use Rattle.model.specs.declared.WriteAnswer.{WriteAnswer}
 use Rattle.model.specs.declared.WriteAnswer.the-variants.{Refused as WriteRefused, Written}
+use Rattle.model.specs.declared.CoverAnswer.{CoverAnswer}
+use Rattle.model.specs.declared.CoverAnswer.the-variants.{Refused as CoverRefused, Ends}
 use Rattle.model.specs.declared.FollowAnswer.{FollowAnswer}
 use Rattle.model.specs.declared.FollowAnswer.the-variants.{Refused as FollowRefused, Passes}
 
@@ -68,3 +70,8 @@ writeAnswer (Written n) = answered n
 abbrev pub followAnswer : FollowAnswer → Answer ℕ
 followAnswer (FollowRefused r) = refusal r
 followAnswer (Passes n) = answered n
+
+-- "the end of the cover" (W-203)
+abbrev pub coverAnswer : CoverAnswer → Answer ℕ
+coverAnswer (CoverRefused r) = refusal r
+coverAnswer (Ends e) = answered e

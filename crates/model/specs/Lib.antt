@@ -9,6 +9,7 @@ pub mod Belief
 pub mod Walk
 pub mod Answer
 pub mod CaseList
+pub mod Cover
 pub mod Read
 pub mod FormulaBytes
 pub mod ProblemBytes

@@ -1,9 +1,9 @@
 -- The six public operations, each from the bytes of its arguments to its whole answer (document 01, "The operations and what they
--- turn down").
+-- turn down"); and the running value that following keeps (document 02, W-203).
 use mathlib.Core.Bool.{Bool, cond, _&&_}
 use mathlib.Core.List.{List, _++_, map}
 use Prim.Native.Nat.{ℕ, _+_, _-_, _*_, _%_, _^_}
-use lib.ListN.{length, drop}
+use lib.ListN.{length, take, drop}
 use lib.Dec.{eqb, ltb}
 use Rattle.model.specs.declared.Limits.{Limits}
 use Rattle.model.specs.Answer.{Answer, refused, answered, _>>=_}
@@ -11,6 +11,7 @@ use Rattle.model.specs.Run.{Outcome}
 use Rattle.model.specs.Case.{Task, runOf}
 use Rattle.model.specs.Walk.{Line, Verdict, right, wrong, undecided, lookAt, judged}
 use Rattle.model.specs.CaseList.{follow}
+use Rattle.model.specs.Cover.{coverEnd}
 use Rattle.model.specs.Read.{headBytes}
 use Rattle.model.specs.ProblemBytes.{Problem, problemOf, planOf, actionAt}
 use Rattle.model.specs.ListBytes.{listOf, encodeList}
@@ -112,3 +113,11 @@ module _ (F : Limits) where
     T ← readTask problem plan
     ls ← listOf F list
     follow (T .width) (lookAt T) (T .facts) ls 0 0
+
+  -- "keep the end of the cover as a running value" (W-203): the follower's value after the first so many lines, or after all where a list
+  -- has fewer. It is refused as "Follow a list" is, up to 64, and then with the first fault among these lines.
+  unfoldable pub coverAfter : List ℕ → List ℕ → List ℕ → ℕ → Answer ℕ
+  coverAfter problem plan list lines = do
+    T ← readTask problem plan
+    ls ← listOf F list
+    coverEnd (T .width) (lookAt T) (T .facts) (take lines ls) 0 0

@@ -14,13 +14,14 @@ use Rattle.model.specs.Walk.{visits, Verdict, right, wrong, undecided, w
 use Rattle.model.specs.Answer as Answer
 use Rattle.model.specs.Answer.{Answer, refused, answered}
 use Rattle.model.specs.CaseList.{first, refuseAt, ends, fault, follow}
+use Rattle.model.specs.Cover.{coverEnd}
 use Rattle.model.specs.Read.{andThen, _>>=_, _>>_, done, position, require, answerOf, bigEndianFrom, bytesOf, block, byte, counted, header, count}
 use Rattle.model.specs.FormulaBytes.{isLiteral, literalOf, groupHead, headFrom, head, members, whole, item, stated, formula}
 use Rattle.model.specs.ProblemBytes.{effect, effects, effectList, action, actions, ending, parts, body, problem, problemOf, steps, plan, planOf, actionAt}
 use Rattle.model.specs.ListBytes.{lineAt, linesFrom, caseList, listOf, lineBytes, linesBytes, encodeList}
 use Rattle.model.specs.Text.{ascii, hex}
 use Rattle.model.specs.DeskText.{digits, decimal, sentence, marks, refusalLine, rightLine, wrongLine, undecidedLine, verdictLine, lineText, linesText, listText, verdictRest, answerLine, answerRest, firstLine, laterLines, deskText}
-use Rattle.model.specs.Operations.{Counts, Written, isState, lineCount, readProblem, readPlan, taskOf, readTask, runState, judge, listBytes, linesFor, written, listFor, writeList, followList}
+use Rattle.model.specs.Operations.{Counts, Written, isState, lineCount, readProblem, readPlan, taskOf, readTask, runState, judge, listBytes, linesFor, written, listFor, writeList, followList, coverAfter}
 
 pub data Call : Type 0 where
   read-problem : List ℕ → Call
@@ -29,6 +30,7 @@ pub data Call : Type 0 where
   judge-with : List ℕ → List ℕ → ℕ → Call
   write-list : Limits → List ℕ → List ℕ → ℕ → List ℕ → Call
   follow-list : List ℕ → List ℕ → List ℕ → Call
+  cover-after : List ℕ → List ℕ → List ℕ → ℕ → Call
   desk : Limits → List ℕ → List ℕ → Call
 
 pub data Reply : Type 0 where
@@ -41,13 +43,14 @@ pub data Reply : Type 0 where
 
 -- what the definitions give; a proof that unfolds this computes with all of them
 unfoldable pub reply : Call → Reply
-unfolding eval conditionIn every exclusive applicable next step firstFalse unmet lowestFalse partOf goesOn run bit stateOf caseOf runOf walkFrom walk lookAt walked judged Answer._>>=_ first refuseAt ends fault follow andThen _>>=_ _>>_ done position require answerOf bigEndianFrom bytesOf block byte counted header count isLiteral literalOf groupHead headFrom head members whole item stated formula effect effects effectList action actions ending parts body problem problemOf steps plan planOf actionAt lineAt linesFrom caseList listOf lineBytes linesBytes encodeList isState readProblem readPlan taskOf readTask runState judge listBytes linesFor written listFor writeList followList ascii hex digits decimal sentence marks refusalLine rightLine wrongLine undecidedLine verdictLine lineText linesText listText verdictRest answerLine answerRest firstLine laterLines deskText
+unfolding eval conditionIn every exclusive applicable next step firstFalse unmet lowestFalse partOf goesOn run bit stateOf caseOf runOf walkFrom walk lookAt walked judged Answer._>>=_ first refuseAt ends fault follow coverEnd andThen _>>=_ _>>_ done position require answerOf bigEndianFrom bytesOf block byte counted header count isLiteral literalOf groupHead headFrom head members whole item stated formula effect effects effectList action actions ending parts body problem problemOf steps plan planOf actionAt lineAt linesFrom caseList listOf lineBytes linesBytes encodeList isState readProblem readPlan taskOf readTask runState judge listBytes linesFor written listFor writeList followList coverAfter ascii hex digits decimal sentence marks refusalLine rightLine wrongLine undecidedLine verdictLine lineText linesText listText verdictRest answerLine answerRest firstLine laterLines deskText
 reply (read-problem p) = counts (readProblem version1 p)
 reply (read-plan p q) = number (readPlan version1 p q)
 reply (run-state p q s) = outcome (runState version1 p q s)
 reply (judge-with p q g) = verdict (judge version1 p q g)
 reply (write-list F p q g out) = writes (writeList F p q g out)
 reply (follow-list p q l) = number (followList version1 p q l)
+reply (cover-after p q l m) = number (coverAfter version1 p q l m)
 reply (desk F p q) = text (deskText F p q)
 
 pub record Row : Type 0 where
@@ -371,4 +374,25 @@ conflicts =
     ∷ (follow-list stalls (block1 (4 ∷ [])) (lines (hex "01 02 000000000000 01 02 400000000000 00 01 800000000000")) ⇒ number (answered 3))
     ∷ (follow-list stalls (block1 (4 ∷ [])) (lines (hex "01 01 000000000000 00 01 800000000000")) ⇒ number (refused 69 0))
     ∷ (judge-with stalls (block1 (3 ∷ 5 ∷ [])) grant ⇒ verdict (answered (right 1 1)))
+    ∷ []
+
+-- the running value (document 02, W-203): before the first line, after each, and past the last; where a list ends short, and where it has
+-- no line; before a line that begins elsewhere and at it; before a claim that is not so and at it; and the refusals that come first
+abbrev pub running-ends : List Row
+running-ends =
+    (cover-after P both-steps the-list 0 ⇒ number (answered 0))
+    ∷ (cover-after P both-steps the-list 1 ⇒ number (answered 0x400000000000))
+    ∷ (cover-after P both-steps the-list 2 ⇒ number (answered 0x800000000000))
+    ∷ (cover-after P both-steps the-list 3 ⇒ number (answered 0x1000000000000))
+    ∷ (cover-after P both-steps the-list 4 ⇒ number (answered 0x1000000000000))
+    ∷ (cover-after P both-steps short-list 3 ⇒ number (answered 0x800000000000))
+    ∷ (cover-after P both-steps (lines []) 1 ⇒ number (answered 0))
+    ∷ (cover-after P both-steps swapped-list 1 ⇒ number (answered 0x400000000000))
+    ∷ (cover-after P both-steps swapped-list 2 ⇒ number (refused 68 1))
+    ∷ (cover-after P both-steps swapped-list 3 ⇒ number (refused 68 1))
+    ∷ (cover-after P both-steps other-kind 0 ⇒ number (answered 0))
+    ∷ (cover-after P both-steps other-kind 1 ⇒ number (refused 69 0))
+    ∷ (cover-after P both-steps (lines (replicate 9 0)) 0 ⇒ number (refused 64 14))
+    ∷ (cover-after P both-steps [] 0 ⇒ number (refused 61 0))
+    ∷ (cover-after P [] [] 0 ⇒ number (refused 31 0))
     ∷ []

@@ -181,3 +181,9 @@ pub enum FollowAnswer {
     Refused(Refusal),
     Passes { lines: usize },
 }
+
+// Where the cover ends after so many lines of a list: what following them keeps.
+pub enum CoverAnswer {
+    Refused(Refusal),
+    Ends { end: u64 },
+}

@@ -1,4 +1,4 @@
-// Numbers in bytes, the highest first.
+// Numbers in bytes, the highest first, and the numbers of a case.
 ghost use mathlib.Core.Path.{_≡_};
 ghost use Prim.Native.Nat.{_+_, _-_, _%_, _^_, _≤_, _<_};
 ghost use lib.ListN.{length, take, drop};
@@ -17,6 +17,16 @@ fn digit(b: u8) -> u64
     ensures { λ r. ⌜ (r ≡ b) × (r < 256) ⌝ }
 {
     b as u64
+}
+
+// The lesser of two counts.
+pub fn least(a: usize, b: usize) -> usize
+    ensures { λ r. ⌜ (a < b → r ≡ a) × (b ≤ a → r ≡ b) ⌝ }
+{
+    if a < b {
+        return a;
+    }
+    b
 }
 
 fn low_byte(x: u64) -> u8
@@ -70,4 +80,12 @@ pub fn span(width: usize, k: usize) -> u64
     ensures { λ r. ⌜ r ≡ 2 ^ (width - k) ⌝ }
 {
     1u64 << (width - k)
+}
+
+// Where the numbers that share their first k bits with `begin`, the first of them, end.
+pub fn end_of(begin: u64, width: usize, k: usize) -> u64
+    requires { ⌜ (k ≤ width) × (width < 64 + k) × (begin + 2 ^ (width - k) < 2 ^ 64) ⌝ }
+    ensures { λ r. ⌜ r ≡ begin + 2 ^ (width - k) ⌝ }
+{
+    begin + span(width, k)
 }

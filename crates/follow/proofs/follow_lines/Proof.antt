@@ -1,7 +1,6 @@
 -- `follow_lines` meets its contract: the table has the case of the line before, and what is left to follow answers for all. Assumes nothing.
 use Prim.Native.Nat.{_-_}
-use native.Mathlib.Omega.{arith}
-use Rattle.follow.proofs.Following.{Followed-so-far, line-inside, none-followed, lines-fault, lines-next, lines-short, lines-pass}
+use Rattle.follow.proofs.Following.{Followed-so-far, line-inside, none-followed, lines-fault, lines-next, lines-ended}
 use borrow.Author.Needs.{needs}
 use Rattle.follow.proofs.follow_lines.Statement.{statement}
 use Rattle.follow.proofs.follow_lines.Tie as tie
@@ -28,16 +27,6 @@ loop-again c =
     let l = c .before .before .before in
     lines-next _ _ _ _ _ _ _ _ _ _ _ (l .before .before .before .loop .inv) _ _ (l .before .before .loop-test .taken) (l .follow-line .ensures) _ (c .before .next .given .1)
 
-returns-2 : tie.Need-returns-2 Inv-loop μ-loop
-returns-2 c =
-    let l = c .before .before .before .before in
-    lines-short _ _ _ _ _ _ _ _ _ _ _ (l .before .loop .inv) (l .loop-test .left) _ _ (c .before .before .before .wide2 .ensures .0) (c .before .before .span .ensures) (c .if1 .taken)
-
-returns-3 : tie.Need-returns-3 Inv-loop μ-loop
-returns-3 c =
-    let l = c .before .before .before .before in
-    lines-pass _ _ _ _ _ _ _ _ _ _ _ (l .before .loop .inv) (l .loop-test .left) _ _ (c .before .before .before .wide2 .ensures .0) (c .before .before .span .ensures) (c .if1 .left)
-
 pub follow-lines-spec : {M : Type 1} → statement M
 follow-lines-spec =
     tie.close
@@ -54,7 +43,4 @@ follow-lines-spec =
     (λ c. search needs)
     (λ c. search needs)
     loop-again
-    (λ c κs. search needs)
-    (λ c κs. let p = c .before .before .before .before .before .before .before .before .pre in omega (arith, c .wide2 .ensures .0, p .0 .bits, p .1 .most))
-    returns-2
-    returns-3)
+    (λ c. lines-ended _ _ _ _ _ _ _ _ _ _ _ (c .before .loop .inv) (c .loop-test .left)))

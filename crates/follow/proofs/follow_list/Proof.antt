@@ -1,8 +1,7 @@
--- `follow_list` meets its contract. Assumes nothing.
-use mathlib.Core.Path.{refl, sym, _∙_}
+-- `follow_list` meets its contract: the running value after every line, and one test of it. Assumes nothing.
 use native.Mathlib.Omega.{arith}
 use Rattle.blocks.proofs.Promise.{of-slice}
-use Rattle.follow.proofs.Following.{found-sensible, followable, follow-refused, follow-header, follow-body, header-five}
+use Rattle.follow.proofs.Following.{has-head, follow-refused, follow-short, follow-passes}
 use Rattle.follow.proofs.Promise.{follow-promised}
 use borrow.Author.Needs.{needs}
 use Rattle.follow.proofs.follow_list.Statement.{statement}
@@ -10,34 +9,20 @@ use Rattle.follow.proofs.follow_list.Tie as tie
 
 returns : tie.Need-returns
 returns c =
-    let e = follow-refused _ _ _ _ (c .before .before .find-task .ensures) (c .before .if1 .taken) in
-    let k = c .before .before .before in
+    let k = c .before .before .before .before .before .before .before .before .before in
+    let e = follow-short _ _ _ _ (c .before .before .before .before .before .before .before .before .cover-after .ensures .0) _ (c .before .before .before .before .before .before .end .given .1) _ (c .before .before .before .before .version1 .ensures) _ _ (c .before .before .wide .ensures .0) (c .before .span .ensures) (c .if1 .taken) in
     (e, follow-promised _ _ _ (of-slice (k .before .before .before .args .list .now) (k .shared-slice-known3 .given)) _ e)
-
-sub-follow-body : tie.Need-sub-follow-body
-sub-follow-body c = omega (arith, c .before .before .before .before .before .before .before .find-task .ensures .stands (c .before .before .before .before .before .before .if1 .left) .fits)
-
-follow-body-requires : tie.Need-follow-body-requires
-follow-body-requires c κs =
-    let f = c .before .before .before .before .before .before .before .before .find-task .ensures in
-    let o = f .stands (c .before .before .before .before .before .before .before .if1 .left) in
-    let v = c .before .before .before .before .before .before .version1 .ensures in
-    (found-sensible _ _ _ f o _ v, followable _ _ _ f o _ v, header-five _ _ _ _ (sym (c .before .before .enum-told .given .1) ∙ c .before .before .before .before .check-header .ensures))
 
 returns-2 : tie.Need-returns-2
 returns-2 c =
-    let h = c .before .before .before in
-    let k = c .before .before .before .before .before .before .before .before in
-    let f = c .before .before .before .before .before .before .before .find-task .ensures in
-    let e = follow-header _ _ _ f (f .stands (c .before .before .before .before .before .before .if1 .left)) _ (c .before .before .before .before .before .version1 .ensures) _ _ refl _ (sym (c .before .r .given .1) ∙ h .check-header .ensures) in
+    let k = c .before .before .before .before in
+    let e = follow-refused _ _ _ _ (c .before .before .before .cover-after .ensures .0) _ (c .before .r .given .1) in
     (e, follow-promised _ _ _ (of-slice (k .before .before .before .args .list .now) (k .shared-slice-known3 .given)) _ e)
 
 returns-3 : tie.Need-returns-3
 returns-3 c =
-    let n = c .before .before .before in
-    let k = c .before .before .before .before .before .before .before .before .before .before in
-    let f = c .before .before .before .before .before .before .before .before .before .find-task .ensures in
-    let e = follow-body _ _ _ f (f .stands (c .before .before .before .before .before .before .before .before .if1 .left)) _ (c .before .before .before .before .before .before .before .version1 .ensures) _ _ refl _ _ (sym (n .enum-told .given .1) ∙ n .before .before .check-header .ensures) _ refl (c .follow-body .ensures) in
+    let k = c .before .before .before .before .before .before .before .before .before in
+    let e = follow-passes _ _ _ _ (c .before .before .before .before .before .before .before .before .cover-after .ensures .0) _ (c .before .before .before .before .before .before .end .given .1) _ (c .before .before .before .before .version1 .ensures) _ _ (c .before .before .wide .ensures .0) (c .before .span .ensures) (c .if1 .left) in
     (e, follow-promised _ _ _ (of-slice (k .before .before .before .args .list .now) (k .shared-slice-known3 .given)) _ e)
 
 pub follow-list-spec : {M : Type 1} → statement M
@@ -45,16 +30,13 @@ follow-list-spec =
     tie.close
     (tie.spec
     (λ c κs. search needs)
+    (λ c. search needs)
+    (λ c. search needs)
+    (λ c κs. search needs)
+    (λ c. has-head _ _ _ _ (c .before .before .before .before .cover-after .ensures .0) _ (c .before .before .end .given .1))
+    (λ c. rw (c .before .version1 .ensures) (omega arith))
+    (λ c κs. search needs)
+    (λ c κs. rw (c .wide .ensures .0, c .before .before .version1 .ensures) (omega arith))
     returns
-    (λ c κs. search needs)
-    (λ c. rw (c .before .version1 .ensures) (omega arith))
-    (λ c. rw (c .before .version1 .ensures) (omega arith))
-    (λ c κs. search needs)
-    (λ c. search needs)
-    (λ c. search needs)
-    sub-follow-body
-    (λ c. sub-follow-body c)
-    (λ c. search needs)
-    follow-body-requires
     returns-2
     returns-3)

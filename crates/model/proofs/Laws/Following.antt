@@ -17,7 +17,7 @@ unfolding first
 first-zero true c r e = (absurd (omega arith), absurd (omega arith))
 first-zero false c r e = (refl, e)
 
-refuse-at-answered : (c i m : ℕ) (r : Answer ℕ) → refuseAt c i r ≡ answered m → (c ≡ 0) × (r ≡ answered m)
+pub refuse-at-answered : (c i m : ℕ) (r : Answer ℕ) → refuseAt c i r ≡ answered m → (c ≡ 0) × (r ≡ answered m)
 unfolding refuseAt
 refuse-at-answered zero i m r e = (refl, e)
 refuse-at-answered (suc c) i m r e = (cc, cc)
@@ -39,23 +39,27 @@ module _ (w : ℕ) (look : ℕ → ℕ → Look) (n : ℕ) where
       )
       (ap (λ b. first (not b) 69 0) (f .claim))
 
-  -- a list that is followed to its end, from line i and number x on
-  pub follow-passes :
-      (ls : List Line) (i x m : ℕ) → follow w look n ls i x ≡ answered m → Follows w look n ls x × (m ≡ i + length ls)
-  unfolding follow fault
-  follow-passes [] i x m e = let (b, c) = ends-answered _ i m e in ((eqb-true x (2 ^ w) b, tt), omega arith)
-  follow-passes (l ∷ ls) i x m e =
-      let (none, r) = refuse-at-answered (fault w look n l x) i m _ e in
-      let (p, c) = follow-passes ls (suc i) (x + 2 ^ (w - l .k)) m r in
-      let (_, e₁) = first-zero _ 64 _ none in
+  -- a line without a fault begins where it should, and holds
+  pub fault-none : (l : Line) (x : ℕ) → fault w look n l x ≡ 0 → (l .value ≡ x) × LineHolds w look n l
+  unfolding fault
+  fault-none l x e =
+      let (_, e₁) = first-zero _ 64 _ e in
       let (k, e₂) = first-zero _ 65 _ e₁ in
       let (v, e₃) = first-zero _ 66 _ e₂ in
       let (b, e₄) = first-zero _ 67 _ e₃ in
       let (h, _) = first-zero _ 68 _ e₄ in
-      let line : LineHolds w look n l =
-      record { k-fits = ltb-false _ _ k; no-bits = eqb-true _ _ (not-false _ v); claim = not-false _ h }
-      in
-      (((eqb-true _ _ (not-false _ b), p .0), (line, p .1)), omega arith)
+      (eqb-true _ _ (not-false _ b), record { k-fits = ltb-false _ _ k; no-bits = eqb-true _ _ (not-false _ v); claim = not-false _ h })
+
+  -- a list that is followed to its end, from line i and number x on
+  pub follow-passes :
+      (ls : List Line) (i x m : ℕ) → follow w look n ls i x ≡ answered m → Follows w look n ls x × (m ≡ i + length ls)
+  unfolding follow
+  follow-passes [] i x m e = let (b, c) = ends-answered _ i m e in ((eqb-true x (2 ^ w) b, tt), omega arith)
+  follow-passes (l ∷ ls) i x m e =
+      let (none, r) = refuse-at-answered (fault w look n l x) i m _ e in
+      let (p, c) = follow-passes ls (suc i) (x + 2 ^ (w - l .k)) m r in
+      let (b, line) = fault-none l x none in
+      (((b, p .0), (line, p .1)), omega arith)
 
   pub passes-follow : (ls : List Line) (i x : ℕ) → Follows w look n ls x → follow w look n ls i x ≡ answered (i + length ls)
   unfolding follow refuseAt ends

@@ -30,7 +30,7 @@ use Rattle.model.proofs.Laws.Judging.{judged-in}
 -- ---- lengths
 
 -- the lines that are read are those that stand in the bytes
-list-count : (F : Limits) → Sensible F → (s : List ℕ) (ls : List Line) → listOf F s ≡ answered ls → length ls ≡ linesIn F s
+pub list-count : (F : Limits) → Sensible F → (s : List ℕ) (ls : List Line) → listOf F s ≡ answered ls → length ls ≡ linesIn F s
 unfolding listOf caseList _>>=_ _>>_ done
 list-count F S s ls h =
     then-got (answer-got _ h .1) λ u p e h₁.

@@ -5,6 +5,7 @@ use mathlib.Core.Logic.{_⊎_, inl, inr}
 use mathlib.Core.List.{List}
 use Prim.Native.Nat.{ℕ, _-_, _%_, _^_, _≤_}
 use native.Mathlib.Omega.{arith}
+use lib.ListN.{take}
 use lib.Dec.{eqb, ltb}
 use borrow.Author.Tests.{lt-ltb, ltb-true, eq-eqb, eqb-true}
 use Rattle.model.specs.declared.Limits.{Limits}
@@ -13,10 +14,11 @@ use Rattle.model.specs.Answer.{Answer, refused, answered}
 use Rattle.model.specs.Case.{Task, runOf, IsState}
 use Rattle.model.specs.Walk.{judged, lookAt}
 use Rattle.model.specs.CaseList.{follow}
+use Rattle.model.specs.Cover.{coverEnd}
 use Rattle.model.specs.Read.{_>>=_, _>>_, done}
 use Rattle.model.specs.ProblemBytes.{Problem, ending, parts, body, problem, problemOf}
 use Rattle.model.specs.ListBytes.{listOf}
-use Rattle.model.specs.Operations.{isState, taskOf, readTask, runState, lineCount, judge, linesFor, listFor, followList}
+use Rattle.model.specs.Operations.{isState, taskOf, readTask, runState, lineCount, judge, linesFor, listFor, followList, coverAfter}
 use Rattle.model.proofs.Laws.Reading.{then-got, got-inj, answer-got, count-gives}
 
 -- what comes after an answer
@@ -86,3 +88,9 @@ module _ (F : Limits) where
         followList F problem plan list ≡ Answer._>>=_ (listOf F list) (λ ls. follow (T .width) (lookAt T) (T .facts) ls 0 0)
     unfolding followList Answer._>>=_
     follow-is list = rw given
+
+    pub cover-is :
+        (list : List ℕ) (m : ℕ) →
+        coverAfter F problem plan list m ≡ Answer._>>=_ (listOf F list) (λ ls. coverEnd (T .width) (lookAt T) (T .facts) (take m ls) 0 0)
+    unfolding coverAfter Answer._>>=_
+    cover-is list m = rw given
