@@ -9,12 +9,12 @@ pub mod Verdicts
 pub mod Beliefs
 pub mod Grants
 pub mod Following
-pub mod RunningEnd
 pub mod Reading
 pub mod FormulaCodec
 pub mod ProblemCodec
 pub mod ListCodec
 pub mod Tasks
+pub mod RunningEnd
 pub mod Judging
 pub mod Lists
 pub mod Covers

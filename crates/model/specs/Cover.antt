@@ -48,7 +48,14 @@ module _ (w : ℕ) (look : ℕ → ℕ → Look) (n : ℕ) where
   abbrev pub WithoutFault : List Line → ℕ → Type 0
   WithoutFault ls i = (f p : ℕ) → follow w look n ls 0 0 ≡ refused f p → i ≤ p
 
-  -- the fault f of line i, which is the first: no line before has one, and the running value after those is where it should begin
+  -- after the first i lines: the running value, from which what is left is followed, is the end of what they cover together
+  pub record EndAfter (ls : List Line) (i : ℕ) : Type 0 where
+    pub end : ℕ
+    pub running : coverEnd (take i ls) 0 0 ≡ answered end
+    pub goes-on : i ≤ length ls → follow w look n ls 0 0 ≡ follow w look n (drop i ls) i end
+    pub covers : CoversTo w (take i ls) end
+
+  -- the fault f of line i, the first: the lines before have none, and it should begin at the running value after them
   pub record FaultAt (ls : List Line) (f i : ℕ) : Type 0 where
     pub end : ℕ
     pub before : coverEnd (take i ls) 0 0 ≡ answered end
@@ -60,10 +67,9 @@ module _ (w : ℕ) (look : ℕ → ℕ → Look) (n : ℕ) where
   -- W-203, of any lines whatever
   pub record RunningEnd : Type 0 where
     -- "after each line without a fault it is the end of what all lines so far cover together"
-    pub is-end :
-        (ls : List Line) (i : ℕ) → WithoutFault ls i →
-        (e : ℕ) × (coverEnd (take i ls) 0 0 ≡ answered e) × CoversTo w (take i ls) e
-    -- at a fault the running value is that of the lines before it
+    pub is-end : (ls : List Line) (i : ℕ) → WithoutFault ls i → EndAfter ls i
     pub at-fault : (ls : List Line) (f i : ℕ) → coverEnd ls 0 0 ≡ refused f i → FaultAt ls f i
     -- "Every answer, number and place is the same.": following is the running value, and one test of it after the last line
     pub same-answers : (ls : List Line) → follow w look n ls 0 0 ≡ coverEnd ls 0 0 >>= λ e. ends (eqb e (2 ^ w)) (length ls)
+    -- so a list that passes covers every number of the width, each once
+    pub passes-whole : (ls : List Line) (m : ℕ) → follow w look n ls 0 0 ≡ answered m → CoversTo w ls (2 ^ w)

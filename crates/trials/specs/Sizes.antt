@@ -7,7 +7,7 @@ use Rattle.model.specs.Limits.{version1}
 use Rattle.model.specs.Answer.{answered}
 use Rattle.model.specs.Walk.{right, wrong}
 use Rattle.model.specs.Text.{ascii, hex}
-use Rattle.model.specs.Trials.{read-problem, judge-with, desk, verdict, text, Row, _⇒_, no-step, step-0, grant, block1, accepts, refuses, initially, stalls-at}
+use Rattle.model.specs.Trials.{read-problem, judge-with, cover-after, desk, number, verdict, text, Row, _⇒_, no-step, step-0, grant, block1, accepts, refuses, initially, stalls-at}
 
 -- so many effects, each on condition fact 0, from a literal byte on
 abbrev rising : ℕ → ℕ → List ℕ
@@ -59,7 +59,12 @@ quarter v =
     (ascii v ++ (ascii "00??\n" ++
     carrying v ("0100" ∷ "0101" ∷ "0110" ∷ "0111" ∷ "1000" ∷ "1001" ∷ "1010" ∷ "1011" ∷ "1100" ∷ "1101" ∷ "1110" ∷ "1111" ∷ [])))
 
--- 16, 17 and 22 at their edges; 48 facts and 256 steps; a conflict of fact 47 (W-202); pages whose numbers have three digits
+-- for `wide` and its action once: two lines of one number each, and one of the two after them
+abbrev single-numbers : List ℕ
+single-numbers = block1 (hex "01 30 000000000000 01 30 000000000001 01 2f 000000000002")
+
+-- 16, 17 and 22 at their edges; 48 facts and 256 steps; a conflict of fact 47 (W-202); pages whose numbers have three digits; the running
+-- value after lines that fix all of 48 facts, and after one that fixes none (W-203)
 abbrev pub sizes : List Row
 sizes =
     (read-problem (block1 (hex "01 41 0001 00 0001 00" ++ idle 65)) ⇒ refuses 16 6)
@@ -72,4 +77,8 @@ sizes =
     ∷ (desk version1 bushy no-step ⇒ text (ascii "right lines 52 visited 103\n" ++ (quarter "00" ++ (quarter "01" ++ (quarter "10" ++ quarter "11")))))
     ∷ (desk version1 bushy (hex "01 0000000b 00 00 00 00 00 00 00 00 00 00 01") ⇒ text (ascii "wrong 111111 at step 10 member 0 visited 103\n"))
     ∷ (judge-with wide-both step-0 grant ⇒ verdict (answered (wrong 0 (stalls-at 0 47) 49)))
+    ∷ (cover-after wide step-0 single-numbers 1 ⇒ number (answered 1))
+    ∷ (cover-after wide step-0 single-numbers 2 ⇒ number (answered 2))
+    ∷ (cover-after wide step-0 single-numbers 3 ⇒ number (answered 4))
+    ∷ (cover-after wide step-0 (block1 (hex "01 00 000000000000")) 1 ⇒ number (answered 0x1000000000000))
     ∷ []

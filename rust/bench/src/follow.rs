@@ -3,16 +3,18 @@
 use std::hint::black_box;
 
 use conformance::encode;
-use conformance::families::bombs;
+use conformance::families::{bombs, idle};
+use conformance::gen::even_cover;
 use conformance::model::{Action, Effect, Formula, Line, Problem};
 use conformance::version::VERSION_1;
 use larkhammock::Refusal;
 
-use crate::page::{nanoseconds, whole, Table};
+use crate::page::{nanoseconds, ratio, whole, Table};
 use crate::problems::Measured;
-use crate::timing::median;
+use crate::timing::{median, times, Times};
 
-const LINES: [usize; 4] = [1_000, 2_000, 4_000, 8_000];
+/// Of these many lines a row has the time of one.
+const LINES: [usize; 6] = [1_000, 2_000, 3_000, 4_000, 6_000, 8_000];
 
 /// The lines of the longest list.
 const MOST_LINES: usize = 8_191;
@@ -20,28 +22,9 @@ const MOST_LINES: usize = 8_191;
 /// The longest problem block.
 const LONGEST: usize = 32_768;
 
-/// So many lines that carry, as even as may be, for the case that fixes the first
-/// k facts to the top bits of `value`.
-fn carrying(lines: usize, k: u8, value: u64) -> Vec<Line> {
-    if lines == 1 {
-        return vec![Line { kind: 1, k, value }];
-    }
-    let half = 1 << (47 - k);
-    let mut list = carrying(lines.div_ceil(2), k + 1, value);
-    list.extend(carrying(lines / 2, k + 1, value + half));
-    list
-}
-
 /// Every case carries the empty plan.
-fn idle() -> Measured {
-    let problem = Problem {
-        version: VERSION_1,
-        facts: 13,
-        initial: Formula::always(),
-        goal: Formula::always(),
-        actions: Vec::new(),
-    };
-    Measured::new("empty plan", problem, Vec::new())
+fn empty_plan() -> Measured {
+    Measured::new("empty plan", idle(VERSION_1, 13), Vec::new())
 }
 
 /// Every case with an open package carries the plan.
@@ -87,25 +70,52 @@ fn read(inputs: &[&[u8]]) {
     let _ = black_box(larkhammock::read_problem(inputs[0]));
 }
 
+/// The block of the first so many lines.
+fn first(lines: usize, list: &[Line]) -> Vec<u8> {
+    encode::list(&VERSION_1, &list[..lines])
+}
+
+/// Follows the first so many lines, which are sound and end short.
+fn ends_short(measured: &Measured, list: &[u8], lines: usize) {
+    let Measured { problem, plan, .. } = measured;
+    let short = Refusal {
+        number: 70,
+        place: lines as u64,
+    };
+    assert_eq!(larkhammock::follow_list(problem, plan, list), Err(short));
+}
+
+/// How much longer 6,000 lines take than their first 3,000: the least times, of
+/// samples in turn.
+fn twice_the_lines(measured: &Measured, lines: &[Line]) -> f64 {
+    let Measured { problem, plan, .. } = measured;
+    let [long, short] = [6_000, 3_000].map(|count| first(count, lines));
+    let follow_long = |inputs: &[&[u8]]| follow(&[inputs[0], inputs[1], inputs[2]]);
+    let follow_short = |inputs: &[&[u8]]| follow(&[inputs[0], inputs[1], inputs[3]]);
+    let inputs: [&[u8]; 4] = [problem, plan, &long, &short];
+    let [long, short]: [Times; 2] = times(&inputs, [&follow_long, &follow_short]);
+    long.best / short.best
+}
+
 pub fn section() -> String {
-    let mut table = Table::new(&["plan", "steps", "1,000", "2,000", "4,000", "8,000"]);
-    for measured in [idle(), disarmed()] {
+    let columns = LINES.map(|lines| whole(lines as u64));
+    let mut head = vec!["plan", "steps"];
+    head.extend(columns.iter().map(String::as_str));
+    head.push("6,000 / 3,000");
+    let mut table = Table::new(&head);
+    for measured in [empty_plan(), disarmed()] {
         let Measured { problem, plan, .. } = &measured;
         let mut cells = vec![measured.name.clone(), measured.steps.len().to_string()];
-        let whole = carrying(MOST_LINES, 0, 0);
-        let passes = larkhammock::follow_list(problem, plan, &encode::list(&VERSION_1, &whole));
+        let lines = even_cover(&VERSION_1, MOST_LINES);
+        let passes = larkhammock::follow_list(problem, plan, &first(MOST_LINES, &lines));
         assert_eq!(passes, Ok(MOST_LINES as u64));
-        for lines in LINES {
-            let list = encode::list(&VERSION_1, &whole[..lines]);
-            let ends_short = Refusal {
-                number: 70,
-                place: lines as u64,
-            };
-            let answer = larkhammock::follow_list(problem, plan, &list);
-            assert_eq!(answer, Err(ends_short));
+        for count in LINES {
+            let list = first(count, &lines);
+            ends_short(&measured, &list, count);
             let seconds = median(&[problem, plan, &list], &follow);
-            cells.push(nanoseconds(seconds / lines as f64));
+            cells.push(nanoseconds(seconds / count as f64));
         }
+        cells.push(ratio(twice_the_lines(&measured, &lines)));
         table.row(&cells);
     }
     let problem = longest();
@@ -123,5 +133,7 @@ const ABOUT: &str = "
 ## Follow and read
 
 Nanoseconds a line of following the first so many lines of a list of 8,191, the longest there is. (They are all sound, and end short:
-70.) A line costs one look at its case, whatever came before it, so each row is flat.
+70.) A line costs one look at its case, whatever came before it, so each row is flat: the cover's end is a running value (W-203). The last
+column is how many times as long 6,000 lines take as their first 3,000, by the least times: 2, where a follower that adds up all lines again at
+each would take 4.
 ";

@@ -1,10 +1,10 @@
 -- The running value of a list that was read: what following makes of it, and each prefix of its lines (W-203). Assumes nothing.
-use mathlib.Core.Path.{_≡_, refl, sym, ap, _∙_, subst}
-use mathlib.Core.List.{List, _∷_}
-use Prim.Native.Nat.{ℕ, suc, _-_, _^_, _≤_}
+use mathlib.Core.Path.{_≡_, refl, sym, ap, _∙_}
+use mathlib.Core.List.{List}
+use Prim.Native.Nat.{ℕ, _^_, _≤_, _<_}
 use native.Mathlib.Nat.{min-le-left}
 use native.Mathlib.Omega.{arith}
-use lib.ListN.{length, take, drop, length-take, length-drop}
+use lib.ListN.{length, take, length-take, length-drop}
 use lib.Seq.{take-all, take-take}
 use lib.Dec.{eqb}
 use Rattle.model.specs.declared.Limits.{Limits}
@@ -18,7 +18,7 @@ use Rattle.model.specs.ListBytes.{listOf}
 use Rattle.model.specs.Operations.{readTask, followList, coverAfter}
 use Rattle.model.specs.WellFormed.{Sensible}
 use Rattle.model.specs.Demands.{linesIn}
-use Rattle.model.proofs.Laws.RunningEnd.{same-refusal, end-kept, covers-to, fault-at, same-answers}
+use Rattle.model.proofs.Laws.RunningEnd.{covers-to, end-kept, fault-at, same-answers}
 use Rattle.model.proofs.Laws.Tasks.{answer-then, follow-is, cover-is, task-fits}
 use Rattle.model.proofs.Laws.Lists.{list-count}
 
@@ -35,34 +35,23 @@ module _ (F : Limits) (problem plan list : List ℕ) where
     unfolding Answer._>>=_
     cover-lines m = cover-is F problem plan T given list m ∙ rw read
 
-    -- the first i of m lines, none of which has a fault
-    prefix-kept :
-        (m i : ℕ) → i ≤ m → ((f p : ℕ) → coverEnd (T .width) (lookAt T) (T .facts) (take m ls) 0 0 ≡ refused f p → i ≤ p) →
+    pub cover-covers : (m e : ℕ) → coverAfter F problem plan list m ≡ answered e → CoversTo (T .width) (take m ls) e
+    cover-covers m e h = covers-to (T .width) (lookAt T) (T .facts) (take m ls) e (sym (cover-lines m) ∙ h)
+
+    -- the first i of m lines, where these are without a fault
+    pub cover-kept :
+        (m i : ℕ) → i ≤ m → ((f p : ℕ) → coverAfter F problem plan list m ≡ refused f p → i ≤ p) →
         (e : ℕ) × (coverAfter F problem plan list i ≡ answered e) × CoversTo (T .width) (take i ls) e
-    prefix-kept m i l h =
-        let (e, r, c) = end-kept (T .width) (lookAt T) (T .facts) (take m ls) i h in
+    cover-kept m i l h =
+        let (e, r, c) = end-kept (T .width) (lookAt T) (T .facts) (take m ls) i (λ f p g. h f p (cover-lines m ∙ g)) in
         let z = take-take i m ls l in
         (e, cover-lines i ∙ rw z at r, rw z at c)
 
-    module _ (m : ℕ) where
-      pub answered-covers : (e : ℕ) → coverAfter F problem plan list m ≡ answered e → CoversTo (T .width) (take m ls) e
-      answered-covers e h = covers-to (T .width) (lookAt T) (T .facts) (take m ls) e (sym (cover-lines m) ∙ h)
-
-      pub answered-kept :
-          (e : ℕ) → coverAfter F problem plan list m ≡ answered e → (i : ℕ) → i ≤ m →
-          (d : ℕ) × (coverAfter F problem plan list i ≡ answered d) × CoversTo (T .width) (take i ls) d
-      answered-kept e h i l = prefix-kept m i l λ f p g. let k = cover-lines m in let z : _≡_ {A = ℕ} 0 1 = cc in absurd (omega arith)
-
-      pub refused-at : (f q : ℕ) → coverAfter F problem plan list m ≡ refused f q → FaultAt (T .width) (lookAt T) (T .facts) (take m ls) f q
-      refused-at f q h = fault-at (T .width) (lookAt T) (T .facts) (take m ls) f q (sym (cover-lines m) ∙ h)
-
-      pub refused-kept :
-          (f q : ℕ) → coverAfter F problem plan list m ≡ refused f q → (i : ℕ) → i ≤ q →
-          (d : ℕ) × (coverAfter F problem plan list i ≡ answered d) × CoversTo (T .width) (take i ls) d
-      refused-kept f q h i l =
-          let o = refused-at f q h in
-          let inside : i ≤ m = omega (arith, sym (length-drop q (take m ls)) ∙ ap length (o .stands), length-take m ls, min-le-left m (length ls)) in
-          prefix-kept m i inside λ g p k. let (_, place) = same-refusal (sym k ∙ sym (cover-lines m) ∙ h) in omega arith
+    -- a fault of m lines is that of one of them
+    pub cover-fault : (m f q : ℕ) → coverAfter F problem plan list m ≡ refused f q → FaultAt (T .width) (lookAt T) (T .facts) (take m ls) f q × (q < m)
+    cover-fault m f q h =
+        let o = fault-at (T .width) (lookAt T) (T .facts) (take m ls) f q (sym (cover-lines m) ∙ h) in
+        (o, omega (arith, sym (length-drop q (take m ls)) ∙ ap length (o .stands), length-take m ls, min-le-left m (length ls)))
 
   -- following all lines is one test of the value after them
   module _ (S : Sensible F) (m : ℕ) (all : linesIn F list ≤ m) where

@@ -22,7 +22,7 @@ unfolding refuseAt
 refuse-at-answered zero i m r e = (refl, e)
 refuse-at-answered (suc c) i m r e = (cc, cc)
 
-ends-answered : (b : Bool) (i m : ℕ) → ends b i ≡ answered m → (b ≡ true) × (i ≡ m)
+pub ends-answered : (b : Bool) (i m : ℕ) → ends b i ≡ answered m → (b ≡ true) × (i ≡ m)
 unfolding ends
 ends-answered true i m e = (refl, cc)
 ends-answered false i m e = (cc, cc)

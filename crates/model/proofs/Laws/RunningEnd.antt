@@ -8,12 +8,13 @@ use native.Mathlib.Omega.{arith}
 use native.Mathlib.Decide.{decLe, decLt}
 use lib.ListN.{length, take, drop}
 use lib.Dec.{eqb}
-use lib.Pow.{pow-pos}
+use borrow.Author.Tests.{eqb-true}
 use Rattle.model.specs.Answer.{Answer, refused, answered, _>>=_}
 use Rattle.model.specs.Walk.{Look, Line}
 use Rattle.model.specs.CaseList.{refuseAt, ends, fault, follow}
 use Rattle.model.specs.Cover.{CoveredBy, CoveredOnce, CoversTo, coverEnd, FaultAt, RunningEnd}
-use Rattle.model.proofs.Laws.Following.{refuse-at-answered, fault-none}
+use Rattle.model.proofs.Laws.Following.{refuse-at-answered, ends-answered, fault-none}
+use Rattle.model.proofs.Laws.Tasks.{answer-then}
 
 pub same-refusal : {f g p q : ℕ} → _≡_ {A = Answer ℕ} (refused f p) (refused g q) → (f ≡ g) × (p ≡ q)
 same-refusal e = (cc, cc)
@@ -88,51 +89,25 @@ module _ (w : ℕ) (look : ℕ → ℕ → Look) (n : ℕ) where
       ]
 
   -- where the first fault is found, from line j and number x on
-  record FaultFrom (ls : List Line) (j x f p : ℕ) : Type 0 where
-    pub i : ℕ
-    pub place : p ≡ j + i
-    pub end : ℕ
-    pub before : coverEnd w look n (take i ls) j x ≡ answered end
-    pub line : Line
-    pub after : List Line
-    pub stands : drop i ls ≡ line ∷ after
-    pub is : fault w look n line end ≡ f
-
-  found : (ls : List Line) (j x f p : ℕ) → coverEnd w look n ls j x ≡ refused f p → FaultFrom ls j x f p
+  found :
+      {C : Type 0} (ls : List Line) (j x f p : ℕ) → coverEnd w look n ls j x ≡ refused f p →
+      ((i e : ℕ) (l : Line) (after : List Line) → p ≡ j + i → coverEnd w look n (take i ls) j x ≡ answered e → drop i ls ≡ l ∷ after → fault w look n l e ≡ f → C) → C
   unfolding coverEnd
-  found [] j x f p h = let z : _≡_ {A = ℕ} 0 1 = cc in absurd (omega arith)
-  found (l ∷ ls) j x f p h =
+  found [] j x f p h c = let z : _≡_ {A = ℕ} 0 1 = cc in absurd (omega arith)
+  found (l ∷ ls) j x f p h c =
       elim (decLt 0 (fault w look n l x)) [
-        | yes q ↦
-            let (number, place) = same-refusal (sym (fault-line l ls j x _ refl q) ∙ h) in
-            record { i = 0; place = omega arith; end = x; before = refl; line = l; after = ls; stands = refl; is = number }
+        | yes q ↦ let (number, place) = same-refusal (sym (fault-line l ls j x _ refl q) ∙ h) in c 0 x l ls (omega arith) refl refl number
         | no q ↦
             let none : fault w look n l x ≡ 0 = omega arith in
-            let r = found ls (suc j) (x + 2 ^ (w - l .k)) f p (sym (next-line l ls j x none) ∙ h) in
-            record {
-              i = suc (r .i);
-              place = omega (arith, r .place);
-              end = r .end;
-              before = next-line l (take (r .i) ls) j x none ∙ r .before;
-              line = r .line;
-              after = r .after;
-              stands = r .stands;
-              is = r .is;
-            }
+            found ls (suc j) (x + 2 ^ (w - l .k)) f p (sym (next-line l ls j x none) ∙ h) λ i e m after place before stands is.
+            c (suc i) e m after (omega arith) (next-line l (take i ls) j x none ∙ before) stands is
       ]
 
   pub fault-at : (ls : List Line) (f i : ℕ) → coverEnd w look n ls 0 0 ≡ refused f i → FaultAt w look n ls f i
   fault-at ls f i h =
-      let r = found ls 0 0 f i h in
-      let z : r .i ≡ i = omega (arith, r .place) in
-      record {
-        end = r .end;
-        before = subst (λ (i : ℕ). coverEnd w look n (take i ls) 0 0 ≡ answered (r .end)) z (r .before);
-        line = r .line;
-        after = r .after;
-        stands = subst (λ (i : ℕ). drop i ls ≡ r .line ∷ r .after) z (r .stands);
-        is = r .is;
-      }
+      found ls 0 0 f i h λ j e l after place before stands is.
+      let z : j ≡ i = omega arith in
+      record { end = e; before = rw z at before; line = l; after = after; stands = rw z at stands; is = is }
 
   -- ---- following
 
@@ -158,11 +133,33 @@ module _ (w : ℕ) (look : ℕ → ℕ → Look) (n : ℕ) where
       (e : ℕ) × (coverEnd w look n (take i ls) 0 0 ≡ answered e) × CoversTo w (take i ls) e
   end-kept ls i h = let (e, r) = prefix ls 0 0 i (λ f p g. omega (arith, h f p g)) in (e, r, covers-to (take i ls) e r)
 
+  -- what is left is followed from the running value on
+  goes-on :
+      (ls : List Line) (j x i e : ℕ) → coverEnd w look n (take i ls) j x ≡ answered e → i ≤ length ls →
+      follow w look n ls j x ≡ follow w look n (drop i ls) (j + i) e
+  unfolding coverEnd follow refuseAt
+  goes-on ls j x zero e h l = let z : x ≡ e = cc in rw z (ap (λ (k : ℕ). follow w look n ls k e) (omega arith))
+  goes-on [] j x (suc i) e h l = absurd (omega arith)
+  goes-on (l ∷ ls) j x (suc i) e h k =
+      let (none, r) = refuse-at-answered (fault w look n l x) j e _ h in
+      let z : suc j + i ≡ j + suc i = omega arith in
+      rw (none, refuseAt, ← z) (goes-on ls (suc j) _ i e r (omega arith))
+
+  whole : (ls : List Line) (m : ℕ) → follow w look n ls 0 0 ≡ answered m → CoversTo w ls (2 ^ w)
+  whole ls m h =
+      answer-then (sym (same-answers ls) ∙ h) λ e r t.
+      let z = eqb-true e (2 ^ w) (ends-answered _ (length ls) m t .0) in
+      subst (CoversTo w ls) z (covers-to ls e r)
+
   pub running-end : RunningEnd w look n
   unfolding _>>=_
   running-end =
       record {
-        is-end = λ ls i h. end-kept ls i (λ f p g. h f p (same-answers ls ∙ rw g));
+        is-end =
+            λ ls i h.
+            let (e, r, c) = end-kept ls i (λ f p g. h f p (same-answers ls ∙ rw g)) in
+            record { end = e; running = r; goes-on = λ l. goes-on ls 0 0 i e r l ∙ ap (λ (k : ℕ). follow w look n (drop i ls) k e) (omega arith); covers = c };
         at-fault = fault-at;
         same-answers = same-answers;
+        passes-whole = whole;
       }

@@ -7,7 +7,19 @@ pub mod sorting;
 pub mod store;
 
 use crate::encode;
-use crate::model::{Action, Effect, Formula};
+use crate::model::{Action, Effect, Formula, Problem};
+use crate::version::Version;
+
+/// No action, and nothing to reach: every case carries the empty plan.
+pub fn idle(version: Version, facts: u8) -> Problem {
+    Problem {
+        version,
+        facts,
+        initial: Formula::always(),
+        goal: Formula::always(),
+        actions: Vec::new(),
+    }
+}
 
 /// An action that is always applicable. Its effects may come in any order.
 fn action(mut effects: Vec<Effect>) -> Action {

@@ -150,6 +150,26 @@ pub fn every_cover(version: &Version, facts: u8) -> Vec<Vec<Line>> {
     below(version, whole, facts)
 }
 
+/// A cover of all states by so many lines that claim to carry, as even as may
+/// be.
+pub fn even_cover(version: &Version, lines: usize) -> Vec<Line> {
+    fn below(version: &Version, lines: usize, line: Line) -> Vec<Line> {
+        if lines == 1 {
+            return vec![line];
+        }
+        let [no, yes] = halves(version, line);
+        let mut list = below(version, lines.div_ceil(2), no);
+        list.extend(below(version, lines / 2, yes));
+        list
+    }
+    let whole = Line {
+        kind: 1,
+        k: 0,
+        value: 0,
+    };
+    below(version, lines, whole)
+}
+
 /// A case in two on its next fact, with the same claim.
 fn halves(version: &Version, line: Line) -> [Line; 2] {
     [0, version.bit(line.k)].map(|bit| Line {

@@ -13,7 +13,7 @@ use crate::version::{Version, MOST_PLAN_BYTES, MOST_PROBLEM_BYTES, PLAN_VERSION}
 
 use damage::{arbitrary, damaged, scribbled, unsound};
 pub use formulas::formula_of_size;
-pub use lists::{altered, cover, every_cover, refined, Alteration};
+pub use lists::{altered, cover, even_cover, every_cover, refined, Alteration};
 use problems::wide_task;
 pub use problems::{right_task, task};
 pub use rng::Rng;
