@@ -113,11 +113,7 @@ pub fn refined(rng: &mut Rng, task: &Task, lines: &[Line]) -> Vec<Line> {
 pub fn cover(task: &Task) -> Vec<Line> {
     let version = &task.problem.version;
     let mut done = Vec::new();
-    let mut open = vec![Line {
-        kind: 1,
-        k: 0,
-        value: 0,
-    }];
+    let mut open = vec![whole(1)];
     while let Some(line) = open.pop() {
         match closes(task, &version.values(line.value, line.k)) {
             None if line.k < task.problem.facts => open.extend(halves(version, line).iter().rev()),
@@ -142,12 +138,7 @@ pub fn every_cover(version: &Version, facts: u8) -> Vec<Vec<Line>> {
         }
         covers
     }
-    let whole = Line {
-        kind: 0,
-        k: 0,
-        value: 0,
-    };
-    below(version, whole, facts)
+    below(version, whole(0), facts)
 }
 
 /// A cover of all states by so many lines that claim to carry, as even as may
@@ -162,12 +153,16 @@ pub fn even_cover(version: &Version, lines: usize) -> Vec<Line> {
         list.extend(below(version, lines / 2, yes));
         list
     }
-    let whole = Line {
-        kind: 1,
+    below(version, lines, whole(1))
+}
+
+/// One line for all states.
+fn whole(kind: u8) -> Line {
+    Line {
+        kind,
         k: 0,
         value: 0,
-    };
-    below(version, lines, whole)
+    }
 }
 
 /// A case in two on its next fact, with the same claim.
