@@ -1,5 +1,6 @@
 -- Demand 1 of the code for lists, and W-203: from the contracts' equations and the theorems about the definitions. Assumes nothing.
 use mathlib.Core.Path.{_≡_, refl, sym, _∙_}
+use mathlib.Core.Logic.{inl, inr}
 use mathlib.Core.List.{List}
 use Prim.Native.Nat.{ℕ, _≤_}
 use native.Mathlib.Omega.{arith}
@@ -13,7 +14,7 @@ use Rattle.model.specs.Operations.{readTask, followList, coverAfter}
 use Rattle.model.specs.WellFormed.{Bytes}
 use Rattle.model.proofs.Laws.Tasks.{answer-then}
 use Rattle.model.proofs.Laws.RunningEnd.{same-refusal}
-use Rattle.model.proofs.Laws.Covers.{cover-read, cover-covers, cover-kept, cover-fault}
+use Rattle.model.proofs.Laws.Covers.{cover-read, cover-refusal, cover-covers, cover-kept, cover-fault-at}
 use Rattle.model.proofs.Demands.{version1-holds}
 use Rattle.blocks.proofs.Promise.{not-refused}
 use Rattle.follow.specs.Promise.{FollowPromised, EndKept, CoverPromised}
@@ -43,9 +44,13 @@ module _ (problem plan : List ℕ) where
 
   pub cover-promised : (list : List ℕ) (m : ℕ) (r : Answer ℕ) → r ≡ coverAfter version1 problem plan list m → CoverPromised problem plan list m r
   cover-promised list m (refused n q) e =
-      λ T h lines k.
-      let (o, inside) = cover-fault version1 problem plan list T h lines k m n q (sym e) in
-      (o, λ i l. kept list T h lines k m i (omega arith) (λ f p g. let (_, place) = same-refusal (sym g ∙ sym e) in omega arith))
+      elim (cover-refusal version1 problem plan list m n q (sym e)) [
+        | inl h ↦ inl h
+        | inr (T, h, inl k) ↦ inr (T, h, inl k)
+        | inr (T, h, inr (lines, k)) ↦
+            let (o, inside) = cover-fault-at version1 problem plan list T h lines k m n q (sym e) in
+            inr (T, h, inr (lines, k, o, λ i l. kept list T h lines k m i (omega arith) (λ f p g. let (_, place) = same-refusal (sym g ∙ sym e) in omega arith)))
+      ]
   cover-promised list m (answered x) e =
       let (T, h, lines, k) = cover-read version1 problem plan list m x (sym e) in (
         T,

@@ -1,5 +1,6 @@
 -- What an answer of `follow_list` promises, and one of `cover_after`.
 use mathlib.Core.Path.{_≡_}
+use mathlib.Core.Logic.{_⊎_}
 use mathlib.Core.List.{List}
 use Prim.Native.Nat.{ℕ, _≤_}
 use lib.ListN.{length, take}
@@ -28,8 +29,8 @@ pub record EndKept (problem plan list : List ℕ) (T : Task) (lines : List Line)
   pub answers : coverAfter version1 problem plan list i ≡ answered end
   pub covers : CoversTo (T .width) (take i lines) end
 
--- so it is for every prefix of lines without a fault: of those asked for, or of those before the first fault, whose number and place are
--- told
+-- so it is for every prefix of lines without a fault: of those asked for, or of those before the first fault. Any other refusal is that of the
+-- problem and the plan, or of the list's block.
 abbrev pub CoverPromised : List ℕ → List ℕ → List ℕ → ℕ → Answer ℕ → Type 0
 CoverPromised problem plan list m (answered e) =
     (T : Task) × (readTask version1 problem plan ≡ answered T) ×
@@ -37,7 +38,9 @@ CoverPromised problem plan list m (answered e) =
     CoversTo (T .width) (take m lines) e ×
     ((i : ℕ) → i ≤ m → EndKept problem plan list T lines i)
 CoverPromised problem plan list m (refused n q) =
-    (T : Task) → readTask version1 problem plan ≡ answered T →
-    (lines : List Line) → listOf version1 list ≡ answered lines →
+    (readTask version1 problem plan ≡ refused n q) ⊎
+    ((T : Task) × (readTask version1 problem plan ≡ answered T) ×
+    ((listOf version1 list ≡ refused n q) ⊎
+    ((lines : List Line) × (listOf version1 list ≡ answered lines) ×
     FaultAt (T .width) (lookAt T) (T .facts) (take m lines) n q ×
-    ((i : ℕ) → i ≤ q → EndKept problem plan list T lines i)
+    ((i : ℕ) → i ≤ q → EndKept problem plan list T lines i))))

@@ -1,5 +1,6 @@
 -- The running value of a list that was read: what following makes of it, and each prefix of its lines (W-203). Assumes nothing.
 use mathlib.Core.Path.{_≡_, refl, sym, ap, _∙_}
+use mathlib.Core.Logic.{_⊎_, inl, inr}
 use mathlib.Core.List.{List}
 use Prim.Native.Nat.{ℕ, _^_, _≤_, _<_}
 use native.Mathlib.Nat.{min-le-left}
@@ -19,7 +20,7 @@ use Rattle.model.specs.Operations.{readTask, followList, coverAfter}
 use Rattle.model.specs.WellFormed.{Sensible}
 use Rattle.model.specs.Demands.{linesIn}
 use Rattle.model.proofs.Laws.RunningEnd.{covers-to, end-kept, fault-at, same-answers}
-use Rattle.model.proofs.Laws.Tasks.{answer-then, follow-is, cover-is, task-fits}
+use Rattle.model.proofs.Laws.Tasks.{answer-then, refusal-of, follow-is, cover-is, task-fits}
 use Rattle.model.proofs.Laws.Lists.{list-count}
 
 module _ (F : Limits) (problem plan list : List ℕ) where
@@ -29,6 +30,18 @@ module _ (F : Limits) (problem plan list : List ℕ) where
       (T : Task) × (readTask F problem plan ≡ answered T) × (ls : List Line) × (listOf F list ≡ answered ls)
   unfolding coverAfter
   cover-read m e h = answer-then h λ T g h₁. answer-then h₁ λ ls r h₂. (T, g, ls, r)
+
+  -- what has none was refused as a task or as a block, or was read
+  pub cover-refusal :
+      (m f q : ℕ) → coverAfter F problem plan list m ≡ refused f q →
+      (readTask F problem plan ≡ refused f q) ⊎
+      ((T : Task) × (readTask F problem plan ≡ answered T) × ((listOf F list ≡ refused f q) ⊎ ((ls : List Line) × (listOf F list ≡ answered ls))))
+  unfolding coverAfter
+  cover-refusal m f q h =
+      elim (refusal-of (readTask F problem plan) h) [
+        | inl e ↦ inl e
+        | inr (T, e, g) ↦ elim (refusal-of (listOf F list) g) [ inl r ↦ inr (T, e, inl r) | inr (ls, r, _) ↦ inr (T, e, inr (ls, r)) ]
+      ]
 
   module _ (T : Task) (given : readTask F problem plan ≡ answered T) (ls : List Line) (read : listOf F list ≡ answered ls) where
     cover-lines : (m : ℕ) → coverAfter F problem plan list m ≡ coverEnd (T .width) (lookAt T) (T .facts) (take m ls) 0 0
@@ -48,8 +61,8 @@ module _ (F : Limits) (problem plan list : List ℕ) where
         (e, cover-lines i ∙ rw z at r, rw z at c)
 
     -- a fault of m lines is that of one of them
-    pub cover-fault : (m f q : ℕ) → coverAfter F problem plan list m ≡ refused f q → FaultAt (T .width) (lookAt T) (T .facts) (take m ls) f q × (q < m)
-    cover-fault m f q h =
+    pub cover-fault-at : (m f q : ℕ) → coverAfter F problem plan list m ≡ refused f q → FaultAt (T .width) (lookAt T) (T .facts) (take m ls) f q × (q < m)
+    cover-fault-at m f q h =
         let o = fault-at (T .width) (lookAt T) (T .facts) (take m ls) f q (sym (cover-lines m) ∙ h) in
         (o, omega (arith, sym (length-drop q (take m ls)) ∙ ap length (o .stands), length-take m ls, min-le-left m (length ls)))
 

@@ -29,6 +29,14 @@ unfolding Answer._>>=_
 answer-then {x = refused n q} h f = let z : _≡_ {A = ℕ} 0 1 = cc in absurd (omega arith)
 answer-then {x = answered a} h f = f a refl h
 
+-- what a refusal is of
+pub refusal-of :
+    {A B : Type 0} {k : A → Answer B} {n q : ℕ} (x : Answer A) → Answer._>>=_ x k ≡ refused n q →
+    (x ≡ refused n q) ⊎ ((a : A) × (x ≡ answered a) × (k a ≡ refused n q))
+unfolding Answer._>>=_
+refusal-of (refused m p) h = inl (cc)
+refusal-of (answered a) h = inr (a, refl, h)
+
 -- the test of a state's number tells
 pub state-tested : (T : Task) (s : ℕ) → (IsState T s × (isState T s ≡ true)) ⊎ ((IsState T s → ⊥) × (isState T s ≡ false))
 unfolding isState
