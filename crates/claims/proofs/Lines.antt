@@ -185,8 +185,9 @@ module _ (size : ℕ) (problem steps actions : List ℕ) (facts : ℕ) (S : Foll
 pub word-fits : (size n : ℕ) → Followable size n → (v : ℕ) → v < 2 ^ widthOf size → (0 < widthOf size) × (widthOf size ≤ 64) × (v < 2 ^ widthOf size)
 word-fits size n S v h = (omega (arith, S .least), omega (arith, S .most), h)
 
-pub end-small : (size n : ℕ) → Followable size n → (k v : ℕ) → v < 2 ^ widthOf size → v + 2 ^ (widthOf size - k) < 2 ^ 64
-end-small size n S k v h =
+-- no case that begins in the width ends past a word
+pub end-small : (size n : ℕ) → Followable size n → (k v b : ℕ) → v < 2 ^ widthOf size → b ≤ v → b + 2 ^ (widthOf size - k) < 2 ^ 64
+end-small size n S k v b h l =
     let i = pow-mono {i = widthOf size - k} {j = widthOf size} (omega arith) in
     let j = pow-mono {i = suc (widthOf size)} {j = 64} (omega (arith, S .most)) in
     omega (arith, pow-suc 2 (widthOf size))

@@ -20,7 +20,7 @@ follow-line-spec =
     (λ c κs. let p = c .before .before .before .before .before .before .before .before .before .before .before .pre in word-fits _ _ (p .0) _ (line-small _ _ (p .0) _ _ _ (c .before .before .before .before .before .before .before .check-at .ensures) _ (c .before .before .before .before .before .l .given .1)))
     (λ c κs. let p = c .before .before .before .before .before .before .before .before .before .before .before .before .before .pre in (p .3, omega (arith, p .0 .most, p .0 .facts, p .1), omega (arith, p .0 .most, p .0 .facts, c .before .before .wide .ensures .0, k-fits _ _ (p .0) _ _ _ (c .before .before .before .before .before .before .before .before .before .check-at .ensures) _ (c .before .before .before .before .before .before .before .l .given .1))))
     (λ c κs. search needs)
-    (λ c κs. let p = c .before .before .before .before .before .before .before .before .before .before .before .before .before .before .before .before .before .pre in let y = c .before .before .before .before .before .before .before .before .before .before .before .before .before .check-at .ensures in let e = c .before .before .before .before .before .before .before .before .before .before .before .l .given .1 in let w = c .before .before .before .before .before .before .wide .ensures .0 in (omega (arith, p .0 .most, p .0 .facts, w, k-fits _ _ (p .0) _ _ _ y _ e), omega (arith, p .0 .most), omega (arith, end-small _ _ (p .0) (c .before .before .before .before .before .before .wide .result) _ (line-small _ _ (p .0) _ _ _ y _ e))))
+    (λ c κs. let p = c .before .before .before .before .before .before .before .before .before .before .before .before .before .before .before .before .before .pre in let y = c .before .before .before .before .before .before .before .before .before .before .before .before .before .check-at .ensures in let e = c .before .before .before .before .before .before .before .before .before .before .before .l .given .1 in let w = c .before .before .before .before .before .before .wide .ensures .0 in (omega (arith, p .0 .most, p .0 .facts, w, k-fits _ _ (p .0) _ _ _ y _ e), omega (arith, p .0 .most), end-small _ _ (p .0) _ _ _ (line-small _ _ (p .0) _ _ _ y _ e) (omega arith)))
     (λ c. let p = c .before .before .before .before .before .before .before .pre in line-faulty _ _ _ _ _ (p .0) _ _ _ _ _ _ (c .before .before .before .check-at .ensures) _ (c .before .number .given .1) (p .3))
     (λ c. let p = c .before .before .before .before .before .before .before .before .before .before .before .before .before .before .before .before .before .before .pre in line-claims _ _ _ _ _ (p .0) _ _ _ _ _ _ (c .before .before .before .before .before .before .before .before .before .before .before .before .before .before .check-at .ensures) _ (c .before .before .before .before .before .before .before .before .before .before .before .before .l .given .1) (c .before .before .before .before .before .before .before .before .if1 .left) (p .1) _ (c .before .before .before .before .before .before .before .wide .ensures .0) _ refl _ (c .before .before .before .before .before .before .word-of .ensures) _ (c .before .before .before .before .set-case .ensures) _ (c .before .before .check-claim .ensures) _ (c .before .if2 .taken) (c .end-of .ensures))
     (λ c. let p = c .before .before .before .before .before .before .before .before .before .before .before .before .before .before .before .before .before .pre in line-denied _ _ _ _ _ (p .0) _ _ _ _ _ _ (c .before .before .before .before .before .before .before .before .before .before .before .before .before .check-at .ensures) _ (c .before .before .before .before .before .before .before .before .before .before .before .l .given .1) (c .before .before .before .before .before .before .before .if1 .left) (p .1) _ (c .before .before .before .before .before .before .wide .ensures .0) _ refl _ (c .before .before .before .before .before .word-of .ensures) _ (c .before .before .before .set-case .ensures) _ (c .before .check-claim .ensures) (c .if2 .left)))
