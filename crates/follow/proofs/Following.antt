@@ -189,7 +189,7 @@ module _ (F : Limits) (problem steps : List ℕ) (parts : Problem) (list : List 
   body-refused h = record { is = λ T S. rw (ne-eqb ((length list - headBytes) % F .line) 0 h) }
 
   pub body-lines :
-      Sensible F → (k : ℕ) → (m < (length list - headBytes) / F .line → k ≡ m) × ((length list - headBytes) / F .line ≤ m → k ≡ (length list - headBytes) / F .line) →
+      Sensible F → (k : ℕ) → (m < linesIn F list → k ≡ m) × (linesIn F list ≤ m → k ≡ linesIn F list) →
       (r : CoverAnswer) → (length list - headBytes) % F .line ≡ 0 →
       FollowsLines F problem steps (parts .action) (parts .facts) (placesOf parts) list k r → FollowsBody F problem steps parts list m r
   body-lines S k least r h y =
@@ -235,10 +235,11 @@ module _ (F : Limits) (list : List ℕ) (most : ℕ) (most-is : most ≡ headByt
   unfolding listOf caseList _>>_ andThen
   list-body q e = let g = next-got headed q (sym e) in rw (← most-is, g .is) (tested-list _ (length list) q _)
 
-module _ (problem plan list : List ℕ) (m : ℕ) where
-  pub cover-refused : (r : blocks.Task) → FindsTask version1 problem plan r → r .refused ≡ true → refusal (r .refusal) ≡ coverAfter version1 problem plan list m
-  unfolding coverAfter Answer._>>=_
-  cover-refused r f h = rw (f .refusal h)
+pub cover-refused :
+    (problem plan list : List ℕ) (m : ℕ) (r : blocks.Task) → FindsTask version1 problem plan r → r .refused ≡ true →
+    refusal (r .refusal) ≡ coverAfter version1 problem plan list m
+unfolding coverAfter Answer._>>=_
+cover-refused problem plan list m r f h = rw (f .refusal h)
 
 -- F are the numbers that were found
 module _ (problem plan : List ℕ) (r : blocks.Task) (f : FindsTask version1 problem plan r) (o : StandsFound version1 problem plan r) (F : Limits) (F-is : F ≡ version1) where
@@ -281,13 +282,10 @@ list-headed F list ls h = then-got (answer-got (caseList F list 0) h .1) λ u p 
 
 -- the running value after every line tells all
 module _ (problem plan list : List ℕ) (r : CoverAnswer) (y : coverAnswer r ≡ coverAfter version1 problem plan list (length list)) where
-  abbrev lines : ℕ
-  lines = linesIn version1 list
-
-  tested : followList version1 problem plan list ≡ Answer._>>=_ (coverAnswer r) (λ e. ends (eqb e (2 ^ 48)) lines)
+  tested : followList version1 problem plan list ≡ Answer._>>=_ (coverAnswer r) (λ e. ends (eqb e (2 ^ version1 .width)) (linesIn version1 list))
   unfolding Answer._>>=_
   tested =
-      let few : lines ≤ length list = omega (arith, div-le-self (length list - headBytes) 8) in
+      let few : linesIn version1 list ≤ length list = omega (arith, div-le-self (length list - headBytes) (version1 .line)) in
       follow-tested version1 problem plan list version1-sensible (length list) few ∙ rw (sym y)
 
   pub follow-refused : (t : Refusal) → r ≡ CoverRefused t → refusal t ≡ followList version1 problem plan list
@@ -303,7 +301,7 @@ module _ (problem plan list : List ℕ) (r : CoverAnswer) (y : coverAnswer r ≡
       follow-ended : (t : Bool) → eqb e whole ≡ t → ends t (linesIn F list) ≡ followList version1 problem plan list
       unfolding Answer._>>=_
       follow-ended t h =
-          let z : whole ≡ 2 ^ 48 = all ∙ rw (w-as, F-is) in
+          let z : whole ≡ 2 ^ version1 .width = all ∙ rw (w-as, F-is) in
           sym (tested ∙ rw (ended, sym z, h, F-is))
 
       pub follow-short : (e ≡ whole → ⊥) → refused 70 (linesIn F list) ≡ followList version1 problem plan list
