@@ -16,7 +16,7 @@ use Rattle.model.specs.WellFormed.{Declared, Formed, FormedAll}
 use Rattle.model.specs.Planes.{laneBit, InLane, Table}
 use Rattle.model.specs.Stands.{Span, FormulaAt, Member, Members}
 use Rattle.model.proofs.Laws.Reading.{empty, first, split, span-length}
-use Rattle.model.proofs.Laws.FormulaCodec.{literal-ok}
+use Rattle.model.proofs.Laws.FormulaCodec.{literal-ok, stated-bytes}
 use Rattle.model.proofs.Laws.Planes.{ones, bit-ones, bit-zero, lane-both, lane-either, all-no, all-yes}
 use Rattle.evaluate.specs.declared.Planes.{Planes}
 use Rattle.evaluate.specs.declared.Literal as declared
@@ -309,17 +309,10 @@ outer s facts p (any ms) q h d v = (conjunction, item h conjunction (any ms) (me
 pub stated :
     (s : List ℕ) (facts p : ℕ) (f : Formula) (q : ℕ) → facts ≤ 64 → FormulaAt s facts p f q →
     (g : Group) × (q ≡ p + 2 + (getD s p 0 * 256 + getD s (p + 1) 0)) × Item s facts g (p + 2) f q
-unfolding encodeFormula bytesOf
 stated s facts p f q h at =
-    let n = length (formulaBytes f) in
-    let (_, a, w) = first (at .bytes) in
-    let (_, b, u) = first w in
-    let i : p + 1 + 1 ≡ p + 2 = omega arith in
-    let v : Span s (length s) (p + 2) (formulaBytes f) q = rw i at u in
-    let m : n ≤ 1024 = at .ok .short in
-    let k : (n / 256) % 256 * 256 + n / 1 % 256 ≡ n = omega arith in
+    let (e, v) = stated-bytes s facts p f q at in
     let (g, o) = outer s facts (p + 2) f q h (at .ok .formed) v in
-    (g, rw (a, b, k) (span-length v), o)
+    (g, e, o)
 
 module _ (s c : List ℕ) (p : ℕ) where
   pub formula-nothing :

@@ -20,6 +20,7 @@ use Rattle.model.proofs.Laws.Reading.{answer-got}
 use Rattle.model.proofs.Laws.ProblemCodec.{problem-gives, problem-ok, plan-gives, plan-ok}
 use Rattle.model.proofs.Laws.ListCodec.{list-sound, list-ok}
 use Rattle.model.proofs.Laws.Tasks.{answer-then, task-fits}
+use Rattle.model.proofs.Laws.Tracing.{relevances, work-unchanged}
 use Rattle.model.proofs.Laws.Judging.{verdicts}
 use Rattle.model.proofs.Laws.RunningEnd.{running-end}
 use Rattle.model.proofs.Laws.Lists.{written-answered, refused-unchanged, wrote, lists, n≤w}
@@ -41,6 +42,7 @@ module _ (F : Limits) (S : Sensible F) where
             rw (problem-ok F S (encodeProblem F p) p k refl, Answer._>>=_, plan);
         refused-unchanged =
             λ problem plan grant out n q e. refused-unchanged F out n q (listFor F problem plan grant (length out)) e;
+        refused-work-unchanged = work-unchanged F;
         rest-unchanged =
             λ problem plan grant out n e.
             answer-then (written-answered F out n (listFor F problem plan grant (length out)) e .1) λ T given _.
@@ -54,6 +56,7 @@ module _ (F : Limits) (S : Sensible F) where
         demand1 = reading;
         demand2 = λ problem plan T given. verdicts T (n≤w F S T (task-fits F problem plan T given)) F problem plan given;
         demand3 = λ problem plan T given. lists F S T (task-fits F problem plan T given) problem plan given;
+        relevance = λ problem plan T given. relevances F problem plan T given (n≤w F S T (task-fits F problem plan T given));
       }
 
 pub version1-sensible : Sensible version1

@@ -4,6 +4,8 @@ pub mod Agreement
 pub mod Held
 pub mod Planes
 pub mod Cover
+pub mod StateNumbers
+pub mod Relevance
 pub mod Splitting
 pub mod Verdicts
 pub mod Beliefs
@@ -15,6 +17,7 @@ pub mod ProblemCodec
 pub mod ListCodec
 pub mod Tasks
 pub mod RunningEnd
+pub mod Tracing
 pub mod Judging
 pub mod Lists
 pub mod Covers

@@ -24,6 +24,8 @@ use Rattle.model.specs.declared.CoverAnswer.{CoverAnswer}
 use Rattle.model.specs.declared.CoverAnswer.the-variants.{Refused as CoverRefused, Ends}
 use Rattle.model.specs.declared.FollowAnswer.{FollowAnswer}
 use Rattle.model.specs.declared.FollowAnswer.the-variants.{Refused as FollowRefused, Passes}
+use Rattle.model.specs.declared.RelevantAnswer.{RelevantAnswer}
+use Rattle.model.specs.declared.RelevantAnswer.the-variants.{Refused as RelevantRefused, Facts}
 
 -- "Each refusal carries a number and a place"
 abbrev pub refusal : {A : Type 0} → Refusal → Answer A
@@ -75,3 +77,8 @@ followAnswer (Passes n) = answered n
 abbrev pub coverAnswer : CoverAnswer → Answer ℕ
 coverAnswer (CoverRefused r) = refusal r
 coverAnswer (Ends e) = answered e
+
+-- "a set of start facts, as a state number with those bits set" (W-204)
+abbrev pub relevantAnswer : RelevantAnswer → Answer ℕ
+relevantAnswer (RelevantRefused r) = refusal r
+relevantAnswer (Facts m) = answered m

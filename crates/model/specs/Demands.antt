@@ -1,5 +1,5 @@
--- The three demands, said of the operations' definitions. A reviewer opens this file first; proofs/Demands.antt proves it for every
--- version whose numbers are sensible, and so for version 1.
+-- The three demands, said of the operations' definitions, and what document 02 asks to be proved of its own. A reviewer opens this file
+-- first; proofs/Demands.antt proves it for every version whose numbers are sensible, and so for version 1.
 --
 -- What no definition can say is proved of the code by the toolchain: that every call ends and touches only the lent buffers. Each
 -- operation's contract is an equation with its definition, so what is said here of a definition holds of the code's answer.
@@ -14,11 +14,12 @@ use Rattle.model.specs.Run.{Outcome, reached}
 use Rattle.model.specs.Case.{stateOf, Task, runOf, IsState, IsStart, Right}
 use Rattle.model.specs.Belief.{Solution, initialBelief, OutcomeMeans}
 use Rattle.model.specs.Walk.{Line, covered, Verdict, right, wrong, undecided, visits, lookAt, walked}
+use Rattle.model.specs.Relevance.{relevantTo, workBytes, runRows, AgreeOn}
 use Rattle.model.specs.Read.{headBytes}
 use Rattle.model.specs.ProblemBytes.{Problem, problemOf, planOf, encodeProblem, encodePlan}
 use Rattle.model.specs.ListBytes.{listOf, encodeList}
 use Rattle.model.specs.WellFormed.{Bytes, Each, ProblemOk, PlanOk, ListOk, LineHolds, Joined}
-use Rattle.model.specs.Operations.{taskOf, readTask, runState, judge, listBytes, writeList, followList}
+use Rattle.model.specs.Operations.{taskOf, readTask, runState, judge, listBytes, writeList, followList, relevantFacts}
 
 -- Demand 1, "All input": ".. refuses malformed blocks by number and place in the stated order, calls nothing else malformed, and a
 -- refused call changes no byte." The order is the text of the readers (FormulaBytes, ProblemBytes, ListBytes).
@@ -42,6 +43,9 @@ pub record Demand1 (F : Limits) : Type 0 where
   pub refused-unchanged :
       (problem plan : List ℕ) (grant : ℕ) (out : List ℕ) (n q : ℕ) →
       writeList F problem plan grant out .answer ≡ refused n q → writeList F problem plan grant out .buffer ≡ out
+  pub refused-work-unchanged :
+      (problem plan : List ℕ) (s : ℕ) (work : List ℕ) (n q : ℕ) →
+      relevantFacts F problem plan s work .answer ≡ refused n q → relevantFacts F problem plan s work .buffer ≡ work
   -- "A call that writes changes nothing past what it is said to write, and returns the length of each block it wrote."
   pub rest-unchanged :
       (problem plan : List ℕ) (grant : ℕ) (out : List ℕ) (n : ℕ) → writeList F problem plan grant out .answer ≡ answered n →
@@ -153,7 +157,32 @@ pub record Demand3 (F : Limits) (problem plan : List ℕ) (T : Task) : Type 0 wh
       (list : List ℕ) (m : ℕ) → followList F problem plan list ≡ answered m →
       linesIn F (listWritten F problem plan grant out n) ≤ linesIn F list
 
+-- W-204, for a problem and a plan that are read as T: "which start facts an outcome rests on"
+pub record Relevance (F : Limits) (problem plan : List ℕ) (T : Task) : Type 0 where
+  -- "It refuses .. with 41 if the run is not reached and 42 if the work area is short", after 40; otherwise it answers
+  pub no-state : (s : ℕ) (work : List ℕ) → (IsState T s → ⊥) → relevantFacts F problem plan s work .answer ≡ refused 40 0
+  pub not-reached :
+      (s : ℕ) (work : List ℕ) → IsState T s → runOf T s ≢ reached → relevantFacts F problem plan s work .answer ≡ refused 41 0
+  pub short-work :
+      (s : ℕ) (work : List ℕ) → IsState T s → runOf T s ≡ reached → length work < workBytes T →
+      relevantFacts F problem plan s work .answer ≡ refused 42 0
+  pub answers :
+      (s : ℕ) (work : List ℕ) → IsState T s → runOf T s ≡ reached → workBytes T ≤ length work →
+      relevantFacts F problem plan s work .answer ≡ answered (relevantTo T s)
+  -- "The answer is a set of start facts, as a state number": of declared facts only
+  pub is-state : (s : ℕ) (work : List ℕ) (m : ℕ) → relevantFacts F problem plan s work .answer ≡ answered m → IsState T m
+  -- "any other state which agrees on that set is also reached"
+  pub reached-too :
+      (s : ℕ) (work : List ℕ) (m : ℕ) → relevantFacts F problem plan s work .answer ≡ answered m →
+      (t : ℕ) → IsState T t → AgreeOn T m s t → runState F problem plan t ≡ answered reached
+  -- the work area holds the states of the run, and past them it is unchanged
+  pub work-holds :
+      (s : ℕ) (work : List ℕ) (m : ℕ) → relevantFacts F problem plan s work .answer ≡ answered m →
+      (take (workBytes T) (relevantFacts F problem plan s work .buffer) ≡ runRows T s) ×
+      (drop (workBytes T) (relevantFacts F problem plan s work .buffer) ≡ drop (workBytes T) work)
+
 pub record Demands (F : Limits) : Type 0 where
   pub demand1 : Demand1 F
   pub demand2 : (problem plan : List ℕ) (T : Task) → readTask F problem plan ≡ answered T → Demand2 F problem plan T
   pub demand3 : (problem plan : List ℕ) (T : Task) → readTask F problem plan ≡ answered T → Demand3 F problem plan T
+  pub relevance : (problem plan : List ℕ) (T : Task) → readTask F problem plan ≡ answered T → Relevance F problem plan T

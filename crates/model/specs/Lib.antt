@@ -10,6 +10,7 @@ pub mod Walk
 pub mod Answer
 pub mod CaseList
 pub mod Cover
+pub mod Relevance
 pub mod Read
 pub mod FormulaBytes
 pub mod ProblemBytes

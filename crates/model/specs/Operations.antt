@@ -1,5 +1,5 @@
--- The six public operations, each from the bytes of its arguments to its whole answer (document 01, "The operations and what they
--- turn down"); and the running value that following keeps (document 02, W-203).
+-- The public operations, each from the bytes of its arguments to its whole answer: the six of document 01 ("The operations and what they
+-- turn down"), and those of document 02; and the running value that following keeps (W-203).
 use mathlib.Core.Bool.{Bool, cond, _&&_}
 use mathlib.Core.List.{List, _++_, map}
 use Prim.Native.Nat.{ℕ, _+_, _-_, _*_, _%_, _^_}
@@ -7,11 +7,12 @@ use lib.ListN.{length, take, drop}
 use lib.Dec.{eqb, ltb}
 use Rattle.model.specs.declared.Limits.{Limits}
 use Rattle.model.specs.Answer.{Answer, refused, answered, _>>=_}
-use Rattle.model.specs.Run.{Outcome}
+use Rattle.model.specs.Run.{Outcome, reached, missed, blocked}
 use Rattle.model.specs.Case.{Task, runOf}
 use Rattle.model.specs.Walk.{Line, Verdict, right, wrong, undecided, lookAt, judged}
 use Rattle.model.specs.CaseList.{follow}
 use Rattle.model.specs.Cover.{coverEnd}
+use Rattle.model.specs.Relevance.{relevantTo, workBytes, runRows}
 use Rattle.model.specs.Read.{headBytes}
 use Rattle.model.specs.ProblemBytes.{Problem, problemOf, planOf, actionAt}
 use Rattle.model.specs.ListBytes.{listOf, encodeList}
@@ -32,6 +33,17 @@ isState T s = ltb s (2 ^ T .width) && eqb (s % 2 ^ (T .width - T .facts)) 0
 -- the run of one state, of a problem and a plan that were read
 abbrev pub stateAnswer : Task → ℕ → Answer Outcome
 stateAnswer T s = cond (isState T s) (answered (runOf T s)) (refused 40 0)
+
+-- "41 if the run is not reached" (W-204)
+abbrev pub whenReached : {A : Type 0} → Outcome → Answer A → Answer A
+whenReached reached x = x
+whenReached missed x = refused 41 0
+whenReached (blocked p) x = refused 41 0
+
+-- the set of facts that the run of the state s rests on, and what the work area holds then
+abbrev pub tracedBack : ℕ → List ℕ → Answer Task → Written
+tracedBack s work (refused n q) = record { answer = refused n q; buffer = work }
+tracedBack s work (answered T) = record { answer = answered (relevantTo T s); buffer = runRows T s ++ drop (workBytes T) work }
 
 abbrev pub lineCount : Verdict (List Line) → Verdict ℕ
 lineCount (right ls a) = right (length ls) a
@@ -121,3 +133,16 @@ module _ (F : Limits) where
     T ← readTask problem plan
     ls ← listOf F list
     coverEnd (T .width) (lookAt T) (T .facts) (take lines ls) 0 0
+
+  -- "It refuses, after the run's refusals, with 41 if the run is not reached and 42 if the work area is short" (W-204): the task whose run of
+  -- the state s is reached, and whose rows a work area of that length holds
+  unfoldable pub reachedTask : List ℕ → List ℕ → ℕ → ℕ → Answer Task
+  reachedTask problem plan s room = do
+    T ← readTask problem plan
+    o ← stateAnswer T s
+    whenReached o (cond (ltb room (workBytes T)) (refused 42 0) (answered T))
+
+  -- "Tell us which start facts an outcome rests on": the set as a state number; "A refused call changes no byte", and otherwise the work
+  -- area's first rows hold the states of the run, and the rest is unchanged
+  unfoldable pub relevantFacts : List ℕ → List ℕ → ℕ → List ℕ → Written
+  relevantFacts problem plan s work = tracedBack s work (reachedTask problem plan s (length work))

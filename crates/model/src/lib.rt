@@ -140,7 +140,7 @@ pub enum Outcome {
     Blocked(Stop),
 }
 
-// The answers of the six operations.
+// The answers of the operations.
 pub enum ProblemAnswer {
     Refused(Refusal),
     Accepted { facts: u8, actions: u8 },
@@ -186,4 +186,10 @@ pub enum FollowAnswer {
 pub enum CoverAnswer {
     Refused(Refusal),
     Ends { end: u64 },
+}
+
+// The start facts that an outcome rests on, as the number of a state with their bits set.
+pub enum RelevantAnswer {
+    Refused(Refusal),
+    Facts { set: u64 },
 }

@@ -5,7 +5,7 @@ use mathlib.Core.List.{List, [], _∷_}
 use Prim.Native.Nat.{ℕ, zero, suc, _+_, _-_, _*_, _/_, _%_, _≤_, _<_}
 use native.Mathlib.Omega.{arith}
 use native.Mathlib.Decide.{decLt, ℕ-discrete}
-use lib.ListN.{length}
+use lib.ListN.{length, getD}
 use lib.Dec.{eqb, ltb, leb}
 use borrow.Author.Tests.{ltb-true, leb-true, eqb-true, eqb-false, not-true, lt-ltb, le-ltb, le-leb, ne-eqb}
 use Rattle.model.specs.Limits.{maxFormulaBytes, maxDepth}
@@ -13,7 +13,7 @@ use Rattle.model.specs.Formula.{Literal, fact, denial, Formula, Formulas
 use Rattle.model.specs.Read.{got, Reader, andThen, _>>=_, _>>_, done, position, require, bytesOf}
 use Rattle.model.specs.FormulaBytes.{isLiteral, literalOf, literalByte, Group, conjunction, disjunction, mark, Head, leaf, group, groupHead, headFrom, head, members, whole, item, stated, formula, memberCount, formulaBytes, memberBytes, encodeFormula}
 use Rattle.model.specs.WellFormed.{Bytes, Declared, Formed, FormedAll, FormulaOk}
-use Rattle.model.specs.Stands.{Span, nothing}
+use Rattle.model.specs.Stands.{Span, nothing, FormulaAt}
 use Rattle.model.proofs.Laws.Reading.{both-true, Gives, gives, reads, tests, empty, first, join, split, span-length, span-end, span-within, byte-gives, small-byte, byte-ok}
 
 -- literals
@@ -233,3 +233,19 @@ module _ (s : List ℕ) where
         item-ok s q facts most f maxDepth 0 m q (k .formed) (span-within q w (omega arith)),
         le-leb q q (omega arith),
       )
+
+-- ---- the formula that stands at p: where its stated bytes are
+
+pub stated-bytes :
+    (s : List ℕ) (facts p : ℕ) (f : Formula) (q : ℕ) → FormulaAt s facts p f q →
+    (q ≡ p + 2 + (getD s p 0 * 256 + getD s (p + 1) 0)) × Span s (length s) (p + 2) (formulaBytes f) q
+unfolding encodeFormula bytesOf
+stated-bytes s facts p f q at =
+    let n = length (formulaBytes f) in
+    let (_, a, w) = first (at .bytes) in
+    let (_, b, u) = first w in
+    let i : p + 1 + 1 ≡ p + 2 = omega arith in
+    let v : Span s (length s) (p + 2) (formulaBytes f) q = rw i at u in
+    let m : n ≤ 1024 = at .ok .short in
+    let k : (n / 256) % 256 * 256 + n / 1 % 256 ≡ n = omega arith in
+    (rw (a, b, k) (span-length v), v)
