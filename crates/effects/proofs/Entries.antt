@@ -1,15 +1,20 @@
 -- The entries of an action by their numbers: their literals rise, so each has its own condition. Assumes nothing.
-use mathlib.Core.Path.{_≡_, refl, sym, ap, _∙_}
+use mathlib.Core.Path.{_≡_, refl, sym, ap, subst, _∙_}
 use mathlib.Core.List.{List, [], _∷_}
 use Prim.Native.Nat.{ℕ, zero, suc, _+_, _≤_, _<_, suc-le-suc}
 use native.Mathlib.Omega.{arith}
 use native.Mathlib.Decide.{ℕ-discrete}
-use lib.ListN.{length}
+use native.Mathlib.Numerals.{add-one}
+use lib.ListN.{length, getD, drop}
+use lib.Seq.{drop-cons}
 use Rattle.model.specs.Limits.{maxFacts}
 use Rattle.model.specs.Formula.{Literal, any, none}
 use Rattle.model.specs.Action.{Effect, conditionIn, conditionOf}
-use Rattle.model.specs.FormulaBytes.{literalByte}
+use Rattle.model.specs.FormulaBytes.{literalByte, encodeFormula}
+use Rattle.model.specs.ProblemBytes.{effectsBytes}
 use Rattle.model.specs.WellFormed.{Declared, EffectsOk}
+use Rattle.model.specs.Stands.{Span, FormulaAt}
+use Rattle.model.proofs.Laws.Reading.{first, split}
 use Rattle.effects.specs.Effects.{entryAt}
 use Rattle.effects.proofs.Settling.{own-condition, other-condition}
 
@@ -58,3 +63,34 @@ module _ (facts : ℕ) (m : facts ≤ maxFacts) where
   condition-none least (e ∷ es) l ok d h =
       other-condition facts least e es l m ok d (λ z. h zero (omega arith) (sym z)) ∙
       condition-none (literalByte (e .literal) + 1) es l (ok .3) d (λ i b. h (suc i) (suc-le-suc b))
+
+-- ---- entries that stand in bytes
+
+-- the entries from number i on
+pub drop-entry : (es : List Effect) (i : ℕ) → i < length es → drop i es ≡ entryAt es i ∷ drop (i + 1) es
+drop-entry es i h = drop-cons es i _ h ∙ ap (λ (x : ℕ). entryAt es i ∷ drop x es) (sym (add-one i))
+
+-- of the entries es, which end at q, those from number e on stand from p on
+pub record Left (s : List ℕ) (facts : ℕ) (es : List Effect) (q e p : ℕ) : Type 0 where
+  pub least : ℕ
+  pub ok : EffectsOk facts least (drop e es)
+  pub stands : Span s (length s) p (effectsBytes (drop e es)) q
+
+-- the next of them: its literal's byte, its condition, and those after it
+pub entry-stands :
+    (s : List ℕ) (facts : ℕ) (es : List Effect) (q e p : ℕ) → e < length es → Left s facts es q e p →
+    (p < length s) × (getD s p 0 ≡ byteAt es e) × Declared facts (entryAt es e .literal) ×
+    (m : ℕ) × FormulaAt s facts (p + 1) (entryAt es e .condition) m × Left s facts es q (e + 1) m
+unfolding effectsBytes
+entry-stands s facts es q e p l left =
+    let d = drop-entry es e l in
+    let ok = subst (EffectsOk facts (left .least)) d (left .ok) in
+    let v = first (subst (λ (y : List Effect). Span s (length s) p (effectsBytes y) q) d (left .stands)) in
+    split (encodeFormula (entryAt es e .condition)) (v .2) λ m a b. (
+      v .0,
+      v .1,
+      ok .0,
+      m,
+      record { ok = ok .2; bytes = a },
+      record { least = byteAt es e + 1; ok = ok .3; stands = b },
+    )

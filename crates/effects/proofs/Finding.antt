@@ -4,41 +4,30 @@ use mathlib.Core.Path.{_≡_, refl, sym, ap, _∙_, subst}
 use mathlib.Core.List.{List, [], _∷_}
 use Prim.Native.Nat.{ℕ, zero, suc, _+_, _*_, _-_, _%_, _≤_, _<_}
 use native.Mathlib.Omega.{arith}
-use native.Mathlib.Numerals.{add-one}
 use native.Mathlib.Decide.{ℕ-discrete}
 use native.Mathlib.Nat.{mod-eq-of-lt}
 use lib.ListN.{length, getD, set, drop, length-set}
-use lib.Seq.{getD-set-same, getD-set-other, drop-cons}
+use lib.Seq.{getD-set-same, getD-set-other}
 use lib.Bits.{bitOr}
 use Rattle.model.specs.Limits.{maxFacts, maxEffects}
 use Rattle.model.specs.Kleene.{Kleene, No, either, denied, three}
 use Rattle.model.specs.Formula.{Literal, fact, denial, valueOf, eval}
 use Rattle.model.specs.Action.{Effect, Action, step}
-use Rattle.model.specs.FormulaBytes.{literalOf, literalByte, encodeFormula}
+use Rattle.model.specs.FormulaBytes.{literalOf, literalByte}
 use Rattle.model.specs.ProblemBytes.{effectsBytes}
 use Rattle.model.specs.WellFormed.{Declared, EffectsOk}
 use Rattle.model.specs.Planes.{Table}
 use Rattle.model.specs.Stands.{Span}
-use Rattle.model.proofs.Laws.Reading.{first, split}
+use Rattle.model.proofs.Laws.Reading.{first}
 use Rattle.model.proofs.Laws.Planes.{denied-both, lane-either, literal-fact, literal-denial, table-same}
 use Rattle.evaluate.specs.declared.Planes.{Planes}
 use Rattle.evaluate.specs.Planes.{FormulaPlanes}
 use Rattle.table.specs.Tables.{Sized, SetsLiteral}
 use Rattle.effects.specs.Effects.{entryAt, Entries, FindsConditions, settledBy, settled, SettlesEntry, Settles}
 use Rattle.effects.proofs.Settling.{length-settled, settled-step}
-use Rattle.effects.proofs.Entries.{declared-at}
-
--- the entries from number i on
-drop-entry : (es : List Effect) (i : ℕ) → i < length es → drop i es ≡ entryAt es i ∷ drop (i + 1) es
-drop-entry es i h = drop-cons es i _ h ∙ ap (λ (x : ℕ). entryAt es i ∷ drop x es) (sym (add-one i))
+use Rattle.effects.proofs.Entries.{declared-at, drop-entry, Left, entry-stands}
 
 -- ---- finding
-
--- of the entries es, which end at q, those from number e on stand from p on
-pub record Left (s : List ℕ) (facts : ℕ) (es : List Effect) (q e p : ℕ) : Type 0 where
-  pub least : ℕ
-  pub ok : EffectsOk facts least (drop e es)
-  pub stands : Span s (length s) p (effectsBytes (drop e es)) q
 
 pub record Finding (s : List ℕ) (at : ℕ) (c found literals : List ℕ) (n e p : ℕ) : Type 0 where
   pub wide : length found ≡ 256
@@ -133,19 +122,15 @@ module _ (s : List ℕ) (at : ℕ) (c found literals : List ℕ) (n e p : ℕ) (
     next-entry :
         (facts : ℕ) (es : List Effect) (q : ℕ) → facts ≤ maxFacts → e < length es → Left s facts es q e p → Entries c literals found es e →
         Left s facts es q (e + 1) (r .next) × Entries c literals′ found′ es (e + 1)
-    unfolding effectsBytes
     next-entry facts es q m l left old =
-        let d = drop-entry es e l in
-        let ok = subst (EffectsOk facts (left .least)) d (left .ok) in
-        let v = first (subst (λ (y : List Effect). Span s (length s) p (effectsBytes y) q) d (left .stands)) in
-        split (encodeFormula (entryAt es e .condition)) (v .2) λ o a b.
-        let (i, lanes) = x .is facts (entryAt es e .condition) o m (record { ok = ok .2; bytes = a }) in (
-          record { least = literalByte (entryAt es e .literal) + 1; ok = ok .3; stands = subst (λ (y : ℕ). Span s (length s) y (effectsBytes (drop (e + 1) es)) q) (sym i) b },
+        let (_, v, _, o, at, rest) = entry-stands s facts es q e p l left in
+        let (i, lanes) = x .is facts (entryAt es e .condition) o m at in (
+          subst (λ (y : ℕ). Left s facts es q (e + 1) y) (sym i) rest,
           record {
             literal =
                 λ k b.
                 elim (ℕ-discrete k e) [
-                  | yes z ↦ rw z (getD-set-same literals e _ 0 (omega (arith, F .long, F .small)) ∙ v .1)
+                  | yes z ↦ rw z (getD-set-same literals e _ 0 (omega (arith, F .long, F .small)) ∙ v)
                   | no z ↦ getD-set-other literals e k _ 0 z ∙ old .literal k (omega arith)
                 ];
             condition =

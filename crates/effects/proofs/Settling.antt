@@ -14,6 +14,7 @@ use Rattle.model.specs.Limits.{maxFacts}
 use Rattle.model.specs.Kleene.{Kleene, No, Unknown, Yes, both, either, denied, three}
 use Rattle.model.specs.Formula.{Literal, fact, denial, Formula, any, none, eval}
 use Rattle.model.specs.Action.{Effect, Action, sameLiteral, conditionIn, conditionOf, next, step}
+use Rattle.model.specs.Relevance.{factOf}
 use Rattle.model.specs.FormulaBytes.{literalByte}
 use Rattle.model.specs.WellFormed.{Declared, EffectsOk}
 use Rattle.model.proofs.Laws.Tabulate.{getD-tabulate, getD-tabulate-past}
@@ -87,10 +88,6 @@ length-settled v [] = refl
 length-settled v (e ∷ es) = length-by (e .literal) _ (settled v es) ∙ length-settled v es
 
 -- an entry for another fact changes nothing of f
-abbrev factOf : Literal → ℕ
-factOf (fact f) = f
-factOf (denial f) = f
-
 other-fact : (l : Literal) (t : Kleene) (v : List Kleene) (f : ℕ) → (f ≡ factOf l → ⊥) → getD (settledBy l t v) f No ≡ getD v f No
 other-fact (fact g) t v f h = getD-set-other v g f _ No h
 other-fact (denial g) t v f h = getD-set-other v g f _ No h

@@ -2,6 +2,7 @@
 -- Assumes nothing.
 use mathlib.Core.Path.{_≡_, refl, sym, ap, subst, _∙_}
 use mathlib.Core.Bool.{Bool, true, false, _||_}
+use mathlib.Core.Logic.{inl, inr}
 use mathlib.Core.List.{List, [], _∷_, _++_, append-assoc, append-nil}
 use Prim.Native.Nat.{ℕ, suc, _+_, _*_, _-_, _%_, _≤_, _<_}
 use native.Mathlib.Omega.{arith}
@@ -18,7 +19,7 @@ use Rattle.model.specs.Stands.{Span, FormulaAt}
 use Rattle.model.proofs.Laws.Reading.{empty, first, span-length, span-end}
 use Rattle.model.proofs.Laws.FormulaCodec.{stated-bytes}
 use Rattle.names.specs.declared.Named.{Named}
-use Rattle.names.specs.Names.{FactSet, AllDeclared, MembersDeclared, NamesMembers, NamesFacts}
+use Rattle.names.specs.Names.{FactSet, AllDeclared, MembersDeclared, NamesMembers, AfterFormula, NamesFacts}
 use Rattle.names.proofs.Sets.{set-none, set-same, set-or}
 
 -- ---- members one after another
@@ -179,28 +180,41 @@ mutual
 
 module _ (s : List ℕ) (p : ℕ) where
   -- the block ends before it
-  pub names-nothing : (r : Named) → (p + 1 < length s → p + 2 + (getD s p 0 * 256 + getD s (p + 1) 0) ≤ length s → ⊥) → NamesFacts s p r
+  pub after-nothing : (p + 1 < length s → p + 2 + (getD s p 0 * 256 + getD s (p + 1) 0) ≤ length s → ⊥) → AfterFormula s p 0
   unfolding encodeFormula bytesOf
-  names-nothing r h =
+  after-nothing h =
       record {
+        within = omega arith;
+        onward = inl refl;
         is =
-            λ facts f q few at.
+            λ facts f q at.
             let (_, _, w) = first (at .bytes) in
             let (e, v) = stated-bytes s facts p f q at in
             let l = first w .0 in
             absurd (h l (omega (arith, span-end v (omega arith))));
       }
 
-  pub names-stated :
-      (word next : ℕ) → next ≡ p + 2 + (getD s p 0 * 256 + getD s (p + 1) 0) → NamesMembers s (p + 2) next word →
-      NamesFacts s p (record { facts = word; next = next })
-  unfolding names AllDeclared memberBytes
-  names-stated word next i N =
-      record {
-        is =
-            λ facts f q few at.
-            let (e, v) = stated-bytes s facts p f q at in
-            let u : Span s (length s) (p + 2) (memberBytes (more f none)) next = rw (i, ← e, append-nil (formulaBytes f)) v in
-            let o = N .is facts (more f none) few (formed-declared f facts maxDepth 0 (at .ok .formed), tt) u in
-            (i ∙ sym e, set-same o (λ g l. or-none (names f g)));
-      }
+  pub after-stated : (next : ℕ) → next ≡ p + 2 + (getD s p 0 * 256 + getD s (p + 1) 0) → next ≤ length s → AfterFormula s p next
+  after-stated next i l =
+      record { within = l; onward = inr (omega arith); is = λ facts f q at. i ∙ sym (stated-bytes s facts p f q at .0) }
+
+  module _ (next : ℕ) (A : AfterFormula s p next) where
+    pub names-nothing : next ≡ 0 → (r : Named) → NamesFacts s p r
+    names-nothing z r =
+        record { is = λ facts f q few at. let (e, _) = stated-bytes s facts p f q at in absurd (omega (arith, A .is facts f q at)) }
+
+    pub past-length : (next ≡ 0 → ⊥) → p + 2 ≤ next
+    past-length n = elim (A .onward) [ inl z ↦ absurd (n z) | inr l ↦ l ]
+
+    pub names-stated : (word : ℕ) → NamesMembers s (p + 2) next word → NamesFacts s p (record { facts = word; next = next })
+    unfolding names AllDeclared memberBytes
+    names-stated word N =
+        record {
+          is =
+              λ facts f q few at.
+              let (_, v) = stated-bytes s facts p f q at in
+              let e = A .is facts f q at in
+              let u : Span s (length s) (p + 2) (memberBytes (more f none)) next = rw (e, append-nil (formulaBytes f)) v in
+              let o = N .is facts (more f none) few (formed-declared f facts maxDepth 0 (at .ok .formed), tt) u in
+              (e, set-same o (λ g l. or-none (names f g)));
+        }

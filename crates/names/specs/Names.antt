@@ -1,8 +1,9 @@
 -- Sets of facts as words, and the facts that a formula names.
 use mathlib.Core.Path.{_≡_}
 use mathlib.Core.Bool.{Bool}
+use mathlib.Core.Logic.{_⊎_}
 use mathlib.Core.List.{List}
-use Prim.Native.Nat.{ℕ, _≤_, _<_}
+use Prim.Native.Nat.{ℕ, _+_, _≤_, _<_}
 use lib.ListN.{length}
 use Rattle.model.specs.Limits.{maxFacts}
 use Rattle.model.specs.Formula.{Formula, Formulas, lit, all, any, none, more}
@@ -33,6 +34,12 @@ pub record NamesMembers (s : List ℕ) (p q r : ℕ) : Type 0 where
   pub is :
       (facts : ℕ) (ms : Formulas) → facts ≤ maxFacts → MembersDeclared facts ms → Span s (length s) p (memberBytes ms) q →
       FactSet r (memberNames ms)
+
+-- the position after the formula at p, its length field first
+pub record AfterFormula (s : List ℕ) (p r : ℕ) : Type 0 where
+  pub within : r ≤ length s
+  pub onward : (r ≡ 0) ⊎ (p + 2 ≤ r)
+  pub is : (facts : ℕ) (f : Formula) (q : ℕ) → FormulaAt s facts p f q → r ≡ q
 
 -- the facts that the formula at p names, its length field first, and the position after it
 pub record NamesFacts (s : List ℕ) (p : ℕ) (r : Named) : Type 0 where

@@ -4,7 +4,8 @@ ghost use Prim.Native.Nat.{_≤_, _<_};
 ghost use lib.ListN.{length};
 ghost use lib.Dec.{eqb};
 ghost use Rattle.model.specs.Limits.{maxFacts};
-ghost use Rattle.names.specs.Names.{FactSet, NamesMembers, NamesFacts};
+ghost use Rattle.model.specs.Case.{bit};
+ghost use Rattle.names.specs.Names.{FactSet, NamesMembers, AfterFormula, NamesFacts};
 use numbers::span;
 use numbers::wide;
 
@@ -20,6 +21,14 @@ pub fn fact_bit(fact: usize) -> u64
     ensures { λ r. ⌜ FactSet r (eqb fact) ⌝ }
 {
     span(WORD, fact + 1)
+}
+
+// Whether a fact is in a set.
+pub fn has_fact(set: u64, fact: usize) -> bool
+    requires { ⌜ fact < maxFacts ⌝ }
+    ensures { λ r. ⌜ r ≡ bit maxFacts set fact ⌝ }
+{
+    (set >> (WORD - 1 - fact)) % 2 == 1
 }
 
 // The facts that the members from `at` up to `end` name. A mark and its count are passed over: what a group holds follows them.
@@ -44,6 +53,25 @@ fn named_members(s: &[u8], at: usize, end: usize) -> u64
     facts
 }
 
+// The position after the formula whose length field stands at `at`; 0 where the block ends before it does.
+pub fn after_formula(s: &[u8], at: usize) -> usize
+    ensures { λ r. ⌜ AfterFormula (now (s .entry)) at r ⌝ }
+{
+    let len = s.len();
+    if len <= at {
+        return 0;
+    }
+    if len - at < 2 {
+        return 0;
+    }
+    let begin = at + 2;
+    let stated = wide(s[at]) * 256 + wide(s[at + 1]);
+    if len - begin < stated {
+        return 0;
+    }
+    begin + stated
+}
+
 // The facts that a formula names, and the position after it.
 pub struct Named {
     pub facts: u64,
@@ -54,21 +82,12 @@ pub struct Named {
 pub fn named_facts(s: &[u8], at: usize) -> Named
     ensures { λ r. ⌜ NamesFacts (now (s .entry)) at r ⌝ }
 {
-    let len = s.len();
-    if len <= at {
-        return Named { facts: 0, next: at };
+    let next = after_formula(s, at);
+    if next == 0 {
+        return Named { facts: 0, next };
     }
-    if len - at < 2 {
-        return Named { facts: 0, next: at };
-    }
-    let begin = at + 2;
-    let stated = wide(s[at]) * 256 + wide(s[at + 1]);
-    if len - begin < stated {
-        return Named { facts: 0, next: at };
-    }
-    let next = begin + stated;
     Named {
-        facts: named_members(s, begin, next),
+        facts: named_members(s, at + 2, next),
         next,
     }
 }

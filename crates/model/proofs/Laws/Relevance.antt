@@ -71,7 +71,7 @@ module _ {X : Type 0} (L : Logic X) (c d : List X) where
 -- ---- entries
 
 -- "A literal without an entry has a condition that never holds."
-without-entry : (l : Literal) (es : List Effect) → hasEntry l es ≡ false → (found : Formula) → conditionIn found l es ≡ found
+pub without-entry : (l : Literal) (es : List Effect) → hasEntry l es ≡ false → (found : Formula) → conditionIn found l es ≡ found
 unfolding hasEntry conditionIn
 without-entry l [] h found = refl
 without-entry l (e ∷ es) h found =
