@@ -29,7 +29,7 @@ use Rattle.blocks.specs.declared.plan.Task as blocks
 use Rattle.blocks.specs.Parts.{FindsTask}
 use Rattle.blocks.specs.Standing.{StandsFound}
 use Rattle.lines.specs.Putting.{Laid, LinesLaid}
-use Rattle.lines.proofs.Stores.{sets-append}
+use Rattle.model.proofs.Laws.Stores.{sets-append}
 use Rattle.walk.specs.declared.cases.Ending.{Ending}
 use Rattle.walk.specs.declared.cases.Ending.the-variants.{Out, Failed, Closed}
 use Rattle.walk.specs.Walks.{Ended, WalksTask}

@@ -8,3 +8,4 @@ use numbers::wide;
 pub use operation::run;
 pub use start::StateTable;
 pub use start::run_task;
+pub use start::state_table;

@@ -26,7 +26,7 @@ pub struct StateTable {
 }
 
 // The state numbered `state`, over so many facts: no bit past them may be set.
-fn state_table(limits: Limits, state: u64, facts: usize) -> StateTable
+pub fn state_table(limits: Limits, state: u64, facts: usize) -> StateTable
     requires { ⌜ Sensible limits × (facts ≤ limits .facts) ⌝ }
     ensures { λ r. ⌜ HoldsState limits state facts r ⌝ }
 {

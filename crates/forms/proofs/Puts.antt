@@ -13,7 +13,7 @@ use native.Mathlib.Numerals.{add-one}
 use lib.Seq.{sets, take-suc, drop-cons}
 use Rattle.model.specs.Action.{tabulate}
 use Rattle.model.specs.Case.{bit}
-use Rattle.lines.proofs.Stores.{sets-append}
+use Rattle.model.proofs.Laws.Stores.{sets-append}
 use Rattle.forms.specs.Written.{Put, shown, filled, room, mark}
 
 digits-most : (k n : ℕ) → length (digits k n) ≤ k

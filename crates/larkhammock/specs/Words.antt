@@ -18,7 +18,7 @@ abbrev pub problemWords : Answer Counts → List ℕ
 problemWords (refused n q) = refusalWords n q
 problemWords (answered c) = words 1 (c .facts) (c .actions) 0 0
 
--- read_plan: steps; write_list: length written; follow_list: lines
+-- read_plan: steps; write_list: length written; follow_list: lines; relevant_facts: the set of start facts as a state number
 abbrev pub countWords : Answer ℕ → List ℕ
 countWords (refused n q) = refusalWords n q
 countWords (answered n) = words 1 n 0 0 0

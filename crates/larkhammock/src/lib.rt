@@ -3,7 +3,7 @@ ghost use mathlib.Core.Path.{_≡_};
 ghost use mathlib.Core.List.{[], _∷_};
 ghost use Rattle.model.specs.Limits.{version1};
 ghost use Rattle.model.specs.Answers.{part as partOf, outcome as meaning};
-ghost use Rattle.model.specs.Operations.{readProblem, readPlan, runState, judge, writeList, followList};
+ghost use Rattle.model.specs.Operations.{readProblem, readPlan, runState, judge, writeList, followList, relevantFacts};
 ghost use Rattle.larkhammock.specs.Words.{refusalWords, partWord, partNumber, wrongWords, problemWords, countWords, runWords, judgeWords};
 use model::FollowAnswer;
 use model::JudgeAnswer;
@@ -12,6 +12,7 @@ use model::Part;
 use model::PlanAnswer;
 use model::ProblemAnswer;
 use model::Refusal;
+use model::RelevantAnswer;
 use model::RunAnswer;
 use model::WriteAnswer;
 
@@ -151,5 +152,21 @@ pub extern "C" fn larkhammock_follow_list(problem: &[u8], plan: &[u8], list: &[u
     match follow::follow_list(problem, plan, list) {
         FollowAnswer::Refused(r) => refused(r),
         FollowAnswer::Passes { lines } => row(1, lines as u64, 0, 0, 0),
+    }
+}
+
+#[no_mangle]
+pub extern "C" fn larkhammock_relevant_facts(
+    problem: &[u8],
+    plan: &[u8],
+    state: u64,
+    work: &mut [u8],
+) -> Answer
+    ensures { λ r. ⌜ r .word ≡ countWords (relevantFacts version1 (now (problem .entry)) (now (plan .entry)) state (now (work .entry)) .answer) ⌝ }
+    ensures { λ _. ⌜ now (work .exit) ≡ relevantFacts version1 (now (problem .entry)) (now (plan .entry)) state (now (work .entry)) .buffer ⌝ }
+{
+    match relevance::relevant_facts(problem, plan, state, work) {
+        RelevantAnswer::Refused(r) => refused(r),
+        RelevantAnswer::Facts { set } => row(1, set, 0, 0, 0),
     }
 }

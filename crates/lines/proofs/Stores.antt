@@ -2,7 +2,7 @@
 use mathlib.Core.Path.{_≡_, refl, sym, ap, _∙_}
 use mathlib.Core.List.{List, [], _∷_, _++_, append-assoc, append-nil}
 use Prim.Native.Nat.{ℕ, suc, _+_, _-_, _*_, _<_}
-use native.Mathlib.Nat.{add-zero, add-suc, suc-add, mul-zero, mul-suc, mul-add}
+use native.Mathlib.Nat.{mul-zero, mul-suc, mul-add}
 use native.Mathlib.Omega.{arith}
 use lib.ListN.{length, set, length-append}
 use lib.Seq.{sets, length-sets}
@@ -10,16 +10,11 @@ use Rattle.model.specs.declared.Limits.{Limits}
 use Rattle.model.specs.Walk.{Line}
 use Rattle.model.specs.Read.{bytesOf}
 use Rattle.model.specs.ListBytes.{lineBytes, linesBytes}
+use Rattle.model.proofs.Laws.Stores.{sets-append}
 use Rattle.model.proofs.Laws.Reading.{length-bytesOf}
 use Rattle.lines.specs.Putting.{LinesLaid, AddsLine}
 
 -- ---- stores
-
-pub sets-append : (vs ws l : List ℕ) (i : ℕ) → sets l i (vs ++ ws) ≡ sets (sets l i vs) (i + length vs) ws
-sets-append [] ws l i = ap (λ (j : ℕ). sets l j ws) (sym (add-zero i))
-sets-append (v ∷ vs) ws l i =
-    sets-append vs ws (set l i v) (suc i) ∙
-    ap (λ (j : ℕ). sets (sets (set l i v) (suc i) vs) j ws) (suc-add i (length vs) ∙ sym (add-suc i (length vs)))
 
 lines-append : (F : Limits) (ls ms : List Line) → linesBytes F (ls ++ ms) ≡ linesBytes F ls ++ linesBytes F ms
 unfolding linesBytes

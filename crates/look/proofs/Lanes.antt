@@ -64,7 +64,7 @@ stopAt T i v = record { step = i; part = partOf three (T .facts) (actionAt (T .p
 abbrev pub after : Task → ℕ → List Kleene → List Kleene
 after T i v = step three (T .facts) (actionAt (T .plan) i) v
 
-drop-action : (plan : List Action) (i : ℕ) → i < length plan → drop i plan ≡ actionAt plan i ∷ drop (suc i) plan
+pub drop-action : (plan : List Action) (i : ℕ) → i < length plan → drop i plan ≡ actionAt plan i ∷ drop (suc i) plan
 unfolding actionAt
 drop-action plan i h = drop-cons plan i _ h
 

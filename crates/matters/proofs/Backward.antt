@@ -19,6 +19,7 @@ use Rattle.model.specs.FormulaBytes.{encodeFormula}
 use Rattle.model.specs.ProblemBytes.{actionBytes}
 use Rattle.model.specs.Planes.{Table}
 use Rattle.model.specs.Stands.{FormulaAt, ActionAt}
+use Rattle.model.proofs.Laws.Truth.{same-truth, and-true, or-assoc}
 use Rattle.model.proofs.Laws.Reading.{split}
 use Rattle.model.proofs.Laws.Relevance.{some-at}
 use Rattle.model.proofs.Laws.Agreement.{eval-keeps, Exact, exact, yes-exact}
@@ -28,7 +29,7 @@ use Rattle.names.specs.Names.{FactSet, NamesFacts}
 use Rattle.names.proofs.Sets.{set-same, set-not, set-or, set-and}
 use Rattle.matters.specs.declared.Entered.{Entered}
 use Rattle.matters.specs.Matters.{FindsEntries, GathersFacts, MattersBefore}
-use Rattle.matters.proofs.Entries.{same-truth, and-cases, some-of}
+use Rattle.matters.proofs.Entries.{some-of}
 use Rattle.matters.proofs.Passing.{some-below, own-bits}
 
 -- ---- one of n
@@ -50,7 +51,7 @@ some-one n f k past =
     same-truth _ _
     (λ h.
     let (g, l, e) = some-of n (λ g. eqb g f && k g) h in
-    let (a, b) = and-cases (eqb g f) _ e in
+    let (a, b) = and-true (eqb g f) _ e in
     ap k (sym (eqb-true g f a)) ∙ b)
     (λ h.
     elim (decLt f n) [
@@ -96,10 +97,6 @@ one-rule =
 pub holds-same : (st : List Bool) (φ : Formula) → isYes (eval three (map known st) φ) ≡ eval two st φ
 holds-same st φ = ap isYes (eval-keeps three two Exact exact (map known st) st (λ i. List·getD-map known st i false) φ) ∙ yes-exact (eval two st φ)
 
-three-of : (a b c : Bool) → ((a || b) || c) ≡ (a || (b || c))
-three-of true b c = refl
-three-of false b c = refl
-
 module _ (n : ℕ) (a : Action) (st m : List Bool) (size : length m ≡ n) where
   abbrev kept : ℕ → Bool
   kept g = getD m g false && not (sets two a st g)
@@ -113,7 +110,7 @@ module _ (n : ℕ) (a : Action) (st m : List Bool) (size : length m ≡ n) where
   by-sets : (f : ℕ) → ((names (a .precondition) f || kept f) || some n (asked f)) ≡ mattersBefore a n st m f
   unfolding mattersBefore
   by-sets f =
-      three-of (names (a .precondition) f) (kept f) (some n (asked f)) ∙
+      or-assoc (names (a .precondition) f) (kept f) (some n (asked f)) ∙
       ap (λ b. names (a .precondition) f || b)
       (ap (λ b. b || some n (asked f)) (sym (some-one n f kept (past-kept f))) ∙
       some-or n (λ g. eqb g f && kept g) (asked f) ∙

@@ -16,24 +16,12 @@ use Rattle.model.specs.Action.{Effect, sameLiteral, conditionIn, conditionOf}
 use Rattle.model.specs.Relevance.{some, hasEntry}
 use Rattle.model.specs.FormulaBytes.{literalByte}
 use Rattle.model.specs.WellFormed.{Declared, EffectsOk}
-use Rattle.model.proofs.Laws.Relevance.{or-first, or-second, some-at, without-entry}
+use Rattle.model.proofs.Laws.Truth.{same-truth, and-true, or-first, or-second, or-cases}
+use Rattle.model.proofs.Laws.Relevance.{some-at, without-entry}
 use Rattle.effects.specs.Effects.{entryAt}
 use Rattle.effects.proofs.Entries.{declared-at, condition-at}
 
--- ---- truth values
-
-pub same-truth : (a b : Bool) → (a ≡ true → b ≡ true) → (b ≡ true → a ≡ true) → a ≡ b
-same-truth true b h k = sym (h refl)
-same-truth false true h k = k refl
-same-truth false false h k = refl
-
-pub or-cases : (a b : Bool) → (a || b) ≡ true → (a ≡ true) ⊎ (b ≡ true)
-or-cases true b e = inl refl
-or-cases false b e = inr e
-
-pub and-cases : (a b : Bool) → (a && b) ≡ true → (a ≡ true) × (b ≡ true)
-and-cases true b e = (refl, e)
-and-cases false b e = absurd (false≢true e)
+-- ---- one of n
 
 pub some-of : (n : ℕ) (p : ℕ → Bool) → some n p ≡ true → (i : ℕ) × (i < n) × (p i ≡ true)
 unfolding some
@@ -101,7 +89,7 @@ module _ (facts : ℕ) (few : facts ≤ maxFacts) (es : List Effect) (ok : Effec
       same-truth _ _
       (λ h.
       let (i, k, s) = entry-of (λ e. sameLiteral l (e .literal) && q (e .condition)) es h in
-      let (a, b) = and-cases (sameLiteral l (entryAt es i .literal)) _ s in
+      let (a, b) = and-true (sameLiteral l (entryAt es i .literal)) _ s in
       ap (λ (x : Literal). q (conditionOf x es)) (same-is l (entryAt es i .literal) a) ∙ ap q (condition-at facts few 0 es i ok k) ∙ b)
       (λ h.
       let (i, k, s, b) = with-condition l h in
@@ -124,7 +112,7 @@ module _ (facts : ℕ) (few : facts ≤ maxFacts) (es : List Effect) (ok : Effec
       to : someEntry (λ e. W (e .literal) && q (e .condition)) es ≡ true → some facts asked ≡ true
       to h =
           let (i, k, s) = entry-of (λ e. W (e .literal) && q (e .condition)) es h in
-          let (a, b) = and-cases (W (entryAt es i .literal)) _ s in
+          let (a, b) = and-true (W (entryAt es i .literal)) _ s in
           of-literal (entryAt es i .literal) (declared-at facts 0 es i ok k) a (ap q (condition-at facts few 0 es i ok k) ∙ b)
 
       of-condition : (l : Literal) → W l ≡ true → q (conditionOf l es) ≡ true → someEntry (λ e. W (e .literal) && q (e .condition)) es ≡ true
@@ -136,6 +124,6 @@ module _ (facts : ℕ) (few : facts ≤ maxFacts) (es : List Effect) (ok : Effec
       from h =
           let (g, k, s) = some-of facts asked h in
           elim (or-cases (W (fact g) && q (conditionOf (fact g) es)) _ s) [
-            | inl x ↦ let (a, b) = and-cases (W (fact g)) _ x in of-condition (fact g) a b
-            | inr x ↦ let (a, b) = and-cases (W (denial g)) _ x in of-condition (denial g) a b
+            | inl x ↦ let (a, b) = and-true (W (fact g)) _ x in of-condition (fact g) a b
+            | inr x ↦ let (a, b) = and-true (W (denial g)) _ x in of-condition (denial g) a b
           ]

@@ -20,8 +20,9 @@ use Rattle.model.specs.ProblemBytes.{effectsBytes}
 use Rattle.model.specs.WellFormed.{Declared, EffectsOk}
 use Rattle.model.specs.Planes.{sureBit, Table}
 use Rattle.model.specs.Stands.{Span, FormulaAt}
+use Rattle.model.proofs.Laws.Truth.{and-one, and-none, or-assoc, or-none}
 use Rattle.model.proofs.Laws.Reading.{first}
-use Rattle.model.proofs.Laws.Planes.{low-bit}
+use Rattle.model.proofs.Laws.Planes.{low-bit, not-yes, is-yes}
 use Rattle.evaluate.specs.declared.Planes.{Planes}
 use Rattle.evaluate.specs.Planes.{FormulaPlanes}
 use Rattle.effects.specs.Effects.{entryAt}
@@ -34,28 +35,6 @@ use Rattle.matters.specs.Matters.{asks, AddsEntry, FindsEntries, EntryFa
 use Rattle.matters.proofs.Entries.{someEntry, entry-has, entry-condition, entries-by-fact}
 
 -- ---- one entry
-
-or-none : (a : Bool) → (a || false) ≡ a
-or-none true = refl
-or-none false = refl
-
-and-none : (a : Bool) → (a && false) ≡ false
-and-none true = refl
-and-none false = refl
-
-and-one : (a : Bool) → (a && true) ≡ a
-and-one true = refl
-and-one false = refl
-
-not-yes : (t : Kleene) → sureBit t ≡ 0 → isYes t ≡ false
-not-yes No e = refl
-not-yes Unknown e = refl
-not-yes Yes e = absurd (omega arith)
-
-is-yes : (t : Kleene) → (sureBit t ≡ 0 → ⊥) → isYes t ≡ true
-is-yes No h = absurd (h refl)
-is-yes Unknown h = absurd (h refl)
-is-yes Yes h = refl
 
 -- nothing is added
 set-with-none : {x : ℕ} {p q : ℕ → Bool} → FactSet x p → ((f : ℕ) → q f ≡ false) → FactSet x (λ f. p f || q f)
@@ -132,10 +111,6 @@ Gathered word pr es e = (before : ℕ → Bool) × FactSet word before × ((f : 
 
 gathered-begins : (pr : ℕ → Effect → Bool) (es : List Effect) → Gathered 0 pr es 0
 gathered-begins pr es = ((λ f. false), set-none, λ f. refl)
-
-or-assoc : (a b c : Bool) → ((a || b) || c) ≡ (a || (b || c))
-or-assoc true b c = refl
-or-assoc false b c = refl
 
 gathered-next :
     (word word′ : ℕ) (pr : ℕ → Effect → Bool) (es : List Effect) (e : ℕ) → e < length es →

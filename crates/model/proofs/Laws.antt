@@ -1,4 +1,6 @@
+pub mod Truth
 pub mod Tabulate
+pub mod Stores
 pub mod Conflicts
 pub mod Agreement
 pub mod Held

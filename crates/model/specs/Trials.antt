@@ -15,13 +15,14 @@ use Rattle.model.specs.Answer as Answer
 use Rattle.model.specs.Answer.{Answer, refused, answered}
 use Rattle.model.specs.CaseList.{first, refuseAt, ends, fault, follow}
 use Rattle.model.specs.Cover.{coverEnd}
+use Rattle.model.specs.Relevance.{names, some, hasEntry, mattersBefore, relevant, states, numberOf, rows, relevantTo, runRows}
 use Rattle.model.specs.Read.{andThen, _>>=_, _>>_, done, position, require, answerOf, bigEndianFrom, bytesOf, block, byte, counted, header, count}
 use Rattle.model.specs.FormulaBytes.{isLiteral, literalOf, groupHead, headFrom, head, members, whole, item, stated, formula}
 use Rattle.model.specs.ProblemBytes.{effect, effects, effectList, action, actions, ending, parts, body, problem, problemOf, steps, plan, planOf, actionAt}
 use Rattle.model.specs.ListBytes.{lineAt, linesFrom, caseList, listOf, lineBytes, linesBytes, encodeList}
 use Rattle.model.specs.Text.{ascii, hex}
 use Rattle.model.specs.DeskText.{digits, decimal, sentence, marks, refusalLine, rightLine, wrongLine, undecidedLine, verdictLine, lineText, linesText, listText, verdictRest, answerLine, answerRest, firstLine, laterLines, deskText}
-use Rattle.model.specs.Operations.{Counts, Written, isState, lineCount, readProblem, readPlan, taskOf, readTask, runState, judge, listBytes, linesFor, written, listFor, writeList, followList, coverAfter}
+use Rattle.model.specs.Operations.{Counts, Written, isState, lineCount, readProblem, readPlan, taskOf, readTask, runState, judge, listBytes, linesFor, written, listFor, writeList, followList, coverAfter, reachedTask, relevantFacts}
 
 pub data Call : Type 0 where
   read-problem : List ℕ → Call
@@ -31,6 +32,7 @@ pub data Call : Type 0 where
   write-list : Limits → List ℕ → List ℕ → ℕ → List ℕ → Call
   follow-list : List ℕ → List ℕ → List ℕ → Call
   cover-after : List ℕ → List ℕ → List ℕ → ℕ → Call
+  relevant-facts : List ℕ → List ℕ → ℕ → List ℕ → Call
   desk : Limits → List ℕ → List ℕ → Call
 
 pub data Reply : Type 0 where
@@ -43,7 +45,7 @@ pub data Reply : Type 0 where
 
 -- what the definitions give; a proof that unfolds this computes with all of them
 unfoldable pub reply : Call → Reply
-unfolding eval conditionIn every exclusive applicable next step firstFalse unmet lowestFalse partOf goesOn run bit stateOf caseOf runOf walkFrom walk lookAt walked judged Answer._>>=_ first refuseAt ends fault follow coverEnd andThen _>>=_ _>>_ done position require answerOf bigEndianFrom bytesOf block byte counted header count isLiteral literalOf groupHead headFrom head members whole item stated formula effect effects effectList action actions ending parts body problem problemOf steps plan planOf actionAt lineAt linesFrom caseList listOf lineBytes linesBytes encodeList isState readProblem readPlan taskOf readTask runState judge listBytes linesFor written listFor writeList followList coverAfter ascii hex digits decimal sentence marks refusalLine rightLine wrongLine undecidedLine verdictLine lineText linesText listText verdictRest answerLine answerRest firstLine laterLines deskText
+unfolding eval conditionIn every exclusive applicable next step firstFalse unmet lowestFalse partOf goesOn run bit stateOf caseOf runOf walkFrom walk lookAt walked judged Answer._>>=_ first refuseAt ends fault follow coverEnd andThen _>>=_ _>>_ done position require answerOf bigEndianFrom bytesOf block byte counted header count isLiteral literalOf groupHead headFrom head members whole item stated formula effect effects effectList action actions ending parts body problem problemOf steps plan planOf actionAt lineAt linesFrom caseList listOf lineBytes linesBytes encodeList isState readProblem readPlan taskOf readTask runState judge listBytes linesFor written listFor writeList followList coverAfter names some hasEntry mattersBefore relevant states numberOf rows relevantTo runRows reachedTask relevantFacts ascii hex digits decimal sentence marks refusalLine rightLine wrongLine undecidedLine verdictLine lineText linesText listText verdictRest answerLine answerRest firstLine laterLines deskText
 reply (read-problem p) = counts (readProblem version1 p)
 reply (read-plan p q) = number (readPlan version1 p q)
 reply (run-state p q s) = outcome (runState version1 p q s)
@@ -51,6 +53,7 @@ reply (judge-with p q g) = verdict (judge version1 p q g)
 reply (write-list F p q g out) = writes (writeList F p q g out)
 reply (follow-list p q l) = number (followList version1 p q l)
 reply (cover-after p q l m) = number (coverAfter version1 p q l m)
+reply (relevant-facts p q s work) = writes (relevantFacts version1 p q s work)
 reply (desk F p q) = text (deskText F p q)
 
 pub record Row : Type 0 where
@@ -113,7 +116,7 @@ other-kind = hex "01 00000018 01 02 000000000000 01 02 400000000000 01 01 800000
 abbrev pub grant : ℕ
 grant = 1000000
 
-abbrev wrote : ℕ → List ℕ → Reply
+abbrev pub wrote : ℕ → List ℕ → Reply
 wrote n bytes = writes (record { answer = answered n; buffer = bytes })
 
 abbrev kept : ℕ → ℕ → List ℕ → Reply
@@ -395,4 +398,43 @@ running-ends =
     ∷ (cover-after P both-steps (lines (replicate 9 0)) 0 ⇒ number (refused 64 14))
     ∷ (cover-after P both-steps [] 0 ⇒ number (refused 61 0))
     ∷ (cover-after P [] [] 0 ⇒ number (refused 31 0))
+    ∷ []
+
+-- four facts and goal 1; actions: 0 sets 1 if 0 is true; 1 clears 1 if 0 is; 2 sets 2 if 0 is and clears 2 if 3 is; 3 has the precondition 0
+-- and no effect; 4 sets 1 if 0 is true or 2 is not
+abbrev resting : List ℕ
+resting =
+    block1
+    (hex "04 05 0002 80 00 0001 01 0002 80 00 01 01 0001 00 0002 80 00 01 41 0001 00" ++
+    hex "0002 80 00 02 02 0001 00 42 0001 03 0001 00 00 0002 80 00 01 01 0004 81 02 00 42")
+
+-- which start facts an outcome rests on (document 02, W-204), with the states of the run in the work area: P from three states; "the facts of
+-- its set condition if that was true", also where the fact was true already, "otherwise the fact itself and the facts of both its conditions",
+-- of a set and of a clear entry; a fact with both entries that matters to nobody; a precondition; a condition that names several facts; two
+-- steps, of which the second overwrites nothing; no step, and no fact that matters. Work areas that are longer, exact and short (42); a run
+-- that is missed, blocked by a member and by a fact (41, before 42); and what comes first: no state (40), the plan's refusals, the problem's.
+abbrev pub relevances : List Row
+relevances =
+    (relevant-facts P both-steps 0x600000000000 (replicate 10 7) ⇒ wrote 0x400000000000 (hex "000101 000101 000101 07"))
+    ∷ (relevant-facts P both-steps 0x800000000000 (replicate 9 7) ⇒ wrote 0xc00000000000 (hex "010000 010001 010001"))
+    ∷ (relevant-facts P both-steps 0x200000000000 (replicate 9 7) ⇒ wrote 0xe00000000000 (hex "000001 000001 000001"))
+    ∷ (relevant-facts resting (block1 (0 ∷ [])) 0x800000000000 (replicate 9 7) ⇒ wrote 0x800000000000 (hex "01000000 01010000 07"))
+    ∷ (relevant-facts resting (block1 (0 ∷ [])) 0xc00000000000 (replicate 8 7) ⇒ wrote 0x800000000000 (hex "01010000 01010000"))
+    ∷ (relevant-facts resting (block1 (0 ∷ [])) 0x400000000000 (replicate 8 7) ⇒ wrote 0xc00000000000 (hex "00010000 00010000"))
+    ∷ (relevant-facts resting (block1 (1 ∷ [])) 0x400000000000 (replicate 8 7) ⇒ wrote 0xc00000000000 (hex "00010000 00010000"))
+    ∷ (relevant-facts resting (block1 (2 ∷ [])) 0x400000000000 (replicate 8 7) ⇒ wrote 0xd00000000000 (hex "00010000 00010000"))
+    ∷ (relevant-facts resting (block1 (3 ∷ [])) 0xc00000000000 (replicate 8 7) ⇒ wrote 0xc00000000000 (hex "01010000 01010000"))
+    ∷ (relevant-facts resting (block1 (4 ∷ [])) 0 (replicate 8 7) ⇒ wrote 0xa00000000000 (hex "00000000 00010000"))
+    ∷ (relevant-facts resting (block1 (4 ∷ 1 ∷ [])) 0 (replicate 12 7) ⇒ wrote 0xa00000000000 (hex "00000000 00010000 00010000"))
+    ∷ (relevant-facts resting no-step 0x500000000000 (replicate 4 7) ⇒ wrote 0x400000000000 (hex "00010001"))
+    ∷ (relevant-facts P-goal no-step 0xa00000000000 (replicate 3 7) ⇒ wrote 0 (hex "010001"))
+    ∷ (relevant-facts resting (block1 (0 ∷ [])) 0x800000000000 (replicate 7 7) ⇒ kept 42 0 (replicate 7 7))
+    ∷ (relevant-facts resting no-step 0x400000000000 [] ⇒ kept 42 0 [])
+    ∷ (relevant-facts resting (block1 (0 ∷ [])) 0 (replicate 8 7) ⇒ kept 41 0 (replicate 8 7))
+    ∷ (relevant-facts resting (block1 (3 ∷ [])) 0x400000000000 (replicate 8 7) ⇒ kept 41 0 (replicate 8 7))
+    ∷ (relevant-facts resting (block1 (2 ∷ [])) 0xd00000000000 (replicate 8 7) ⇒ kept 41 0 (replicate 8 7))
+    ∷ (relevant-facts resting (block1 (0 ∷ [])) 0 (replicate 7 7) ⇒ kept 41 0 (replicate 7 7))
+    ∷ (relevant-facts resting (block1 (0 ∷ [])) 0x080000000000 (replicate 7 7) ⇒ kept 40 0 (replicate 7 7))
+    ∷ (relevant-facts resting (block1 (5 ∷ [])) 0x080000000000 (replicate 7 7) ⇒ kept 34 5 (replicate 7 7))
+    ∷ (relevant-facts [] [] 0 (7 ∷ []) ⇒ kept 11 0 (7 ∷ []))
     ∷ []

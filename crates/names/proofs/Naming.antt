@@ -1,13 +1,14 @@
 -- The facts that a formula names, from its bytes: a group's members stand after its mark and count, so all literals are met in one pass.
 -- Assumes nothing.
 use mathlib.Core.Path.{_≡_, refl, sym, ap, subst, _∙_}
-use mathlib.Core.Bool.{Bool, true, false, _||_}
+use mathlib.Core.Bool.{Bool, true, false, false≢true, _||_}
 use mathlib.Core.Logic.{inl, inr}
 use mathlib.Core.List.{List, [], _∷_, _++_, append-assoc, append-nil}
 use Prim.Native.Nat.{ℕ, suc, _+_, _*_, _-_, _%_, _≤_, _<_}
 use native.Mathlib.Omega.{arith}
 use lib.ListN.{length, getD}
 use lib.Dec.{eqb}
+use borrow.Author.Tests.{eqb-true}
 use lib.Bits.{bitOr}
 use Rattle.model.specs.Limits.{maxFacts, maxDepth}
 use Rattle.model.specs.Formula.{Literal, fact, denial, Formula, Formulas, lit, all, any, none, more}
@@ -16,6 +17,7 @@ use Rattle.model.specs.Read.{bytesOf}
 use Rattle.model.specs.FormulaBytes.{literalByte, memberCount, formulaBytes, memberBytes, encodeFormula}
 use Rattle.model.specs.WellFormed.{Declared, Formed, FormedAll}
 use Rattle.model.specs.Stands.{Span, FormulaAt}
+use Rattle.model.proofs.Laws.Truth.{or-cases, or-assoc, or-none}
 use Rattle.model.proofs.Laws.Reading.{empty, first, span-length, span-end}
 use Rattle.model.proofs.Laws.FormulaCodec.{stated-bytes}
 use Rattle.names.specs.declared.Named.{Named}
@@ -32,14 +34,6 @@ joined-bytes : (ks ms : Formulas) → memberBytes (joined ks ms) ≡ memberBytes
 unfolding joined memberBytes
 joined-bytes none ms = refl
 joined-bytes (more k ks) ms = rw (joined-bytes ks ms, ← append-assoc)
-
-or-assoc : (a b c : Bool) → ((a || b) || c) ≡ (a || (b || c))
-or-assoc true b c = refl
-or-assoc false b c = refl
-
-or-none : (a : Bool) → (a || false) ≡ a
-or-none true = refl
-or-none false = refl
 
 joined-names : (ks ms : Formulas) (f : ℕ) → memberNames (joined ks ms) f ≡ (memberNames ks f || memberNames ms f)
 unfolding joined names
@@ -218,3 +212,19 @@ module _ (s : List ℕ) (p : ℕ) where
               let o = N .is facts (more f none) few (formed-declared f facts maxDepth 0 (at .ok .formed), tt) u in
               (e, set-same o (λ g l. or-none (names f g)));
         }
+
+-- ---- what a sound formula names is declared
+
+mutual
+  unfolding names AllDeclared
+
+  pub named-declared : (φ : Formula) (facts : ℕ) → AllDeclared facts φ → (f : ℕ) → names φ f ≡ true → f < facts
+  named-declared (lit (fact g)) facts d f e = omega (arith, eqb-true g f e)
+  named-declared (lit (denial g)) facts d f e = omega (arith, eqb-true g f e)
+  named-declared (all ms) facts d f e = members-named ms facts d f e
+  named-declared (any ms) facts d f e = members-named ms facts d f e
+
+  members-named : (ms : Formulas) (facts : ℕ) → MembersDeclared facts ms → (f : ℕ) → memberNames ms f ≡ true → f < facts
+  members-named none facts d f e = absurd (false≢true e)
+  members-named (more m ms) facts d f e =
+      elim (or-cases (names m f) _ e) [ inl h ↦ named-declared m facts (d .0) f h | inr h ↦ members-named ms facts (d .1) f h ]

@@ -14,7 +14,7 @@ use Rattle.model.specs.Limits.{maxFacts}
 use Rattle.model.specs.Kleene.{Kleene, No, Unknown, Yes, known}
 use Rattle.model.specs.Planes.{laneBit, someBit, sureBit, InLanes}
 use Rattle.model.proofs.Laws.Planes.{table-fact}
-use Rattle.model.proofs.Laws.Reading.{both-true}
+use Rattle.model.proofs.Laws.Truth.{and-true}
 use Rattle.table.specs.Tables.{Outside, SetsFact}
 use Rattle.table.specs.Blocks.{pathOf, levelValue, blockCase, FixesLevels, Spread, FixesPath}
 use Rattle.table.proofs.Facts.{Sets, sets-next, sets-shown}
@@ -30,7 +30,7 @@ every-at : (n : ℕ) (f : ℕ → Bool) → every n f ≡ true → (i : ℕ) →
 unfolding every
 every-at zero f t i h = absurd (omega arith)
 every-at (suc n) f t i h =
-    let (a, b) = both-true (f n) (every n f) t in
+    let (a, b) = and-true (f n) (every n f) t in
     elim (ℕ-discrete i n) [ yes e ↦ rw e a | no d ↦ every-at n f b i (omega arith) ]
 
 abbrev pub someWords : List ℕ
@@ -52,7 +52,7 @@ level-lanes e h =
     record {
       lane =
           λ j l.
-          let (a, b) = both-true _ _ (every-at 64 _ (every-at 5 _ all-show e h) j l) in
+          let (a, b) = and-true _ _ (every-at 64 _ (every-at 5 _ all-show e h) j l) in
           record { is-some = eqb-true _ _ a; is-sure = eqb-true _ _ b };
     }
 

@@ -7,7 +7,7 @@ use Rattle.model.specs.Limits.{version1}
 use Rattle.model.specs.Answer.{answered}
 use Rattle.model.specs.Walk.{right, wrong}
 use Rattle.model.specs.Text.{ascii, hex}
-use Rattle.model.specs.Trials.{read-problem, judge-with, cover-after, desk, number, verdict, text, Row, _⇒_, no-step, step-0, grant, block1, accepts, refuses, initially, stalls-at}
+use Rattle.model.specs.Trials.{read-problem, judge-with, cover-after, relevant-facts, desk, number, verdict, text, Row, _⇒_, wrote, no-step, step-0, grant, block1, accepts, refuses, initially, stalls-at}
 
 -- so many effects, each on condition fact 0, from a literal byte on
 abbrev rising : ℕ → ℕ → List ℕ
@@ -64,7 +64,8 @@ abbrev single-numbers : List ℕ
 single-numbers = block1 (hex "01 30 000000000000 01 30 000000000001 01 2f 000000000002")
 
 -- 16, 17 and 22 at their edges; 48 facts and 256 steps; a conflict of fact 47 (W-202); pages whose numbers have three digits; the running
--- value after lines that fix all of 48 facts, and after one that fixes none (W-203)
+-- value after lines that fix all of 48 facts, and after one that fixes none (W-203); the start facts of runs over 48 facts, none or the last
+-- (W-204)
 abbrev pub sizes : List Row
 sizes =
     (read-problem (block1 (hex "01 41 0001 00 0001 00" ++ idle 65)) ⇒ refuses 16 6)
@@ -81,4 +82,7 @@ sizes =
     ∷ (cover-after wide step-0 single-numbers 2 ⇒ number (answered 2))
     ∷ (cover-after wide step-0 single-numbers 3 ⇒ number (answered 4))
     ∷ (cover-after wide step-0 (block1 (hex "01 00 000000000000")) 1 ⇒ number (answered 0x1000000000000))
+    ∷ (relevant-facts wide step-0 0 (replicate 97 7) ⇒ wrote 0 (replicate 95 0 ++ (1 ∷ 7 ∷ [])))
+    ∷ (relevant-facts wide no-step 1 (replicate 48 7) ⇒ wrote 1 (replicate 47 0 ++ (1 ∷ [])))
+    ∷ (relevant-facts deep no-step 0xffffffffffff (replicate 48 7) ⇒ wrote 1 (replicate 48 1))
     ∷ []

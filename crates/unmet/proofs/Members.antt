@@ -12,7 +12,7 @@ use Rattle.model.specs.Run.{firstFalse, unmet, holdsIn}
 use Rattle.model.specs.FormulaBytes.{Group, conjunction, disjunction, memberCount, formulaBytes, memberBytes}
 use Rattle.model.specs.Planes.{sureBit, Table}
 use Rattle.model.specs.Stands.{Span, Members}
-use Rattle.model.proofs.Laws.Planes.{low-bit}
+use Rattle.model.proofs.Laws.Planes.{low-bit, not-yes, is-yes}
 use Rattle.model.proofs.Laws.Reading.{split}
 use Rattle.evaluate.specs.declared.Planes.{Planes}
 use Rattle.evaluate.specs.Planes.{GroupPlanes}
@@ -20,16 +20,6 @@ use Rattle.evaluate.proofs.Evaluating.{join-unit, Item, leaf, nest, stated}
 use Rattle.unmet.specs.Members.{FirstFalse, UnmetMember}
 
 -- ---- one member
-
-pub not-yes : (t : Kleene) → sureBit t ≡ 0 → isYes t ≡ false
-not-yes No e = refl
-not-yes Unknown e = refl
-not-yes Yes e = absurd (omega arith)
-
-pub is-yes : (t : Kleene) → (sureBit t ≡ 0 → ⊥) → isYes t ≡ true
-is-yes No h = absurd (h refl)
-is-yes Unknown h = absurd (h refl)
-is-yes Yes h = refl
 
 -- what a member leaves of the count
 abbrev turns : Kleene → ℕ → ℕ

@@ -13,12 +13,11 @@ use Rattle.model.specs.FormulaBytes.{encodeFormula}
 use Rattle.model.specs.ProblemBytes.{actionBytes}
 use Rattle.model.specs.Planes.{sureBit, Table}
 use Rattle.model.specs.Stands.{FormulaAt, ActionAt}
-use Rattle.model.proofs.Laws.Planes.{low-bit}
+use Rattle.model.proofs.Laws.Planes.{low-bit, not-yes, is-yes}
 use Rattle.model.proofs.Laws.Reading.{split}
 use Rattle.evaluate.specs.declared.Planes.{Planes}
 use Rattle.evaluate.specs.Planes.{FormulaPlanes}
 use Rattle.unmet.specs.Members.{UnmetMember, UnmetPart}
-use Rattle.unmet.proofs.Members.{not-yes, is-yes}
 
 precondition-at : (s : List ℕ) (facts p : ℕ) (a : Action) (q : ℕ) → ActionAt s facts p a q → (m : ℕ) × FormulaAt s facts p (a .precondition) m
 unfolding actionBytes

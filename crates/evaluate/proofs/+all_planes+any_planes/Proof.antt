@@ -8,7 +8,7 @@ use borrow.Author.Tests.{not-true, eqb-true}
 use borrow.Fn.PlainCycle.{Measures}
 use lib.ListN.{length}
 use Rattle.model.specs.FormulaBytes.{Group, conjunction, disjunction}
-use Rattle.model.proofs.Laws.Reading.{both-true}
+use Rattle.model.proofs.Laws.Truth.{and-true}
 use Rattle.evaluate.proofs.literal_planes.Reads as literal-planes
 use Rattle.evaluate.proofs.all_planes.Reads as all-planes
 use Rattle.evaluate.proofs.all_planes.Kinds as kinds
@@ -35,7 +35,7 @@ pub +all-planes+any-planes-spec : {M : Type 1} → statement M
     (λ t. all-planes-lts.spec (_, literal-planes.Learnt, _, any-planes.Post) _ all-planes.Post (Inv-loop conjunction) μ-loop
     (λ c. held-begins _ _ conjunction _ _ _)
     -- decided
-    (λ c. let (w, e) = both-true _ _ (c .if1 .taken) in
+    (λ c. let (w, e) = and-true _ _ (c .if1 .taken) in
     c .before .before .loop .inv .goes _ (omega arith) (left-decided _ _ conjunction _ _ _ _ _ (not-true _ w) (eqb-true _ _ e)))
     -- the bytes end before a member
     (λ c. c .before .before .before .loop .inv .goes _ (omega arith)
@@ -66,7 +66,7 @@ pub +all-planes+any-planes-spec : {M : Type 1} → statement M
     λ t. any-planes-lts.spec (_, literal-planes.Learnt, _, all-planes.Post) _ any-planes.Post (Inv-loop disjunction) μ-loop
     (λ c. held-begins _ _ disjunction _ _ _)
     -- decided
-    (λ c. let (w, e) = both-true _ _ (c .if1 .taken) in
+    (λ c. let (w, e) = and-true _ _ (c .if1 .taken) in
     c .before .before .loop .inv .goes _ (omega arith) (left-decided _ _ disjunction _ _ _ _ _ (not-true _ w) (eqb-true _ _ e)))
     -- the bytes end before a member
     (λ c. c .before .before .before .loop .inv .goes _ (omega arith)

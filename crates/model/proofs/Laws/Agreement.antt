@@ -10,7 +10,8 @@ use Rattle.model.specs.Kleene.{Kleene, No, Unknown, Yes, both, either, d
 use Rattle.model.specs.Formula.{fact, denial, Formula, Formulas, lit, all, any, none, more, eval, evalAll, evalAny}
 use Rattle.model.specs.Action.{Action, conditionOf, tabulate, every, sets, clears, exclusive, applicable, next, step}
 use Rattle.model.specs.Run.{unmet, holdsIn, lowestFalse, atMember, atFact, partOf, Outcome, reached, Stop, atEnd, goesOn, run}
-use Rattle.model.proofs.Laws.Conflicts.{and-true, every-at, every-all}
+use Rattle.model.proofs.Laws.Truth.{and-true}
+use Rattle.model.proofs.Laws.Conflicts.{every-at, every-all}
 
 -- an equation in one value, or in two, by the table of its instances
 abbrev row : {A : Type 0} → (Kleene → A) → List A

@@ -7,6 +7,7 @@ use mathlib.Core.List.{List}
 use Prim.Native.Nat.{ℕ, zero, suc, _≤_, _<_, suc-le-suc}
 use native.Mathlib.Omega.{arith}
 use native.Mathlib.Decide.{decLt}
+use Rattle.model.proofs.Laws.Truth.{and-true, and-assoc, and-one}
 use Rattle.model.specs.Kleene.{Kleene, No, Unknown, Yes, both, either, denied, isYes, Logic, two, three}
 use Rattle.model.specs.Formula.{eval}
 use Rattle.model.specs.Action.{Action, every, sets, clears, exclusive, applicable, next, OrderFree}
@@ -15,21 +16,9 @@ use Rattle.model.specs.Belief.{InConflict, IsPart}
 
 -- ---- all of the first n, and the lowest that is false
 
-pub and-true : (a b : Bool) → a && b ≡ true → (a ≡ true) × (b ≡ true)
-and-true true b e = (refl, e)
-and-true false b e = absurd (false≢true e)
-
 -- all but the first
 abbrev after : (ℕ → Bool) → ℕ → Bool
 after f k = f (suc k)
-
-and-assoc : (a b c : Bool) → (a && b) && c ≡ a && (b && c)
-and-assoc true b c = refl
-and-assoc false b c = refl
-
-and-one : (a : Bool) → a && true ≡ a
-and-one true = refl
-and-one false = refl
 
 pub every-at : (n : ℕ) (f : ℕ → Bool) → every n f ≡ true → (i : ℕ) → i < n → f i ≡ true
 unfolding every

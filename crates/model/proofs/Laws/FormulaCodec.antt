@@ -14,7 +14,8 @@ use Rattle.model.specs.Read.{got, Reader, andThen, _>>=_, _>>_, done, po
 use Rattle.model.specs.FormulaBytes.{isLiteral, literalOf, literalByte, Group, conjunction, disjunction, mark, Head, leaf, group, groupHead, headFrom, head, members, whole, item, stated, formula, memberCount, formulaBytes, memberBytes, encodeFormula}
 use Rattle.model.specs.WellFormed.{Bytes, Declared, Formed, FormedAll, FormulaOk}
 use Rattle.model.specs.Stands.{Span, nothing, FormulaAt}
-use Rattle.model.proofs.Laws.Reading.{both-true, Gives, gives, reads, tests, empty, first, join, split, span-length, span-end, span-within, byte-gives, small-byte, byte-ok}
+use Rattle.model.proofs.Laws.Truth.{and-true}
+use Rattle.model.proofs.Laws.Reading.{Gives, gives, reads, tests, empty, first, join, split, span-length, span-end, span-within, byte-gives, small-byte, byte-ok}
 
 -- literals
 module _ (facts : ℕ) (most : facts ≤ 64) where
@@ -24,7 +25,7 @@ module _ (facts : ℕ) (most : facts ≤ 64) where
       elim (decLt b facts) [
         | yes l ↦ rw (lt-ltb b 64 (omega arith)) (l, refl)
         | no l ↦
-            let (u, v) = both-true (leb 64 b) (ltb b (64 + facts)) (rw (le-ltb b facts (omega arith)) at h) in
+            let (u, v) = and-true (leb 64 b) (ltb b (64 + facts)) (rw (le-ltb b facts (omega arith)) at h) in
             let i = leb-true 64 b u in
             rw (le-ltb b 64 i) (omega (arith, ltb-true b (64 + facts) v))
       ]
@@ -83,7 +84,7 @@ module _ (s : List ℕ) (end facts : ℕ) (most : facts ≤ 64) where
           tests _ _ _ _ _ λ t₁.
           tests _ _ _ _ _ λ t₂.
           reads (small-byte sound 20 m) λ n o (v, l).
-          let (a, c) = both-true (eqb b 0x80 || eqb b 0x81) (not (eqb b parent)) t₁ in
+          let (a, c) = and-true (eqb b 0x80 || eqb b 0x81) (not (eqb b parent)) t₁ in
           let i : mark (cond (eqb b 0x80) conjunction disjunction) ≡ b = mark-got b a in
           gives ((ltb-true 0 left t₂, λ j. eqb-false b parent (not-true _ c) (sym (j ∙ i)), l), rw i (join r v))
 
@@ -184,7 +185,7 @@ module _ (s : List ℕ) where
       tests _ _ _ _ _ λ u.
       let i : ((x * 256 + y) / 256) % 256 ≡ x = omega arith in
       let j : (x * 256 + y) / 1 % 256 ≡ y = omega arith in
-      let k = leb-true (x * 256 + y) maxFormulaBytes (both-true (leb 1 (x * 256 + y)) _ t .1) in
+      let k = leb-true (x * 256 + y) maxFormulaBytes (and-true (leb 1 (x * 256 + y)) _ t .1) in
       gives (x * 256 + y, k, rw (i, j) (join a b), refl, leb-true (o + (x * 256 + y)) (length s) u)
 
   stated-ok :

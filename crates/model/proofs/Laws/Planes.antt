@@ -1,5 +1,6 @@
 -- Values in lanes: the word operators are the connectives in every lane. Assumes nothing.
 use mathlib.Core.Path.{_≡_, refl, ap, _∙_}
+use mathlib.Core.Bool.{true, false}
 use mathlib.Core.List.{List}
 use Prim.Native.Nat.{ℕ, zero, suc, _+_, _*_, _-_, _/_, _%_, _^_, _≤_, _<_, min, max}
 use native.Mathlib.Omega.{arith}
@@ -10,7 +11,7 @@ use lib.Seq.{getD-set-same, getD-set-other}
 use lib.Bits.{bitAnd, bitOr, bitXor, differ, and-step, or-step, xor-step, and-shr, or-shr, xor-shr}
 use lib.Pow.{pow-pos, pow-add, ones-split, high, ones-lt}
 use borrow.Author.Tests.{lt-ltb, le-ltb}
-use Rattle.model.specs.Kleene.{Kleene, No, Unknown, Yes, both, either, denied, three}
+use Rattle.model.specs.Kleene.{Kleene, No, Unknown, Yes, both, either, denied, isYes, three}
 use Rattle.model.specs.Formula.{fact, denial, valueOf}
 use Rattle.model.specs.FormulaBytes.{literalOf}
 use Rattle.model.specs.Planes.{laneBit, someBit, sureBit, InLane, InLanes, Table}
@@ -86,6 +87,17 @@ module _ (j : ℕ) {some sure : ℕ} {x : Kleene} (h : InLane j some sure x) whe
         is-some = bit-flip j sure l ∙ rw (h .is-sure) (by-row (λ x. 1 - sureBit x) (λ x. someBit (denied x)) refl x);
         is-sure = bit-flip j some l ∙ rw (h .is-some) (by-row (λ x. 1 - someBit x) (λ x. sureBit (denied x)) refl x);
       }
+
+-- whether a value is yes, by its bit
+pub not-yes : (t : Kleene) → sureBit t ≡ 0 → isYes t ≡ false
+not-yes No e = refl
+not-yes Unknown e = refl
+not-yes Yes e = absurd (omega arith)
+
+pub is-yes : (t : Kleene) → (sureBit t ≡ 0 → ⊥) → isYes t ≡ true
+is-yes No h = absurd (h refl)
+is-yes Unknown h = absurd (h refl)
+is-yes Yes h = refl
 
 -- one value in every lane
 pub all-no : {j : ℕ} → InLane j 0 0 No

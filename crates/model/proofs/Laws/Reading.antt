@@ -17,6 +17,7 @@ use Rattle.model.specs.Answer.{answered}
 use Rattle.model.specs.Read.{Read, reject, got, Reader, andThen, _>>=_, _>>_, done, position, require, answerOf, bigEndianFrom, bigEndian, bytesOf, block, byte, header, count}
 use Rattle.model.specs.WellFormed.{Bytes}
 use Rattle.model.specs.Stands.{Span, nothing, next}
+use Rattle.model.proofs.Laws.Truth.{and-true}
 
 -- one reader after the other
 pub then-got :
@@ -28,10 +29,6 @@ then-got {x = got a m} h f = f a m refl h
 
 pub got-inj : {A : Type 0} {a b : A} {p q : ℕ} → got a p ≡ got b q → (a ≡ b) × (p ≡ q)
 got-inj h = (cc, cc)
-
-pub both-true : (a b : Bool) → (a && b) ≡ true → (a ≡ true) × (b ≡ true)
-both-true true b h = (refl, h)
-both-true false b h = (h, cc)
 
 -- a test that a reader asks for
 pub needed :
@@ -242,7 +239,7 @@ module _ (s : List ℕ) (number low high p : ℕ) where
   count-gives =
       reads (byte-gives 14 p) λ b m r.
       tests _ _ _ _ _ λ t.
-      let (l, u) = both-true (leb low b) (leb b high) t in
+      let (l, u) = and-true (leb low b) (leb b high) t in
       gives (leb-true low b l, leb-true b high u, r)
 
   pub count-ok :

@@ -16,26 +16,13 @@ use Rattle.model.specs.Run.{reached, goesOn, run}
 use Rattle.model.specs.Case.{bit, stateOf, Task, runOf}
 use Rattle.model.specs.Relevance.{names, memberNames, some, hasEntry, setAndCleared, setNames, clearNames, restsOn, exclusionNames, effectNames, mattersBefore, relevant, numberOf, relevantTo, RestsOnRelevant}
 use Rattle.model.proofs.Laws.Tabulate.{length-tabulate, getD-tabulate}
-use Rattle.model.proofs.Laws.Conflicts.{and-true, every-at, every-all}
+use Rattle.model.proofs.Laws.Truth.{and-true, and-both, or-first, or-second, or-false, and-none}
+use Rattle.model.proofs.Laws.Conflicts.{every-at, every-all}
 use Rattle.model.proofs.Laws.Agreement.{goes-on-reached, at-end-reached}
 use Rattle.model.proofs.Laws.Cover.{mod-of-block}
 use Rattle.model.proofs.Laws.StateNumbers.{number-below, number-block, number-bit}
 
--- ---- one of two, one of n
-
-pub or-first : (a b : Bool) → a ≡ true → (a || b) ≡ true
-or-first a b e = rw e
-
-pub or-second : (a b : Bool) → b ≡ true → (a || b) ≡ true
-or-second true b e = refl
-or-second false b e = e
-
-pub or-false : (a b : Bool) → (a || b) ≡ false → (a ≡ false) × (b ≡ false)
-or-false true b e = absurd (false≢true (sym e))
-or-false false b e = (refl, e)
-
-and-both : (a b : Bool) → a ≡ true → b ≡ true → (a && b) ≡ true
-and-both a b e h = rw (e, h)
+-- ---- one of n
 
 pub some-at : (n : ℕ) (p : ℕ → Bool) (i : ℕ) → i < n → p i ≡ true → some n p ≡ true
 unfolding some
@@ -122,15 +109,11 @@ module _ (n : ℕ) where
       unfolding exclusive eval
       exclusive-none g e = by-entries (hasEntry (fact g) (a .effects)) (hasEntry (denial g) (a .effects)) refl refl e
         where
-          no-clear : (x : Bool) → not (x && false) ≡ true
-          no-clear true = refl
-          no-clear false = refl
-
           by-entries :
               (x y : Bool) → hasEntry (fact g) (a .effects) ≡ x → hasEntry (denial g) (a .effects) ≡ y → (x && y) ≡ false →
               not (sets two a d g && clears two a d g) ≡ true
           by-entries true true i j e = absurd (false≢true (sym e))
-          by-entries true false i j e = rw (without-entry (denial g) (a .effects) j (any none)) (no-clear (sets two a d g))
+          by-entries true false i j e = rw (without-entry (denial g) (a .effects) j (any none)) (ap not (and-none (sets two a d g)))
           by-entries false y i j e = rw (without-entry (fact g) (a .effects) i (any none))
 
       exclusive-too : (g : ℕ) → g < n → exclusive two a c g ≡ true → exclusive two a d g ≡ true

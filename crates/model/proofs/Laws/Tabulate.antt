@@ -1,6 +1,6 @@
 -- Lists by a rule. Assumes nothing.
 use mathlib.Core.Path.{_≡_, refl, ap}
-use mathlib.Core.List.{_∷_}
+use mathlib.Core.List.{[], _∷_, _++_}
 use Prim.Native.Nat.{ℕ, zero, suc, _≤_, _<_}
 use native.Mathlib.Nat.{le-of-suc-le-suc, not-suc-le-zero}
 use native.Mathlib.Omega.{arith}
@@ -35,3 +35,8 @@ set-tabulate (suc n) f g (suc k) h e =
 -- past the end
 pub getD-tabulate-past : {X : Type 0} (n : ℕ) (f : ℕ → X) (i : ℕ) (d : X) → n ≤ i → getD (tabulate n f) i d ≡ d
 getD-tabulate-past n f i d h = List·getD-eq-default (tabulate n f) d (rw (length-tabulate n f) h)
+
+-- one more value
+pub tabulate-last : {X : Type 0} (n : ℕ) (f : ℕ → X) → tabulate (suc n) f ≡ tabulate n f ++ (f n ∷ [])
+tabulate-last zero f = refl
+tabulate-last (suc n) f = ap (λ l. f zero ∷ l) (tabulate-last n (λ i. f (suc i)))

@@ -3,23 +3,24 @@ use mathlib.Core.Path.{_≡_, refl, sym, _∙_, subst}
 use mathlib.Core.Bool.{Bool, true, false, _&&_, false≢true}
 use mathlib.Core.Logic.{_⊎_, inl, inr}
 use mathlib.Core.List.{List}
-use Prim.Native.Nat.{ℕ, _-_, _%_, _^_, _≤_}
+use Prim.Native.Nat.{ℕ, _+_, _-_, _%_, _^_, _≤_}
 use native.Mathlib.Omega.{arith}
-use lib.ListN.{take}
-use lib.Dec.{eqb, ltb}
-use borrow.Author.Tests.{lt-ltb, ltb-true, eq-eqb, eqb-true}
+use lib.ListN.{length, take}
+use lib.Dec.{eqb, ltb, leb}
+use borrow.Author.Tests.{lt-ltb, ltb-true, leb-true, eq-eqb, eqb-true}
 use Rattle.model.specs.declared.Limits.{Limits}
+use Rattle.model.specs.Limits.{maxSteps}
 use Rattle.model.specs.Answer as Answer
 use Rattle.model.specs.Answer.{Answer, refused, answered}
 use Rattle.model.specs.Case.{Task, runOf, IsState}
 use Rattle.model.specs.Walk.{judged, lookAt}
 use Rattle.model.specs.CaseList.{follow}
 use Rattle.model.specs.Cover.{coverEnd}
-use Rattle.model.specs.Read.{_>>=_, _>>_, done}
-use Rattle.model.specs.ProblemBytes.{Problem, ending, parts, body, problem, problemOf}
+use Rattle.model.specs.Read.{_>>=_, _>>_, done, headBytes, header}
+use Rattle.model.specs.ProblemBytes.{Problem, ending, parts, body, problem, problemOf, plan, planOf}
 use Rattle.model.specs.ListBytes.{listOf}
 use Rattle.model.specs.Operations.{isState, taskOf, readTask, runState, lineCount, judge, linesFor, listFor, followList, coverAfter}
-use Rattle.model.proofs.Laws.Reading.{then-got, got-inj, answer-got, count-gives}
+use Rattle.model.proofs.Laws.Reading.{then-got, needed, got-inj, answer-got, count-gives}
 
 -- what comes after an answer
 pub answer-then :
@@ -72,6 +73,15 @@ module _ (F : Limits) where
       let m = subst (λ (x : Problem). x .facts ≤ F .facts) (got-inj g₇ .0) l in
       let t : taskOf F p steps ≡ T = cc in
       subst Fits t (record { facts = m; width = refl })
+
+  -- "30 over 261 bytes": a plan that was read is no longer
+  pub plan-short : (problem′ plan′ : List ℕ) (T : Task) → readTask F problem′ plan′ ≡ answered T → length plan′ ≤ headBytes + maxSteps
+  unfolding readTask planOf plan header _>>_
+  plan-short problem′ plan′ T h =
+      answer-then h λ p _ h₁.
+      answer-then h₁ λ steps e _.
+      then-got (answer-got _ e .1) λ _ _ g _.
+      needed (leb (length plan′) (headBytes + maxSteps)) _ _ _ _ g λ t _. leb-true _ _ t
 
   -- the operations on a task that was read
   module _ (problem plan : List ℕ) (T : Task) (given : readTask F problem plan ≡ answered T) where

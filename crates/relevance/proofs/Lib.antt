@@ -1,0 +1,3 @@
+-- Laws of the definitions, for several functions' proofs.
+pub mod Answers
+pub mod Promise

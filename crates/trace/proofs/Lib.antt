@@ -1,0 +1,4 @@
+-- Laws of the definitions, for several functions' proofs.
+pub mod States
+pub mod Writing
+pub mod Tracing

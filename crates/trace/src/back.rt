@@ -1,0 +1,63 @@
+// A run gone through backward: the facts that matter before each step, by the state in its row and the facts that matter after it.
+ghost use mathlib.Core.Path.{_≡_};
+ghost use Prim.Native.Nat.{_+_, _*_, _≤_};
+ghost use lib.ListN.{length};
+ghost use lib.Dec.{eqb};
+ghost use Rattle.model.specs.Limits.{maxFacts};
+ghost use Rattle.model.specs.Kleene.{known};
+ghost use Rattle.model.specs.Planes.{InLanes};
+ghost use Rattle.table.specs.Tables.{SetsFacts};
+ghost use Rattle.trace.specs.Rows.{rowValue, TracesBack};
+use matters::matters_before;
+use names::named_facts;
+use table::ONES;
+use table::none_fixed;
+use table::set_fact;
+
+// A value's byte in every lane.
+fn lanes_of(b: u8) -> u64
+    ensures { λ r. ⌜ InLanes r r (λ j. known (eqb b 1)) ⌝ }
+{
+    if b == 1 {
+        return ONES;
+    }
+    0
+}
+
+// The state in the row at `at`, in every lane.
+fn load_row(c: &mut [u64; 256], facts: usize, work: &[u8], at: usize)
+    requires { ⌜ (length (now c) ≡ 256) × (facts ≤ maxFacts) × (at + facts ≤ length (now work)) ⌝ }
+    ensures { λ _. ⌜ SetsFacts (now (c .entry)) 0 facts (rowValue (now (work .entry)) at) (now (c .exit)) ⌝ }
+{
+    let mut f: usize = 0;
+    while f < facts {
+        let value = lanes_of(work[at + f]);
+        set_fact(c, f, value, value);
+        f = f + 1;
+    }
+}
+
+// The facts that matter before the run whose states the work area holds.
+pub fn trace_back(
+    problem: &[u8],
+    steps: &[u8],
+    actions: &[usize; 64],
+    goal: usize,
+    facts: usize,
+    work: &[u8],
+) -> u64
+    requires { ⌜ (facts ≤ maxFacts) × (length (now steps) * facts ≤ length (now work)) ⌝ }
+    ensures { λ r. ⌜ TracesBack (now (problem .entry)) (now (steps .entry)) (now (actions .entry)) goal facts (now (work .entry)) r ⌝ }
+{
+    let named = named_facts(problem, goal);
+    let mut set = named.facts;
+    let mut c = none_fixed(facts);
+    let mut i = steps.len();
+    while 0 < i {
+        i = i - 1;
+        let slot = crate::wide(steps[i] % 64);
+        load_row(&mut c, facts, work, i * facts);
+        set = matters_before(problem, actions[slot], &c, set);
+    }
+    set
+}
