@@ -6,7 +6,7 @@
  * for any bytes of any length.
  *
  * A slice is a pointer and then a length. A pointer is never null, also where
- * the length is 0. A buffer that a call writes (out) overlaps no other
+ * the length is 0. A buffer that a call writes (out, work) overlaps no other
  * argument.
  */
 #ifndef LARKHAMMOCK_H
@@ -108,6 +108,24 @@ larkhammock_answer larkhammock_follow_list(
     const uint8_t *problem, size_t problem_len,
     const uint8_t *plan, size_t plan_len,
     const uint8_t *list, size_t list_len);
+
+/*
+ * Tell which start facts a reached run rests on: from any other state that
+ * agrees with this one on them, the plan reaches the goal too. Refusals as for
+ * the run, then, at place 0, 41 where it is not reached and 42 where work has
+ * under (steps + 1) * facts bytes. A work area of 12,336 bytes is enough for
+ * any run.
+ *   word[0]  1 told
+ *   word[1]  the set, as the state in which exactly its facts are true
+ * The front of work then holds the states of the run in order, the start state
+ * first: one byte a fact, 0 or 1, fact 0 first. Bytes past them keep their
+ * values.
+ */
+larkhammock_answer larkhammock_relevant_facts(
+    const uint8_t *problem, size_t problem_len,
+    const uint8_t *plan, size_t plan_len,
+    uint64_t state,
+    uint8_t *work, size_t work_len);
 
 #ifdef __cplusplus
 }

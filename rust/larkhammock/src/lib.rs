@@ -5,7 +5,8 @@
 //! which the initial formula is true, whichever of them it is. This crate says
 //! whether it does: it [judges](judge) a plan, names a counterexample where
 //! there is one, [writes](write_list) a certificate for a right plan, and
-//! [follows](follow_list) a certificate that anyone has written.
+//! [follows](follow_list) a certificate that anyone has written. Of one run that
+//! reaches the goal it tells [which start facts](relevant_facts) that rests on.
 //!
 //! Problems, plans and lists are blocks of bytes. Any bytes may be handed in:
 //! what is not sound is turned down with a [`Refusal`].
@@ -37,13 +38,19 @@ pub mod example;
 mod lines;
 pub mod raw;
 mod refusal;
+mod relevance;
 
 pub use lines::{Line, Lines};
 pub use refusal::Refusal;
+pub use relevance::{FactSet, ReachedRun, States};
 
 /// The length of the longest list block, in bytes: a buffer of this length
 /// holds what [`write_list`] writes for any plan.
 pub const LONGEST_LIST: usize = 65_533;
+
+/// The bytes of the longest run's states, those of 256 steps and 48 facts: a
+/// work area of this length is enough for [`relevant_facts`] of any run.
+pub const LONGEST_WORK: usize = (256 + 1) * 48;
 
 /// The README's call is a test.
 #[cfg(doctest)]
@@ -236,6 +243,54 @@ pub fn write_list(
 pub fn follow_list(problem: &[u8], plan: &[u8], list: &[u8]) -> Result<u64, Refusal> {
     let word = accepted(raw::follow_list(problem, plan, list))?;
     Ok(word[1])
+}
+
+/// Tells which start facts a run that reaches the goal rests on: from any other
+/// state that agrees with this one on them, the plan reaches the goal too.
+///
+/// They are found backward. The goal's facts matter after the last step. Before a
+/// step, these matter: the facts of its precondition; those of both conditions of
+/// each fact that it may set and may clear; and for each fact that matters after
+/// it, those of its set condition if that was true, otherwise the fact itself and
+/// those of both its conditions.
+///
+/// The states of the run are written to the front of `work`, which needs a byte
+/// for each fact of each of them: (steps + 1) * facts, at most [`LONGEST_WORK`].
+/// The rest of `work` keeps its bytes, and so does all of it where the call is
+/// refused.
+///
+/// ```
+/// use larkhammock::{example, relevant_facts, run, Outcome, LONGEST_WORK};
+///
+/// let (problem, plan) = (example::PROBLEM, example::PLAN);
+/// let mut work = [0; LONGEST_WORK];
+/// let reached = relevant_facts(problem, plan, 0b011 << 45, &mut work)?;
+/// assert!(reached.states.eq([[0, 1, 1]; 3]));
+///
+/// // Action 1 sets fact 2 if fact 1 is true, and it was: nothing else matters.
+/// assert!(reached.facts.iter().eq([1]));
+/// for state in [0b010, 0b110, 0b111] {
+///     assert_eq!(run(problem, plan, state << 45), Ok(Outcome::Reached));
+/// }
+///
+/// let refusal = relevant_facts(problem, plan, 0, &mut work).unwrap_err();
+/// assert_eq!(refusal.to_string(), "refused 41 at 0: the run does not reach the goal");
+/// # Ok::<(), larkhammock::Refusal>(())
+/// ```
+pub fn relevant_facts<'a>(
+    problem: &[u8],
+    plan: &[u8],
+    state: u64,
+    work: &'a mut [u8],
+) -> Result<ReachedRun<'a>, Refusal> {
+    let word = accepted(raw::relevant_facts(problem, plan, state, work))?;
+    // Both blocks are sound: the fact count is the first byte of the problem's
+    // body, and the plan's body has a byte a step.
+    let (facts, steps) = (usize::from(problem[5]), plan.len() - 5);
+    Ok(ReachedRun {
+        facts: FactSet::of_number(word[1]),
+        states: States::new(&work[..(steps + 1) * facts], facts),
+    })
 }
 
 /// The words of an answer that is no refusal.

@@ -54,11 +54,20 @@ extern "C" {
         list: *const u8,
         list_len: usize,
     ) -> Answer;
+    fn larkhammock_relevant_facts(
+        problem: *const u8,
+        problem_len: usize,
+        plan: *const u8,
+        plan_len: usize,
+        state: u64,
+        work: *mut u8,
+        work_len: usize,
+    ) -> Answer;
 }
 
 // SAFETY, for every call below: a slice's pointer is never null and is valid
 // for its length; the library reads and writes within those lengths, keeps no
-// pointer, and `out` is borrowed alone for the time of the call.
+// pointer, and `out` or `work` is borrowed alone for the time of the call.
 
 /// Tag 1: facts, actions.
 pub fn read_problem(problem: &[u8]) -> Answer {
@@ -122,6 +131,21 @@ pub fn follow_list(problem: &[u8], plan: &[u8], list: &[u8]) -> Answer {
             plan.len(),
             list.as_ptr(),
             list.len(),
+        )
+    }
+}
+
+/// Tag 1: the set of facts as a state number.
+pub fn relevant_facts(problem: &[u8], plan: &[u8], state: u64, work: &mut [u8]) -> Answer {
+    unsafe {
+        larkhammock_relevant_facts(
+            problem.as_ptr(),
+            problem.len(),
+            plan.as_ptr(),
+            plan.len(),
+            state,
+            work.as_mut_ptr(),
+            work.len(),
         )
     }
 }

@@ -16,7 +16,8 @@ use std::fmt;
 #[derive(Clone, Copy, Debug, PartialEq, Eq, Hash)]
 pub struct Refusal {
     /// Which fault: 10 to 25 for a problem, 30 to 34 for a plan, 40 for a
-    /// state, 50 to 53 for writing a list, 60 to 70 for following one.
+    /// state, 41 and 42 for the facts that its run rests on, 50 to 53 for writing
+    /// a list, 60 to 70 for following one.
     pub number: u64,
     /// Where: a byte's position, or what the fault's description says.
     pub place: u64,
@@ -48,6 +49,8 @@ impl Refusal {
             33 => "the plan's length field differs from the bytes that follow",
             34 => "the step names no action",
             40 => "the state has a bit set past the declared facts",
+            41 => "the run does not reach the goal",
+            42 => "the work area is too short for the states of the run",
             50 => "the plan is undecided after these visits",
             51 => "the plan is wrong, found after these visits",
             52 => "the list has more than 8,191 lines: this many",
