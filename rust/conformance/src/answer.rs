@@ -24,12 +24,12 @@ pub fn read_problem(result: &Result<Problem, Refusal>) -> Answer {
     }
 }
 
-/// Reading a plan, following a list and writing one answer with one number:
-/// steps, lines or length.
-pub fn count(result: &Result<u64, Refusal>) -> Answer {
+/// Reading a plan, following a list, writing one and telling the relevant facts
+/// answer with one number: steps, lines, length or the state of the set.
+pub fn number(result: &Result<u64, Refusal>) -> Answer {
     match result {
         Err(refusal) => refused(refusal),
-        Ok(count) => words(&[1, *count]),
+        Ok(number) => words(&[1, *number]),
     }
 }
 

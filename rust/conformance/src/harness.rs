@@ -1,4 +1,4 @@
-//! Holds a library to the oracle: whole answers, and every byte of the buffer
+//! Holds a library to the oracle: whole answers, and every byte of a lent buffer
 //! with guards around it.
 
 use std::fmt;
@@ -7,7 +7,7 @@ use std::ops::Range;
 use crate::answer::{self, words, Answer};
 use crate::oracle;
 
-/// What is tested: the six operations, as their eight words.
+/// What is tested: the seven operations, as their eight words.
 pub trait Subject {
     fn read_problem(&self, problem: &[u8]) -> Answer;
     fn read_plan(&self, problem: &[u8], plan: &[u8]) -> Answer;
@@ -15,6 +15,7 @@ pub trait Subject {
     fn judge(&self, problem: &[u8], plan: &[u8], grant: u64) -> Answer;
     fn write_list(&self, problem: &[u8], plan: &[u8], grant: u64, arena: &mut Arena) -> Answer;
     fn follow_list(&self, problem: &[u8], plan: &[u8], list: &[u8]) -> Answer;
+    fn relevant_facts(&self, problem: &[u8], plan: &[u8], state: u64, arena: &mut Arena) -> Answer;
 }
 
 #[derive(Clone, Copy, Debug, PartialEq, Eq)]
@@ -25,20 +26,22 @@ pub enum Operation {
     Judge,
     WriteList,
     FollowList,
+    RelevantFacts,
 }
 
 impl Operation {
-    pub const ALL: [Operation; 6] = [
+    pub const ALL: [Operation; 7] = [
         Operation::ReadProblem,
         Operation::ReadPlan,
         Operation::Run,
         Operation::Judge,
         Operation::WriteList,
         Operation::FollowList,
+        Operation::RelevantFacts,
     ];
 }
 
-/// Arguments for all six operations.
+/// Arguments for all seven operations.
 #[derive(Clone, Default)]
 pub struct Case {
     pub problem: Vec<u8>,
@@ -46,7 +49,10 @@ pub struct Case {
     pub list: Vec<u8>,
     pub state: u64,
     pub grant: u64,
+    /// The bytes that are lent for a list.
     pub room: usize,
+    /// The bytes that are lent for the states of a run.
+    pub work: usize,
 }
 
 /// The lent buffer with guard bytes on both sides.
@@ -61,7 +67,8 @@ impl Arena {
 
     pub fn new(room: usize) -> Arena {
         let room = Self::GUARD..Self::GUARD + room;
-        // No list holds such bytes in a row, so a stray store shows.
+        // No list holds such bytes in a row, and no state one of them, so a stray
+        // store shows.
         let bytes = (0..room.end + Self::GUARD)
             .map(|i| 0x90 | (i & 15) as u8)
             .collect();
@@ -105,8 +112,14 @@ impl fmt::Debug for Difference {
         writeln!(f, "  problem {}", hex(&case.problem))?;
         writeln!(f, "  plan {}", hex(&case.plan))?;
         writeln!(f, "  list {}", hex(&case.list))?;
-        let (state, grant, room) = (case.state, case.grant, case.room);
-        write!(f, "  state {state:x} grant {grant} room {room}")
+        let Case {
+            state,
+            grant,
+            room,
+            work,
+            ..
+        } = case;
+        write!(f, "  state {state:x} grant {grant} room {room} work {work}")
     }
 }
 
@@ -123,7 +136,7 @@ impl Subject for Oracle {
     }
 
     fn read_plan(&self, problem: &[u8], plan: &[u8]) -> Answer {
-        answer::count(&oracle::read_plan(problem, plan))
+        answer::number(&oracle::read_plan(problem, plan))
     }
 
     fn run(&self, problem: &[u8], plan: &[u8], state: u64) -> Answer {
@@ -139,11 +152,22 @@ impl Subject for Oracle {
         if let Ok(block) = &written {
             arena.out()[..block.len()].copy_from_slice(block);
         }
-        answer::count(&written.map(|block| block.len() as u64))
+        answer::number(&written.map(|block| block.len() as u64))
     }
 
     fn follow_list(&self, problem: &[u8], plan: &[u8], list: &[u8]) -> Answer {
-        answer::count(&oracle::follow_list(problem, plan, list))
+        answer::number(&oracle::follow_list(problem, plan, list))
+    }
+
+    fn relevant_facts(&self, problem: &[u8], plan: &[u8], state: u64, arena: &mut Arena) -> Answer {
+        let told = oracle::relevant_facts(problem, plan, state, arena.room.len());
+        if let Ok(run) = &told {
+            let values = run.states.iter().flatten();
+            for (byte, value) in arena.out().iter_mut().zip(values) {
+                *byte = u8::from(*value);
+            }
+        }
+        answer::number(&told.map(|run| run.set))
     }
 }
 
@@ -168,14 +192,16 @@ pub fn observed(subject: &dyn Subject, operation: Operation, case: &Case) -> Eff
         Operation::Judge => subject.judge(problem, plan, case.grant),
         Operation::WriteList => subject.write_list(problem, plan, case.grant, &mut arena),
         Operation::FollowList => subject.follow_list(problem, plan, list),
+        Operation::RelevantFacts => subject.relevant_facts(problem, plan, case.state, &mut arena),
     };
     Effect { answer, arena }
 }
 
-/// Only one operation has a buffer.
+/// Only two operations have a buffer.
 fn room(operation: Operation, case: &Case) -> usize {
     match operation {
         Operation::WriteList => case.room,
+        Operation::RelevantFacts => case.work,
         _ => 0,
     }
 }
@@ -199,7 +225,7 @@ pub fn check(
     }))
 }
 
-/// Compares all six calls; the answers in the order of [`Operation::ALL`].
+/// Compares all seven calls; the answers in the order of [`Operation::ALL`].
 pub fn check_all(subject: &dyn Subject, case: &Case) -> Result<Vec<Answer>, Box<Difference>> {
     Operation::ALL
         .iter()

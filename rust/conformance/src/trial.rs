@@ -35,13 +35,14 @@ carries 01?
 carries 1??
 ";
 
-/// P with this plan, all the grant there is and room for any list.
+/// P with this plan, all the grant there is and room for any list and run.
 pub fn with_plan(steps: &[u8]) -> Case {
     Case {
         problem: problem(),
         plan: encode::plan(steps),
         grant: u64::MAX,
         room: VERSION_1.most_bytes(),
+        work: VERSION_1.most_work_bytes(),
         ..Case::default()
     }
 }

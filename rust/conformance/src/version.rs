@@ -66,6 +66,11 @@ impl Version {
         self.list_bytes(self.most_lines)
     }
 
+    /// The length of the longest run's states, of one byte a fact each.
+    pub fn most_work_bytes(&self) -> usize {
+        (MOST_STEPS + 1) * usize::from(self.most_facts)
+    }
+
     /// How many numbers there are, which is where a full cover ends. No word
     /// holds it where a state is a whole word.
     pub fn numbers(&self) -> u128 {

@@ -1,6 +1,7 @@
 //! The tests tested: a library with one fault does not get past the harness.
 
 mod former;
+mod rules;
 mod support;
 
 use conformance::answer::{self, words, Answer};
@@ -8,10 +9,11 @@ use conformance::encode;
 use conformance::gen::{case_of_round, sound_case, Rng};
 use conformance::harness::{check, expected, Arena, Case, Operation, Subject};
 use conformance::model::{Formula, Kind};
-use conformance::oracle::{self, after_steps, conflicts, holds, walk, Task};
+use conformance::oracle::{self, conflicts, holds, states, walk, Task};
 use conformance::trial;
 use conformance::version::{HEADER, VERSION_1};
 use former::{with_sets_winning, MOVES};
+use rules::Rule;
 use support::Library;
 
 /// The library with one word of one operation's answer changed.
@@ -57,6 +59,11 @@ impl Subject for Tampered {
             Operation::FollowList,
             Library.follow_list(problem, plan, list),
         )
+    }
+
+    fn relevant_facts(&self, problem: &[u8], plan: &[u8], state: u64, arena: &mut Arena) -> Answer {
+        let answer = Library.relevant_facts(problem, plan, state, arena);
+        self.tamper(Operation::RelevantFacts, answer)
     }
 }
 
@@ -117,6 +124,16 @@ impl Subject for Oracle {
         })
         .0
     }
+
+    fn relevant_facts(&self, problem: &[u8], plan: &[u8], state: u64, arena: &mut Arena) -> Answer {
+        let work = arena.out().len();
+        let (answer, left) = ask(Operation::RelevantFacts, problem, plan, |case| {
+            case.state = state;
+            case.work = work;
+        });
+        *arena = left;
+        answer
+    }
 }
 
 fn ask(
@@ -166,9 +183,17 @@ enum Fault {
     OnlyLine0IsTested,
     EndIsNotTested,
     EmptyCarriesToo,
+    /// Goes by this rule for what matters before a step.
+    Relevant(Rule),
+    NoRunIsTold,
+    WorkBeforeOutcome,
+    NoStateIsWritten,
+    StatesBackward,
+    LastStateForgotten,
+    WrittenThoughRefused,
 }
 
-const WRONG_IDEAS: [Fault; 26] = [
+const WRONG_IDEAS: [Fault; 32] = [
     Fault::NoProblemIsSound,
     Fault::NoPlanIsSound,
     Fault::RunIsNeverMissed,
@@ -195,6 +220,12 @@ const WRONG_IDEAS: [Fault; 26] = [
     Fault::OnlyLine0IsTested,
     Fault::EndIsNotTested,
     Fault::EmptyCarriesToo,
+    Fault::NoRunIsTold,
+    Fault::WorkBeforeOutcome,
+    Fault::NoStateIsWritten,
+    Fault::StatesBackward,
+    Fault::LastStateForgotten,
+    Fault::WrittenThoughRefused,
 ];
 
 impl Subject for Fault {
@@ -262,9 +293,9 @@ impl Subject for Fault {
             (Fault::HighestFact, [3, step, 1, ..]) => {
                 let task = Task::parse(problem, plan).expect("both are sound");
                 let start = VERSION_1.values(state, task.problem.facts);
-                let before = after_steps(&task, &start, step as usize);
+                let before = &states(&task, &start)[step as usize];
                 let action = usize::from(task.plan[step as usize]);
-                let facts = conflicts(&task.problem.actions[action], &before);
+                let facts = conflicts(&task.problem.actions[action], before);
                 let highest = facts.last().expect("a fact blocks it");
                 words(&[3, step, 1, u64::from(*highest)])
             }
@@ -356,11 +387,59 @@ impl Subject for Fault {
             _ => answer,
         }
     }
+
+    fn relevant_facts(&self, problem: &[u8], plan: &[u8], state: u64, arena: &mut Arena) -> Answer {
+        let before = arena.clone();
+        let answer = Oracle.relevant_facts(problem, plan, state, arena);
+        match (self, answer) {
+            (Fault::StrayByte(at), _) => arena.bytes[*at] ^= 1,
+            (Fault::NoStateIsWritten, _) => *arena = before,
+            (Fault::StatesBackward, [1, ..]) => {
+                let task = Task::parse(problem, plan).expect("both are sound");
+                let rows = &mut arena.out()[..task.work_bytes()];
+                let turned: Vec<&[u8]> = rows.rchunks(task.problem.facts.into()).collect();
+                let turned = turned.concat();
+                rows.copy_from_slice(&turned);
+            }
+            (Fault::LastStateForgotten, [1, ..]) => {
+                let task = Task::parse(problem, plan).expect("both are sound");
+                let facts = usize::from(task.problem.facts);
+                let last = arena.room.start + task.work_bytes() - facts;
+                arena.bytes[last..][..facts].copy_from_slice(&before.bytes[last..][..facts]);
+            }
+            (Fault::WrittenThoughRefused, [0, 41 | 42, ..]) => {
+                let task = Task::parse(problem, plan).expect("both are sound");
+                let start = VERSION_1.values(state, task.problem.facts);
+                for (byte, value) in arena.out().iter_mut().zip(start) {
+                    *byte = u8::from(value);
+                }
+            }
+            (Fault::Relevant(rule), [1, ..]) => {
+                let task = Task::parse(problem, plan).expect("both are sound");
+                let start = VERSION_1.values(state, task.problem.facts);
+                let facts = rule.relevant(&task, &states(&task, &start));
+                return words(&[1, facts.into_iter().map(|f| VERSION_1.bit(f)).sum()]);
+            }
+            (Fault::NoRunIsTold, [1, ..]) => {
+                *arena = before;
+                return words(&[0, 41]);
+            }
+            (Fault::WorkBeforeOutcome, [0, 41, ..]) => {
+                let task = Task::parse(problem, plan).expect("both are sound");
+                if arena.room.len() < task.work_bytes() {
+                    return words(&[0, 42]);
+                }
+            }
+            _ => {}
+        }
+        answer
+    }
 }
 
 #[test]
 fn each_wrong_idea_is_found_out() {
-    for fault in WRONG_IDEAS {
+    let rules = Rule::WRONG.map(Fault::Relevant);
+    for fault in WRONG_IDEAS.into_iter().chain(rules) {
         let mut rng = Rng::new(0xfa17);
         let found = (0..2_000).any(|_| {
             let case = sound_case(&mut rng, &VERSION_1);
@@ -371,20 +450,34 @@ fn each_wrong_idea_is_found_out() {
     }
 }
 
+#[track_caller]
+fn each_byte_is_compared(operation: Operation, case: &Case, lent: usize) {
+    let arena = expected(operation, case).arena;
+    assert_eq!(arena.bytes.len(), lent + 2 * Arena::GUARD);
+    for at in 0..arena.bytes.len() {
+        let found = check(&Fault::StrayByte(at), operation, case);
+        assert!(found.is_err(), "byte {at} of {lent} and guards");
+    }
+}
+
 #[test]
-fn each_byte_of_the_buffer_and_its_guards_is_compared() {
+fn each_byte_of_the_buffers_and_their_guards_is_compared() {
     // A list that fits with bytes to spare, one that does not, a wrong plan.
     for (room, steps) in [(40, &[0, 1][..]), (28, &[0, 1]), (40, &[0])] {
         let case = Case {
             room,
             ..trial::with_plan(steps)
         };
-        let arena = expected(Operation::WriteList, &case).arena;
-        assert_eq!(arena.bytes.len(), room + 2 * Arena::GUARD);
-        for at in 0..arena.bytes.len() {
-            let found = check(&Fault::StrayByte(at), Operation::WriteList, &case);
-            assert!(found.is_err(), "byte {at} of {room} and guards");
-        }
+        each_byte_is_compared(Operation::WriteList, &case, room);
+    }
+    // The same of the states of a run.
+    for (work, steps) in [(12, &[0, 1][..]), (8, &[0, 1]), (12, &[0])] {
+        let case = Case {
+            work,
+            state: VERSION_1.bit(1),
+            ..trial::with_plan(steps)
+        };
+        each_byte_is_compared(Operation::RelevantFacts, &case, work);
     }
 }
 
@@ -398,6 +491,8 @@ fn the_oracle_without_a_fault_is_not_found_out() {
         for operation in Operation::ALL {
             check(&Oracle, operation, &case).expect("the same twice");
         }
+        let rule = Fault::Relevant(Rule::AsWritten);
+        check(&rule, Operation::RelevantFacts, &case).expect("the rule is as written");
     }
     let list = trial::list();
     let state = VERSION_1.number(&[false, true, true]);
@@ -407,5 +502,5 @@ fn the_oracle_without_a_fault_is_not_found_out() {
         ..trial::with_plan(&[0, 1])
     };
     let answers = Operation::ALL.map(|operation| expected(operation, &case).answer[0]);
-    assert_eq!(answers, [1; 6]);
+    assert_eq!(answers, [1; 7]);
 }

@@ -7,7 +7,7 @@ use std::collections::BTreeSet;
 use conformance::answer::Answer;
 use conformance::gen::{arbitrary_case, case_of_round, damaged_case, sound_case, wide_case, Rng};
 use conformance::harness::{check_all, Case, Operation};
-use conformance::oracle::{self, after_steps, conflicts, holds, Task};
+use conformance::oracle::{self, conflicts, holds, states, Task};
 use conformance::version::{Version, VERSION_1};
 use support::Library;
 
@@ -26,7 +26,7 @@ const NUMBERS: u64 = 4;
 
 /// Every number that a call can be refused with.
 fn every_refusal() -> BTreeSet<u64> {
-    let ranges = [10..=25, 30..=34, 40..=40, 50..=53, 60..=70];
+    let ranges = [10..=25, 30..=34, 40..=42, 50..=53, 60..=70];
     ranges.into_iter().flatten().collect()
 }
 
@@ -71,10 +71,10 @@ impl Blocks {
         let task = Task::parse(&case.problem, &case.plan).expect("a block needs sound input");
         let start = VERSION_1.values(block.state, task.problem.facts);
         let step = block.step as usize;
-        let before = after_steps(&task, &start, step);
+        let before = &states(&task, &start)[step];
         let action = &task.problem.actions[usize::from(task.plan[step])];
-        let facts = conflicts(action, &before).len();
-        let met = holds(&action.precondition, &before);
+        let facts = conflicts(action, before).len();
+        let met = holds(&action.precondition, before);
         self.of_several_facts += u32::from(met && facts > 1);
         self.unmet_with_conflict += u32::from(!met && facts > 0);
     }
@@ -144,6 +144,7 @@ fn every_operation_answers_as_the_oracle_and_every_refusal_is_met() {
         (judge, 3, 0),
         (Operation::WriteList as u8, 1, 0),
         (Operation::FollowList as u8, 1, 0),
+        (Operation::RelevantFacts as u8, 1, 0),
     ];
     assert_eq!(tags, every_tag.into());
     runs.are_of_every_kind("run");
@@ -191,6 +192,15 @@ fn verdict(verdict: oracle::Verdict) -> larkhammock::Verdict {
     }
 }
 
+fn told(run: larkhammock::ReachedRun) -> oracle::ReachedRun {
+    let values = |state: &[u8]| state.iter().map(|value| *value == 1).collect();
+    oracle::ReachedRun {
+        facts: run.facts.iter().map(|fact| fact as u8).collect(),
+        set: run.facts.number(),
+        states: run.states.map(values).collect(),
+    }
+}
+
 /// The named types of the safe crate say the same as the oracle's.
 #[test]
 fn the_safe_crate_says_the_same() {
@@ -204,6 +214,7 @@ fn the_safe_crate_says_the_same() {
             state,
             grant,
             room,
+            work,
         } = &case;
         assert_eq!(
             larkhammock::read_problem(problem),
@@ -239,6 +250,10 @@ fn the_safe_crate_says_the_same() {
         assert_eq!(
             larkhammock::follow_list(problem, plan, list),
             oracle::follow_list(problem, plan, list).map_err(refusal)
+        );
+        assert_eq!(
+            larkhammock::relevant_facts(problem, plan, *state, &mut vec![0; *work]).map(told),
+            oracle::relevant_facts(problem, plan, *state, *work).map_err(refusal)
         );
     }
 }

@@ -5,7 +5,9 @@ mod former;
 use conformance::encode;
 use conformance::gen::{right_task, task, Rng};
 use conformance::model::{Action, Formula, Line, Literal};
-use conformance::oracle::{self, closes, lowest_failing, walk, End, Outcome, Part, Task, Verdict};
+use conformance::oracle::{
+    self, closes, conditions, lowest_failing, walk, End, Outcome, Part, Task, Verdict,
+};
 use conformance::version::{Version, VERSION_1};
 use former::{with_sets_winning, MOVES};
 
@@ -131,13 +133,11 @@ fn denial(formula: &Formula) -> Formula {
 
 /// Each fact with both entries, and its conditions.
 fn pairs(action: &Action) -> Vec<(u8, [&Formula; 2])> {
-    let entry = |fact: u8, denied: bool| {
-        let literal = Literal { fact, denied };
-        let mut effects = action.effects.iter();
-        Some(&effects.find(|e| e.literal == literal)?.condition)
-    };
     (0..VERSION_1.most_facts)
-        .filter_map(|fact| Some((fact, [entry(fact, false)?, entry(fact, true)?])))
+        .filter_map(|fact| match conditions(action, fact) {
+            [Some(set), Some(clear)] => Some((fact, [set, clear])),
+            _ => None,
+        })
         .collect()
 }
 

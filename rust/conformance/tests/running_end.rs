@@ -1,9 +1,9 @@
 //! Document 02, W-203: the end of the cover is a running value.
 
 mod support;
+mod timing;
 
 use std::hint::black_box;
-use std::time::{Duration, Instant};
 
 use conformance::encode;
 use conformance::families::idle;
@@ -14,29 +14,10 @@ use conformance::oracle::Task;
 use conformance::version::VERSION_1;
 use larkhammock::{raw, Refusal};
 use support::Library;
-
-/// The least time that each call takes, of so many in turn.
-fn least_times<const N: usize>(rounds: usize, calls: [&dyn Fn(); N]) -> [Duration; N] {
-    let mut least = [Duration::MAX; N];
-    for _ in 0..rounds {
-        for (least, call) in least.iter_mut().zip(calls) {
-            let start = Instant::now();
-            call();
-            *least = start.elapsed().min(*least);
-        }
-    }
-    least
-}
-
-/// How many times as long the first call takes as the second.
-fn ratio(rounds: usize, calls: [&dyn Fn(); 2]) -> f64 {
-    let [long, short] = least_times(rounds, calls);
-    long.as_secs_f64() / short.as_secs_f64()
-}
+use timing::ratio;
 
 /// "In a test with the empty plan, following 6,000 sound lines takes at most
-/// three times as long as their first 3,000." The best of many runs each, in one
-/// process, so that a busy machine does not fail it.
+/// three times as long as their first 3,000."
 #[test]
 fn six_thousand_lines_and_their_first_three_thousand() {
     let problem = encode::problem(&idle(VERSION_1, 13));

@@ -9,6 +9,8 @@ use std::collections::BTreeMap;
 
 use crate::desk;
 use crate::encode;
+use crate::oracle::{self, Facts};
+use crate::version::VERSION_1;
 
 /// One problem or a few, with what they are about.
 pub struct Example {
@@ -24,6 +26,14 @@ pub struct Trial {
     pub plan: (&'static str, Vec<u8>),
     pub output: &'static str,
     story: &'static str,
+    pub start: Option<Start>,
+}
+
+/// A state from which the plan reaches the goal, and a story of the facts that
+/// this run rests on: they go in for its `FACTS`.
+pub struct Start {
+    pub state: u64,
+    story: &'static str,
 }
 
 impl Trial {
@@ -33,6 +43,7 @@ impl Trial {
             plan: ("plan", encode::plan(steps)),
             output: "output",
             story,
+            start: None,
         }
     }
 
@@ -46,6 +57,14 @@ impl Trial {
 
     pub fn printed(&self) -> Vec<u8> {
         desk::printed(&self.problem.1, &self.plan.1)
+    }
+
+    /// The facts that the run from a state rests on.
+    pub fn relevant_facts(&self, state: u64) -> Facts {
+        let (problem, plan) = (&self.problem.1, &self.plan.1);
+        let work = VERSION_1.most_work_bytes();
+        let run = oracle::relevant_facts(problem, plan, state, work);
+        run.expect("the run reaches the goal").facts
     }
 }
 
@@ -115,6 +134,19 @@ fn readme(example: &Example) -> String {
             0 => format!("This is the file `{output}`.\n"),
             more => format!("and {more} lines more, all of them in the file `{output}`.\n"),
         };
+        if let Some(start) = &trial.start {
+            let facts = listed(&trial.relevant_facts(start.state));
+            page += &format!("\n{}\n", start.story.replace("FACTS", &facts));
+        }
     }
     page
+}
+
+fn listed(facts: &Facts) -> String {
+    let facts: Vec<String> = facts.iter().map(u8::to_string).collect();
+    match &facts[..] {
+        [] => "no fact".into(),
+        [one] => format!("fact {one}"),
+        [others @ .., last] => format!("facts {} and {last}", others.join(", ")),
+    }
 }

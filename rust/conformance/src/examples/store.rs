@@ -1,6 +1,6 @@
 //! Carriages in a store after a stoppage.
 
-use super::{Example, Trial};
+use super::{Example, Start, Trial};
 use crate::encode;
 use crate::families::store::Store;
 
@@ -19,12 +19,18 @@ pub fn example() -> Example {
         folder: "store",
         about: ABOUT.into(),
         trials: vec![
-            Trial::right(
-                &problem,
-                &plan,
-                "Unload all, then carriage 0 down twice, carriage 1 down twice and up once,\n\
-                 carriage 2 up twice. `plan` is right, wherever the carriages were.",
-            ),
+            Trial {
+                start: Some(Start {
+                    state: 0b001_001_100_111 << 36,
+                    story: RESTS_ON,
+                }),
+                ..Trial::right(
+                    &problem,
+                    &plan,
+                    "Unload all, then carriage 0 down twice, carriage 1 down twice and up once,\n\
+                     carriage 2 up twice. `plan` is right, wherever the carriages were.",
+                )
+            },
             Trial::wrong(
                 &problem,
                 short,
@@ -44,6 +50,14 @@ pub fn example() -> Example {
         ],
     }
 }
+
+const RESTS_ON: &str = "\
+Say that carriages 0 and 1 were in aisle 2, carriage 2 in aisle 0, and all were
+loaded: state 001001100111. Its run rests on FACTS (the
+operation `relevant_facts`): from any other state that agrees with it on these,
+`plan` reaches the goal too. The other places were set on the way. The loads
+count though the plan clears them: only a set condition that was true takes a
+fact out.";
 
 const ABOUT: &str = "\
 # Store

@@ -21,7 +21,7 @@ pub use rng::Rng;
 /// No generated call lets the walk look at more cases than this.
 const PATIENCE: u64 = 1_500;
 
-/// Arguments for all six operations, all of them sound.
+/// Arguments for all seven operations, all of them sound.
 pub fn sound_case(rng: &mut Rng, version: &Version) -> Case {
     let task = if rng.chance(1, 2) {
         right_task(rng, version)
@@ -116,14 +116,16 @@ fn case_of(rng: &mut Rng, task: &Task) -> Case {
     case
 }
 
-/// Chooses a grant and a buffer that suit the blocks: near the edges, and never
+/// Chooses a grant and buffers that suit the blocks: near the edges, and never
 /// so large a grant that the walk takes long.
 fn settle(rng: &mut Rng, case: &mut Case, patience: u64) {
     case.grant = rng.word();
     case.room = rng.below(64);
+    case.work = rng.below(64);
     let Ok(task) = Task::parse(&case.problem, &case.plan) else {
         return;
     };
+    case.work = near(rng, task.work_bytes());
     let walk = walk(&task, patience);
     if let End::Spent = walk.end {
         case.grant = rng.word() % patience;
@@ -136,11 +138,15 @@ fn settle(rng: &mut Rng, case: &mut Case, patience: u64) {
         3 => walk.visits + rng.word() % 9,
         _ => u64::MAX - rng.word() % 2,
     };
-    let exact = task.problem.version.list_bytes(walk.lines.len());
-    case.room = match rng.below(4) {
+    case.room = near(rng, task.problem.version.list_bytes(walk.lines.len()));
+}
+
+/// A length that is one short, short, exact or longer.
+fn near(rng: &mut Rng, exact: usize) -> usize {
+    match rng.below(4) {
         0 => exact - 1,
         1 => rng.below(exact),
         2 => exact,
         _ => exact + rng.below(40),
-    };
+    }
 }

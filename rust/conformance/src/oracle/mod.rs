@@ -6,13 +6,15 @@
 mod cases;
 mod follow;
 mod parse;
+mod relevance;
 mod states;
 
 use crate::encode;
 use crate::model::{Action, Line, Problem};
 
 pub use cases::{closes, walk, End, Walk};
-pub use states::{after, after_steps, conflicts, holds, lowest_failing, outcome};
+pub use relevance::{conditions, named, Facts};
+pub use states::{after, conflicts, holds, lowest_failing, outcome, states};
 
 /// Up to this many facts the judge's verdict comes from every state in turn.
 pub const ENUMERABLE: u8 = 10;
@@ -64,6 +66,17 @@ pub enum Verdict {
     },
 }
 
+/// A run that reaches the goal.
+#[derive(Clone, Debug, PartialEq, Eq)]
+pub struct ReachedRun {
+    /// The start facts that it rests on.
+    pub facts: Facts,
+    /// The state in which exactly these are true.
+    pub set: u64,
+    /// One more than there are steps.
+    pub states: Vec<Vec<bool>>,
+}
+
 /// A problem and a plan for it, both sound.
 #[derive(Clone, Debug)]
 pub struct Task {
@@ -78,7 +91,12 @@ impl Task {
         Ok(Task { problem, plan })
     }
 
-    fn steps(&self) -> impl Iterator<Item = &Action> {
+    /// The bytes of a run's states, of one byte a fact each.
+    pub fn work_bytes(&self) -> usize {
+        (self.plan.len() + 1) * usize::from(self.problem.facts)
+    }
+
+    fn steps(&self) -> impl DoubleEndedIterator<Item = &Action> + ExactSizeIterator {
         self.plan
             .iter()
             .map(|step| &self.problem.actions[usize::from(*step)])
@@ -96,12 +114,17 @@ pub fn read_plan(problem: &[u8], plan: &[u8]) -> Result<u64, Refusal> {
 
 pub fn run(problem: &[u8], plan: &[u8], state: u64) -> Result<Outcome, Refusal> {
     let task = Task::parse(problem, plan)?;
-    let Problem { version, facts, .. } = task.problem;
-    let start = version.values(state, facts);
-    if version.number(&start) != state {
+    let start = start(&task.problem, state)?;
+    Ok(outcome(&task, &start))
+}
+
+/// The values of a state's facts, if it is one of the problem's.
+fn start(problem: &Problem, state: u64) -> Result<Vec<bool>, Refusal> {
+    let values = problem.version.values(state, problem.facts);
+    if problem.version.number(&values) != state {
         return Refusal::at(40, 0);
     }
-    Ok(outcome(&task, &start))
+    Ok(values)
 }
 
 pub fn judge(problem: &[u8], plan: &[u8], grant: u64) -> Result<Verdict, Refusal> {
@@ -141,6 +164,27 @@ pub fn follow_list(problem: &[u8], plan: &[u8], list: &[u8]) -> Result<u64, Refu
     let lines: Vec<Line> = parse::list(list, &task.problem.version)?;
     follow::follow(&task, &lines)?;
     Ok(lines.len() as u64)
+}
+
+/// Told with a work area of this many bytes.
+pub fn relevant_facts(
+    problem: &[u8],
+    plan: &[u8],
+    state: u64,
+    work: usize,
+) -> Result<ReachedRun, Refusal> {
+    let task = Task::parse(problem, plan)?;
+    let start = start(&task.problem, state)?;
+    if outcome(&task, &start) != Outcome::Reached {
+        return Refusal::at(41, 0);
+    }
+    if work < task.work_bytes() {
+        return Refusal::at(42, 0);
+    }
+    let states = states(&task, &start);
+    let facts = relevance::relevant(&task, &states);
+    let set = facts.iter().map(|f| task.problem.version.bit(*f)).sum();
+    Ok(ReachedRun { facts, set, states })
 }
 
 /// The verdict of a walk. Where the states can be enumerated, they decide, and

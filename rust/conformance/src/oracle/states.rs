@@ -81,10 +81,14 @@ pub fn outcome(task: &Task, start: &[bool]) -> Outcome {
     }
 }
 
-/// The state after the first so many steps, whether they are applicable or not.
-pub fn after_steps(task: &Task, start: &[bool], count: usize) -> Vec<bool> {
-    let steps = task.steps().take(count);
-    steps.fold(start.to_vec(), |state, action| after(action, &state))
+/// The state before each step and that after the last, whether the steps are
+/// applicable or not.
+pub fn states(task: &Task, start: &[bool]) -> Vec<Vec<bool>> {
+    let mut states = vec![start.to_vec()];
+    for (step, action) in task.steps().enumerate() {
+        states.push(after(action, &states[step]));
+    }
+    states
 }
 
 /// The lowest start state that does not reach the goal, by trying every state.

@@ -36,6 +36,11 @@ static const uint8_t list[] = {
     1, 2, 0x40, 0, 0, 0, 0, 0,
     1, 1, 0x80, 0, 0, 0, 0, 0,
 };
+static const uint8_t states[] = {                 /* from 010, with both */
+    0, 1, 0,
+    0, 1, 0,
+    0, 1, 1,
+};
 
 static int checked = 0;
 static int faults = 0;
@@ -61,15 +66,25 @@ static void is(const char *call, larkhammock_answer got, uint64_t a, uint64_t b,
     are(call, got, expected);
 }
 
+static void holds(const char *call, const uint8_t *buffer, size_t len,
+                  const uint8_t *expected)
+{
+    if (memcmp(buffer, expected, len) != 0) {
+        printf("%s: the buffer is not as it should be\n", call);
+        faults++;
+    }
+}
+
 #define SLICE(a) a, sizeof a
 
 int main(void)
 {
     const uint64_t s010 = (uint64_t)2 << 45, s011 = (uint64_t)3 << 45;
+    const uint64_t s100 = (uint64_t)4 << 45;
     const uint64_t plenty = UINT64_MAX;
     const uint64_t wrong_blocked[8] = {2, 5, s010, 3, 1, 0, 1, 0};
     const uint64_t wrong_stalled[8] = {2, 5, s010, 3, 1, 1, 2, 0};
-    uint8_t out[40], kept[40];
+    uint8_t out[40], work[16], kept[40];
 
     is("read_problem", larkhammock_read_problem(SLICE(problem)), 1, 3, 2, 0);
     is("read_problem, cut", larkhammock_read_problem(problem, 4), 0, 11, 4, 0);
@@ -108,18 +123,12 @@ int main(void)
     is("write_list, short",
        larkhammock_write_list(SLICE(problem), SLICE(both), plenty, out, 28),
        0, 53, 3, 0);
-    if (memcmp(out, kept, sizeof out) != 0) {
-        puts("write_list, short: the buffer is changed");
-        faults++;
-    }
+    holds("write_list, short", SLICE(out), kept);
     is("write_list",
        larkhammock_write_list(SLICE(problem), SLICE(both), plenty, SLICE(out)),
        1, sizeof list, 0, 0);
     memcpy(kept, list, sizeof list);
-    if (memcmp(out, kept, sizeof out) != 0) {
-        puts("write_list: the buffer is not the list and then as before");
-        faults++;
-    }
+    holds("write_list", SLICE(out), kept);
 
     is("follow_list",
        larkhammock_follow_list(SLICE(problem), SLICE(both), out, sizeof list),
@@ -130,6 +139,28 @@ int main(void)
     is("follow_list, cut",
        larkhammock_follow_list(SLICE(problem), SLICE(both), out, 21),
        0, 63, 1, 0);
+
+    memset(kept, 0xee, sizeof kept);
+    memset(work, 0xee, sizeof work);
+    is("relevant_facts, no state",
+       larkhammock_relevant_facts(SLICE(problem), SLICE(both), 1, SLICE(work)),
+       0, 40, 0, 0);
+    is("relevant_facts, missed",
+       larkhammock_relevant_facts(SLICE(problem), SLICE(one), s010, work, 0),
+       0, 41, 0, 0);
+    is("relevant_facts, short",
+       larkhammock_relevant_facts(SLICE(problem), SLICE(both), s010, work, 8),
+       0, 42, 0, 0);
+    holds("relevant_facts, refused", SLICE(work), kept);
+    is("relevant_facts",
+       larkhammock_relevant_facts(SLICE(problem), SLICE(both), s010,
+                                  SLICE(work)),
+       1, s010, 0, 0);
+    memcpy(kept, states, sizeof states);
+    holds("relevant_facts", SLICE(work), kept);
+    is("relevant_facts, two",
+       larkhammock_relevant_facts(SLICE(problem), SLICE(both), s100, work, 9),
+       1, s100 | s010, 0, 0);
 
     if (faults == 0)
         printf("%d answers as they should be\n", checked);

@@ -5,6 +5,7 @@ mod judge;
 mod problems;
 mod read_plan;
 mod read_problem;
+mod relevant_facts;
 mod run;
 #[path = "../support/mod.rs"]
 mod support;
@@ -23,13 +24,14 @@ fn expect(operation: Operation, case: &Case, named: &[u64]) {
     harness::expect(&Library, operation, case, named);
 }
 
-/// The problem and the plan, all the grant there is and room for any list.
+/// The problem and the plan, all the grant there is and room for any list and run.
 fn case_of(problem: &Problem, steps: &[u8]) -> Case {
     Case {
         problem: encode::problem(problem),
         plan: encode::plan(steps),
         grant: u64::MAX,
         room: VERSION_1.most_bytes(),
+        work: VERSION_1.most_work_bytes(),
         ..Case::default()
     }
 }
@@ -58,7 +60,7 @@ fn the_problem_is_refused_before_the_plan_and_the_list() {
     }
     let problem = trial::problem();
     let case = Case { problem, ..case };
-    for operation in [ReadPlan, Run, Judge, WriteList, FollowList] {
+    for operation in [ReadPlan, Run, Judge, WriteList, FollowList, RelevantFacts] {
         expect(operation, &case, &[0, 31, 1]);
     }
 }

@@ -29,7 +29,7 @@ fn plans_of_256_and_257_steps() {
         };
         expect(ReadPlan, &case, named);
         if named[0] == 0 {
-            for operation in [Run, Judge, WriteList, FollowList] {
+            for operation in [Run, Judge, WriteList, FollowList, RelevantFacts] {
                 expect(operation, &case, named);
             }
         }

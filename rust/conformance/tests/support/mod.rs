@@ -31,4 +31,8 @@ impl Subject for Library {
     fn follow_list(&self, problem: &[u8], plan: &[u8], list: &[u8]) -> Answer {
         raw::follow_list(problem, plan, list).word
     }
+
+    fn relevant_facts(&self, problem: &[u8], plan: &[u8], state: u64, arena: &mut Arena) -> Answer {
+        raw::relevant_facts(problem, plan, state, arena.out()).word
+    }
 }
