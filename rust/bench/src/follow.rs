@@ -3,14 +3,14 @@
 use std::hint::black_box;
 
 use conformance::encode;
-use conformance::families::{bombs, idle};
+use conformance::families::idle;
 use conformance::gen::even_cover;
 use conformance::model::{Action, Effect, Formula, Line, Problem};
 use conformance::version::VERSION_1;
 use larkhammock::Refusal;
 
 use crate::page::{nanoseconds, ratio, whole, Table};
-use crate::problems::Measured;
+use crate::problems::{bombs, Measured};
 use crate::timing::{median, times};
 
 /// Of these many lines a row has the time of one.
@@ -29,7 +29,7 @@ fn empty_plan() -> Measured {
 
 /// Every case with an open package carries the plan.
 fn disarmed() -> Measured {
-    Measured::new("bombs 46", bombs::problem(46), bombs::plan(46))
+    bombs(46)
 }
 
 /// A problem of the greatest length: 64 actions with all their effects under

@@ -2,9 +2,10 @@
 
 use std::hint::black_box;
 
-use crate::page::{nanoseconds, ratio, whole, Table};
+use crate::page::{nanoseconds, whole, Table};
 use crate::plain;
 use crate::problems::{self, Measured};
+use crate::ratios::Ratios;
 use crate::timing::times;
 
 /// The visits of the walk, which all must count alike.
@@ -36,43 +37,6 @@ fn scalar_judge(inputs: &[&[u8]]) {
 
 fn planes_judge(inputs: &[&[u8]]) {
     black_box(plain::planes::judge(inputs[0], inputs[1], u64::MAX));
-}
-
-/// The ratios of one column, each with its problem.
-struct Ratios {
-    name: &'static str,
-    rows: Vec<(String, f64)>,
-}
-
-impl Ratios {
-    fn new(name: &'static str) -> Ratios {
-        Ratios {
-            name,
-            rows: Vec::new(),
-        }
-    }
-
-    /// Keeps a ratio, and is its cell.
-    fn cell(&mut self, problem: &str, value: f64) -> String {
-        self.rows.push((problem.to_string(), value));
-        ratio(value)
-    }
-
-    fn mean(&self) -> f64 {
-        let logs: f64 = self.rows.iter().map(|(_, value)| value.ln()).sum();
-        (logs / self.rows.len() as f64).exp()
-    }
-
-    fn summary(&self) -> String {
-        let worst = self.rows.iter().max_by(|(_, a), (_, b)| a.total_cmp(b));
-        let (problem, most) = worst.expect("something was measured");
-        format!(
-            "- **{}: {} in the geometric mean**; {} at worst, with {problem}\n",
-            self.name,
-            ratio(self.mean()),
-            ratio(*most)
-        )
-    }
 }
 
 pub fn section() -> String {

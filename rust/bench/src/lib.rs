@@ -1,5 +1,5 @@
-//! What the library costs: beside the same walk in plain Rust, over growing
-//! input, and beside SAT solvers. `rust/bench/run` runs all of it.
+//! What the library costs: beside the same in plain Rust, over growing input, and
+//! beside SAT solvers. `rust/bench/run` runs all of it.
 
 pub mod follow;
 pub mod growth;
@@ -8,6 +8,8 @@ pub mod machine;
 pub mod page;
 pub mod plain;
 pub mod problems;
+pub mod ratios;
+pub mod relevance;
 pub mod sat;
 pub mod solvers;
 pub mod timing;

@@ -6,13 +6,14 @@ use std::fs;
 use std::io;
 use std::path::Path;
 
-use bench::{follow, growth, judge, machine, solvers};
+use bench::{follow, growth, judge, machine, relevance, solvers};
 
 type Section = (&'static str, fn() -> String);
 
-const SECTIONS: [Section; 4] = [
+const SECTIONS: [Section; 5] = [
     ("judge", judge::section),
     ("follow", follow::section),
+    ("relevance", relevance::section),
     ("growth", growth::section),
     ("solvers", solvers::section),
 ];

@@ -51,18 +51,11 @@ pub fn all() -> Vec<Measured> {
             sorting::plan(channels),
         ));
     }
-    for side in [8, 16] {
-        let name = format!("grid {side}");
-        all.push(Measured::new(name, grid::problem(side), grid::plan(side)));
-    }
+    all.extend([8, 16].map(grid));
     for (carriages, aisles) in [(4, 3), (4, 4), (5, 4), (6, 4)] {
         all.push(store(carriages, aisles));
     }
-    all.push(Measured::new(
-        "bombs 46",
-        bombs::problem(46),
-        bombs::plan(46),
-    ));
+    all.push(bombs(46));
     all
 }
 
@@ -92,7 +85,17 @@ fn trivial() -> Measured {
     Measured::new("one fact", tree, Vec::new())
 }
 
-fn store(carriages: u8, aisles: u8) -> Measured {
+pub fn grid(side: u8) -> Measured {
+    let name = format!("grid {side}");
+    Measured::new(name, grid::problem(side), grid::plan(side))
+}
+
+pub fn bombs(packages: u8) -> Measured {
+    let name = format!("bombs {packages}");
+    Measured::new(name, bombs::problem(packages), bombs::plan(packages))
+}
+
+pub fn store(carriages: u8, aisles: u8) -> Measured {
     let store = Store { carriages, aisles };
     let name = format!("store {carriages}×{aisles}");
     Measured::new(name, store.problem(), store.plan())

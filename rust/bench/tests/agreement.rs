@@ -1,14 +1,16 @@
 //! What is measured beside the library says what the library says.
 
-use std::collections::BTreeSet;
+use std::collections::{BTreeMap, BTreeSet};
 
 use bench::plain;
 use bench::problems;
 use bench::sat::{self, Cnf, Lit};
+use conformance::answer::words;
 use conformance::gen::{damaged_case, sound_case, Rng};
+use conformance::harness::Case;
 use conformance::oracle;
 use conformance::version::VERSION_1;
-use larkhammock::{Outcome, Part, Verdict};
+use larkhammock::{raw, Outcome, Part, Verdict};
 
 type Judge = fn(&[u8], &[u8], u64) -> plain::Verdict;
 
@@ -86,6 +88,40 @@ fn plain_judges_judge_and_refuse_alike() {
         for part in [plain::Part::Member(number), plain::Part::Fact(number)] {
             assert!(parts.contains(&part), "{part:?} in {parts:?}");
         }
+    }
+}
+
+/// The relevant facts in plain Rust are the library's, and so is the work area.
+#[test]
+fn plain_relevant_facts_are_told_and_refused_alike() {
+    let mut rng = Rng::new(0xbe7d);
+    let mut met = BTreeMap::new();
+    for round in 0..20_000 {
+        let case = match round % 4 {
+            0 => damaged_case(&mut rng, &VERSION_1),
+            _ => sound_case(&mut rng, &VERSION_1),
+        };
+        let Case {
+            problem,
+            plan,
+            state,
+            ..
+        } = &case;
+        let before: Vec<u8> = (0..case.work).map(|_| rng.byte()).collect();
+        let (mut ours, mut plain) = (before.clone(), before);
+        let told = raw::relevant_facts(problem, plan, *state, &mut ours).word;
+        let answer = match plain::relevance::relevant_facts(problem, plan, *state, &mut plain) {
+            Ok(set) => words(&[1, set]),
+            Err(refusal) => words(&[0, refusal.number.into(), refusal.place as u64]),
+        };
+        assert_eq!(answer, told, "round {round}");
+        assert_eq!(plain, ours, "round {round}");
+        let number = if told[0] == 0 { told[1] } else { 0 };
+        *met.entry(number).or_insert(0) += 1;
+    }
+    // Told, and each refusal of its own.
+    for number in [0, 40, 41, 42] {
+        assert!(met[&number] > 1_000, "{met:?}");
     }
 }
 

@@ -1,12 +1,14 @@
-//! The judge as one would write it by hand in Rust, twice: a case at a time, and
-//! 63 cases at a time on bit planes. Both have the same reading and the same
-//! answers, and share nothing with the library.
+//! What is measured, as one would write it by hand in Rust: the judge twice, a
+//! case at a time, and 63 cases at a time on bit planes; and the relevant facts of
+//! a run. All have the same reading and the library's answers, and share nothing
+//! with it.
 
 pub mod planes;
 mod read;
+pub mod relevance;
 pub mod scalar;
 
-use read::Refusal;
+pub use read::Refusal;
 
 #[derive(Clone, Copy, Debug, PartialEq, Eq)]
 pub enum Outcome {

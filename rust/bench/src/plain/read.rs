@@ -3,6 +3,7 @@
 pub const ALL: u8 = 0x80;
 pub const ANY: u8 = 0x81;
 
+#[derive(Clone, Copy, Debug, PartialEq, Eq)]
 pub struct Refusal {
     pub number: u8,
     pub place: usize,
