@@ -130,9 +130,12 @@ pub fn matters_before(problem: &[u8], at: usize, c: &[u64; 256], after: u64) -> 
     ensures { λ r. ⌜ MattersBefore (now (problem .entry)) at (now (c .entry)) after r ⌝ }
 {
     let precondition = named_facts(problem, at);
-    let entries = find_entries(problem, precondition.next, c);
+    let named = precondition.facts;
+    let next = precondition.next;
+    let entries = find_entries(problem, next, c);
     let both = entries.set & entries.cleared;
-    let kept = after & (ONES ^ entries.sure);
-    let more = gather_facts(problem, precondition.next, after | both, kept | both);
-    precondition.facts | kept | more
+    let sure = entries.sure;
+    let kept = after & (ONES ^ sure);
+    let more = gather_facts(problem, next, after | both, kept | both);
+    named | kept | more
 }

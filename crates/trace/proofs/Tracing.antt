@@ -131,19 +131,21 @@ module _ (problem steps actions : List ℕ) (goal facts : ℕ) (work : List ℕ)
     pub shown : Table c case
     pub matter : FactSet set (λ f. getD (relevant (T .facts) (T .goal) (drop i (T .plan)) (stateAt T st i)) f false)
 
-  pub record Tracing (i : ℕ) (c : List ℕ) (set : ℕ) : Type 0 where
+  pub record Tracing (i at : ℕ) (c : List ℕ) (set : ℕ) : Type 0 where
     pub size : length c ≡ 256
     pub few : i ≤ length steps
+    pub place : at ≡ i * facts
     pub is :
         (initial : ℕ) (T : Task) → TaskStands problem steps actions initial goal T → facts ≡ T .facts →
         (st : List Bool) → length st ≡ T .facts → RowsIn work (T .facts) (states (T .facts) (T .plan) st) → Mattering T st i c set
 
-  pub tracing-begins : (r : Named) → NamesFacts problem goal r → (c : List ℕ) → NoneFixed facts c → Tracing (length steps) c (r .facts)
+  pub tracing-begins : (r : Named) → NamesFacts problem goal r → (c : List ℕ) → NoneFixed facts c → Tracing (length steps) (length steps * facts) c (r .facts)
   unfolding relevant
   tracing-begins r N c fixed =
       record {
         size = fixed .size;
         few = omega arith;
+        place = refl;
         is =
             λ initial T S e st z rows.
             let (q, at) = S .reaching in
@@ -160,13 +162,15 @@ module _ (problem steps actions : List ℕ) (goal facts : ℕ) (work : List ℕ)
             };
       }
 
-  -- the row before lies in the work area
-  pub tracing-room : (i : ℕ) (c : List ℕ) (set : ℕ) → Tracing i c set → 0 < i → length steps * facts ≤ length work → (i - 1) * facts + facts ≤ length work
-  tracing-room i c set R l h =
-      let b : suc (i - 1) ≤ length steps = omega (arith, R .few) in
-      omega (arith, mul-le-mul-right facts b, suc-mul (i - 1) facts)
+  -- the row at hand and the one before it lie in the work area
+  pub tracing-room : (i at : ℕ) (c : List ℕ) (set : ℕ) → Tracing i at c set → 0 < i → suc (length steps) * facts ≤ length work → (facts ≤ at) × (at + facts ≤ length work)
+  tracing-room i at c set R l h =
+      let e : i ≡ suc (i - 1) = omega arith in
+      let p = R .place ∙ ap (λ (x : ℕ). x * facts) e ∙ suc-mul (i - 1) facts in
+      let b = mul-le-mul-right facts (R .few) in
+      (omega arith, omega (arith, R .place, suc-mul (length steps) facts))
 
-  module _ (i : ℕ) (c : List ℕ) (set : ℕ) (R : Tracing (suc i) c set) (slot : ℕ) (named : slot ≡ getD steps i 0 % 64)
+  module _ (i at : ℕ) (c : List ℕ) (set : ℕ) (R : Tracing (suc i) at c set) (slot : ℕ) (named : slot ≡ getD steps i 0 % 64)
       (d : List ℕ) (x : SetsFacts c 0 facts (rowValue work (i * facts)) d) (r : ℕ) (M : MattersBefore problem (getD actions slot 0) d set r) where
     before-step :
         (initial : ℕ) (T : Task) → TaskStands problem steps actions initial goal T → facts ≡ T .facts →
@@ -177,14 +181,14 @@ module _ (problem steps actions : List ℕ) (goal facts : ℕ) (work : List ℕ)
         let a = actionAt (T .plan) i in
         let l : i < length steps = omega (arith, R .few) in
         let p : i < length (T .plan) = omega (arith, S .counted) in
-        let (q, at) = acting-at problem steps actions goal i l slot named initial T S in
+        let (q, stands) = acting-at problem steps actions goal i l slot named initial T S in
         let now′ = stateAt T st i in
         let size = state-length n (T .plan) st z i (omega arith) in
         let b : i < length (states n (T .plan) st) = omega (arith, states-length n (T .plan) st) in
         let y = subst (λ (k : ℕ). SetsFacts c 0 k (rowValue work (i * k)) d) e x in
         let t = row-shown n (m .case) c d now′ work (i * n) (m .sized) (m .shown) size y (rows i b) in
         let set′ = relevant n (T .goal) (drop (suc i) (T .plan)) (stateAt T st (suc i)) in
-        let o = M .is n a q (omega (arith, S .most)) at now′ size t set′ (relevant-length n (T .goal) (drop (suc i) (T .plan)) _) (m .matter) in
+        let o = M .is n a q (omega (arith, S .most)) stands now′ size t set′ (relevant-length n (T .goal) (drop (suc i) (T .plan)) _) (m .matter) in
         let is : tabulate n (mattersBefore a n now′ set′) ≡ relevant n (T .goal) (drop i (T .plan)) now′ =
         ap (λ (s : List Bool). tabulate n (mattersBefore a n now′ (relevant n (T .goal) (drop (suc i) (T .plan)) s))) (state-next n (T .plan) st i p) ∙
         sym (ap (λ (s : List Action). relevant n (T .goal) s now′) (drop-action (T .plan) i p))
@@ -195,26 +199,28 @@ module _ (problem steps actions : List ℕ) (goal facts : ℕ) (work : List ℕ)
           shown = t;
           matter =
               subst (λ (s : List Bool). FactSet r (λ f. getD s f false)) is
-              (by-rule n r (mattersBefore a n now′ set′) o (matters-within n a (at .precondition) (at .effects) now′ set′));
+              (by-rule n r (mattersBefore a n now′ set′) o (matters-within n a (stands .precondition) (stands .effects) now′ set′));
         }
 
-    traced : Tracing i d r
+    traced : Tracing i (i * facts) d r
     traced =
         record {
           size = x .size;
           few = omega (arith, R .few);
+          place = refl;
           is = λ initial T S e st z rows. before-step initial T S e st z rows (R .is initial T S e st z rows);
         }
 
   pub tracing-next :
-      (i : ℕ) (c : List ℕ) (set : ℕ) → Tracing i c set → 0 < i → (slot : ℕ) → slot ≡ getD steps (i - 1) 0 % 64 →
-      (d : List ℕ) → SetsFacts c 0 facts (rowValue work ((i - 1) * facts)) d → (r : ℕ) → MattersBefore problem (getD actions slot 0) d set r → Tracing (i - 1) d r
-  tracing-next i c set R l slot named d x r M =
+      (i at : ℕ) (c : List ℕ) (set : ℕ) → Tracing i at c set → 0 < i → (slot : ℕ) → slot ≡ getD steps (i - 1) 0 % 64 →
+      (d : List ℕ) → SetsFacts c 0 facts (rowValue work (at - facts)) d → (r : ℕ) → MattersBefore problem (getD actions slot 0) d set r → Tracing (i - 1) (at - facts) d r
+  tracing-next i at c set R l slot named d x r M =
       let e : i ≡ suc (i - 1) = omega arith in
-      traced (i - 1) c set (subst (λ (k : ℕ). Tracing k c set) e R) slot named d x r M
+      let p : at - facts ≡ (i - 1) * facts = omega (arith, R .place ∙ ap (λ (y : ℕ). y * facts) e ∙ suc-mul (i - 1) facts) in
+      rw p (traced (i - 1) at c set (subst (λ (k : ℕ). Tracing k at c set) e R) slot named d (rw p at x) r M)
 
-  pub tracing-ends : (i : ℕ) (c : List ℕ) (set : ℕ) → Tracing i c set → i ≡ 0 → TracesBack problem steps actions goal facts work set
-  tracing-ends i c set R z =
+  pub tracing-ends : (i at : ℕ) (c : List ℕ) (set : ℕ) → Tracing i at c set → i ≡ 0 → TracesBack problem steps actions goal facts work set
+  tracing-ends i at c set R z =
       record {
         is =
             λ initial T S e st size rows.

@@ -1,6 +1,6 @@
 // A run gone through backward: the facts that matter before each step, by the state in its row and the facts that matter after it.
 ghost use mathlib.Core.Path.{_≡_};
-ghost use Prim.Native.Nat.{_+_, _*_, _≤_};
+ghost use Prim.Native.Nat.{suc, _+_, _*_, _≤_};
 ghost use lib.ListN.{length};
 ghost use lib.Dec.{eqb};
 ghost use Rattle.model.specs.Limits.{maxFacts};
@@ -46,18 +46,21 @@ pub fn trace_back(
     facts: usize,
     work: &[u8],
 ) -> u64
-    requires { ⌜ (facts ≤ maxFacts) × (length (now steps) * facts ≤ length (now work)) ⌝ }
+    requires { ⌜ (facts ≤ maxFacts) × (suc (length (now steps)) * facts ≤ length (now work)) ⌝ }
     ensures { λ r. ⌜ TracesBack (now (problem .entry)) (now (steps .entry)) (now (actions .entry)) goal facts (now (work .entry)) r ⌝ }
 {
     let named = named_facts(problem, goal);
     let mut set = named.facts;
     let mut c = none_fixed(facts);
     let mut i = steps.len();
+    let mut at = i * facts;
     while 0 < i {
         i = i - 1;
+        let row = at - facts;
+        load_row(&mut c, facts, work, row);
         let slot = crate::wide(steps[i] % 64);
-        load_row(&mut c, facts, work, i * facts);
         set = matters_before(problem, actions[slot], &c, set);
+        at = row;
     }
     set
 }

@@ -11,4 +11,4 @@ matters-before-spec =
     (λ c κs. search needs)
     (λ c κs. search needs)
     (λ c κs. search needs)
-    (λ c. matters-by-sets _ _ _ _ _ (c .before .before .before .before .before .named-facts .ensures) _ (c .before .before .before .before .find-entries .ensures) _ (c .before .gather-facts .ensures)))
+    (λ c. matters-by-sets _ _ _ _ _ (c .before .before .before .named-facts .ensures) _ (c .before .before .find-entries .ensures) _ (c .gather-facts .ensures)))

@@ -1,8 +1,6 @@
 -- `trace_task` meets its contract. Assumes nothing.
 use native.Mathlib.Omega.{arith}
 use borrow.Author.Needs.{needs}
-use lib.ListN.{length}
-use native.Mathlib.Nat.{suc-mul}
 use Rattle.relevance.proofs.Answers.{traces-task}
 use Rattle.relevance.proofs.operation.trace_task.Statement.{statement}
 use Rattle.relevance.proofs.operation.trace_task.Tie as tie
@@ -14,7 +12,7 @@ trace-task-spec =
     (λ c κs. search needs)
     (λ c κs. let h = c .before .before .before .before .pre in (h .0, omega arith))
     (λ c κs. let h = c .before .before .before .before .before .before .before .before .before .before .pre in (omega (arith, h .0 .facts), search needs, rw (c .before .before .before .before .before .before .wide .ensures .0) (h .2)))
-    (λ c κs. let h = c .before .before .before .before .before .before .before .before .before .before .before .before .before .before .before .pre in let e = c .before .before .before .before .before .before .before .before .before .before .before .wide .ensures .0 in (omega (arith, h .0 .facts), rw e (omega (arith, h .2, c .before .before .before .before .put-run .ensures .size, suc-mul (length (c .before .before .before .before .before .before .before .before .before .before .before .before .before .before .before .args .steps .now)) (c .before .before .before .before .before .before .before .before .before .before .before .before .before .before .before .args .parts .facts)))))
+    (λ c κs. let h = c .before .before .before .before .before .before .before .before .before .before .before .before .before .before .before .pre in let e = c .before .before .before .before .before .before .before .before .before .before .before .wide .ensures .0 in (omega (arith, h .0 .facts), rw e (omega (arith, h .2, c .before .before .before .before .put-run .ensures .size))))
     (λ c κs. search needs)
     (λ c κs. let S = c .before .before .before .before .before .before .before .before .before .before .before .before .before .before .before .before .before .pre .0 in (omega (arith, S .line, S .bits), omega (arith, S .word)))
     (λ c. c .before .before .before .before .before .before .before .put-run .ensures .size)

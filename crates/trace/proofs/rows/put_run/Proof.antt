@@ -21,7 +21,7 @@ put-run-spec =
     Inv-loop
     μ-loop
     (λ c. (writing-begins _ _ _ _ _ _ (c .before .before .before .before .pre .1), refl, refl))
-    (λ c κs. let w = c .before .before .before .loop in let h = c .before .before .before .before .before .before .before .before .pre in (h .0, w .inv .0 .size, writing-room _ _ _ _ _ _ _ _ _ _ (w .inv .0) (h .2)))
+    (λ c κs. let w = c .before .before .before .loop in let h = c .before .before .before .before .before .before .before .before .pre in (h .0, search needs, writing-room _ _ _ _ _ _ _ _ _ _ (w .inv .0) (h .2)))
     (λ c. search needs)
     (λ c κs. search needs)
     (λ c. search needs)
@@ -31,6 +31,6 @@ put-run-spec =
     (λ c. search needs)
     (λ c. search needs)
     (λ c. let w = c .before .before .before .before .before .before .before .before .before .before .before .before .before .loop in let h = c .before .before .before .before .before .before .before .before .before .before .before .before .before .before .before .before .before .before .pre in let o = c .obey-action .ensures in (writing-next _ _ _ _ _ _ _ _ _ _ (w .inv .0) _ (c .before .before .before .before .before .before .before .before .before .put-row .ensures) (c .before .before .before .before .before .before .before .before .before .before .before .before .loop-test .taken) _ (c .before .before .before .before .before .wide .ensures .0) _ _ (o .0), o .1, o .2))
-    (λ c κs. let w = c .before .before .before .loop in let h = c .before .before .before .before .before .before .before .before .pre in (h .0, w .inv .0 .size, writing-room _ _ _ _ _ _ _ _ _ _ (w .inv .0) (h .2)))
+    (λ c κs. let w = c .before .before .before .loop in let h = c .before .before .before .before .before .before .before .before .pre in (h .0, search needs, writing-room _ _ _ _ _ _ _ _ _ _ (w .inv .0) (h .2)))
     (λ c. let w = c .before .before .before .before .before .before .loop in let h = c .before .before .before .before .before .before .before .before .before .before .before .pre in c .before .before .put-row2 .ensures .size ∙ w .inv .0 .kept)
     (λ c. let w = c .before .before .before .before .before .before .loop in let h = c .before .before .before .before .before .before .before .before .before .before .before .pre in writing-ends _ _ _ _ _ _ _ _ _ _ (w .inv .0) _ (c .before .before .put-row2 .ensures) (c .before .before .before .before .before .loop-test .left)))
