@@ -3,19 +3,18 @@
 use mathlib.Core.Path.{_≡_, refl, sym, ap, _∙_}
 use mathlib.Core.Bool.{Bool, true, false, false≢true}
 use mathlib.Core.List.{List, _∷_}
-use Prim.Native.Nat.{ℕ, _+_, _*_, _-_, _/_, _%_, _≤_, _<_}
+use Prim.Native.Nat.{ℕ, _+_, _*_, _-_, _≤_, _<_}
 use native.Mathlib.Omega.{arith}
 use lib.ListN.{length, getD}
 use lib.Bits.{bitAnd, bitOr}
 use Rattle.model.specs.Limits.{maxDepth}
 use Rattle.model.specs.Kleene.{Kleene, No, Unknown, Yes, both, either, three}
 use Rattle.model.specs.Formula.{Literal, fact, denial, Formula, Formulas, lit, all, any, none, more, eval}
-use Rattle.model.specs.Read.{bytesOf}
-use Rattle.model.specs.FormulaBytes.{Group, conjunction, disjunction, mark, grouped, literalOf, literalByte, memberCount, formulaBytes, memberBytes, encodeFormula}
+use Rattle.model.specs.FormulaBytes.{Group, conjunction, disjunction, mark, grouped, literalOf, literalByte, memberCount, formulaBytes, memberBytes}
 use Rattle.model.specs.WellFormed.{Declared, Formed, FormedAll}
 use Rattle.model.specs.Planes.{laneBit, InLane, Table}
 use Rattle.model.specs.Stands.{Span, FormulaAt, Member, Members}
-use Rattle.model.proofs.Laws.Reading.{empty, first, split, span-length}
+use Rattle.model.proofs.Laws.Reading.{empty, first, split}
 use Rattle.model.proofs.Laws.FormulaCodec.{literal-ok, stated-bytes}
 use Rattle.model.proofs.Laws.Planes.{ones, bit-ones, bit-zero, lane-both, lane-either, all-no, all-yes}
 use Rattle.evaluate.specs.declared.Planes.{Planes}

@@ -1,28 +1,26 @@
 -- One step backward, from the sets that were found: set by set it is what the definition says of each fact. Assumes nothing.
-use mathlib.Core.Path.{_≡_, refl, sym, ap, ap₂, _∙_}
+use mathlib.Core.Path.{_≡_, refl, sym, ap, _∙_}
 use mathlib.Core.Bool.{Bool, true, false, false≢true, cond, not, _&&_, _||_}
 use mathlib.Core.List.{List, [], _∷_, map}
 use Prim.Native.Nat.{ℕ, zero, suc, _≤_, _<_}
 use native.Mathlib.Omega.{arith}
 use native.Mathlib.Decide.{decLt}
-use lib.ListN.{length, getD, List·getD-eq-default, List·getD-map}
+use lib.ListN.{length, getD, List·getD-eq-default}
 use lib.Bits.{bitAnd, bitOr, bitXor}
 use lib.Dec.{eqb}
 use borrow.Author.Tests.{eq-eqb, eqb-true}
 use Rattle.model.specs.Limits.{maxFacts}
-use Rattle.model.specs.Kleene.{Kleene, isYes, known, two, three}
-use Rattle.model.specs.Formula.{fact, denial, Formula, eval}
+use Rattle.model.specs.Kleene.{isYes, known, two, three}
+use Rattle.model.specs.Formula.{fact, Formula, eval}
 use Rattle.model.specs.Action.{Action, sets, conditionOf}
 use Rattle.model.specs.Case.{bit}
-use Rattle.model.specs.Relevance.{names, some, hasEntry, setAndCleared, setNames, clearNames, restsOn, mattersBefore}
+use Rattle.model.specs.Relevance.{names, some, setAndCleared, setNames, clearNames, restsOn, mattersBefore}
 use Rattle.model.specs.FormulaBytes.{encodeFormula}
 use Rattle.model.specs.ProblemBytes.{actionBytes}
-use Rattle.model.specs.Planes.{Table}
-use Rattle.model.specs.Stands.{FormulaAt, ActionAt}
 use Rattle.model.proofs.Laws.Truth.{same-truth, and-true, or-assoc}
 use Rattle.model.proofs.Laws.Reading.{split}
 use Rattle.model.proofs.Laws.Relevance.{some-at}
-use Rattle.model.proofs.Laws.Agreement.{eval-keeps, Exact, exact, yes-exact}
+use Rattle.model.proofs.Laws.Agreement.{yes-exact, read-known}
 use Rattle.model.proofs.Laws.Planes.{ones}
 use Rattle.names.specs.declared.Named.{Named}
 use Rattle.names.specs.Names.{FactSet, NamesFacts}
@@ -94,8 +92,8 @@ one-rule =
 -- ---- the sets
 
 -- what evaluating in three values says of a state's formula
-pub holds-same : (st : List Bool) (φ : Formula) → isYes (eval three (map known st) φ) ≡ eval two st φ
-holds-same st φ = ap isYes (eval-keeps three two Exact exact (map known st) st (λ i. List·getD-map known st i false) φ) ∙ yes-exact (eval two st φ)
+holds-same : (st : List Bool) (φ : Formula) → isYes (eval three (map known st) φ) ≡ eval two st φ
+holds-same st φ = ap isYes (read-known st φ) ∙ yes-exact (eval two st φ)
 
 module _ (n : ℕ) (a : Action) (st m : List Bool) (size : length m ≡ n) where
   abbrev kept : ℕ → Bool

@@ -1,20 +1,16 @@
 -- Entries of an action of which something is so: by their literals, and by the facts that these are of. Assumes nothing.
 use mathlib.Core.Path.{_≡_, refl, sym, ap, _∙_}
 use mathlib.Core.Bool.{Bool, true, false, false≢true, _&&_, _||_}
-use mathlib.Core.Logic.{_⊎_, inl, inr}
+use mathlib.Core.Logic.{inl, inr}
 use mathlib.Core.List.{List, [], _∷_}
-use Prim.Native.Nat.{ℕ, zero, suc, _+_, _≤_, _<_}
-use native.Mathlib.Nat.{le-of-suc-le-suc}
+use Prim.Native.Nat.{ℕ, zero, suc, _≤_, _<_}
 use native.Mathlib.Omega.{arith}
-use native.Mathlib.Decide.{decLt}
 use lib.ListN.{length}
-use lib.Dec.{eqb}
 use borrow.Author.Tests.{eq-eqb, eqb-true}
 use Rattle.model.specs.Limits.{maxFacts}
 use Rattle.model.specs.Formula.{Literal, fact, denial, Formula, any, none}
-use Rattle.model.specs.Action.{Effect, sameLiteral, conditionIn, conditionOf}
+use Rattle.model.specs.Action.{Effect, sameLiteral, conditionOf}
 use Rattle.model.specs.Relevance.{some, hasEntry}
-use Rattle.model.specs.FormulaBytes.{literalByte}
 use Rattle.model.specs.WellFormed.{Declared, EffectsOk}
 use Rattle.model.proofs.Laws.Truth.{same-truth, and-true, or-first, or-second, or-cases}
 use Rattle.model.proofs.Laws.Relevance.{some-at, without-entry}
@@ -68,6 +64,15 @@ pub entry-has : (l : Literal) (es : List Effect) → someEntry (λ e. sameLitera
 unfolding someEntry hasEntry
 entry-has l [] = refl
 entry-has l (e ∷ es) = ap (λ b. sameLiteral l (e .literal) || b) (entry-has l es)
+
+pub no-entry : (l : Literal) (es : List Effect) → ((i : ℕ) → i < length es → entryAt es i .literal ≡ l → ⊥) → hasEntry l es ≡ false
+no-entry l es h = by-entry (hasEntry l es) refl
+  where
+    by-entry : (b : Bool) → hasEntry l es ≡ b → b ≡ false
+    by-entry true e =
+        let (i, k, s) = entry-of (λ e. sameLiteral l (e .literal)) es (entry-has l es ∙ e) in
+        absurd (h i k (sym (same-is l (entryAt es i .literal) s)))
+    by-entry false e = refl
 
 -- ---- of sound entries
 

@@ -1,7 +1,7 @@
 -- The loops over an action's entries: what is so of one of them, fact by fact, as a set that grows. Assumes nothing.
-use mathlib.Core.Path.{_≡_, refl, sym, ap, ap₂, subst, _∙_}
-use mathlib.Core.Bool.{Bool, true, false, cond, _&&_, _||_}
-use mathlib.Core.List.{List, [], _∷_}
+use mathlib.Core.Path.{_≡_, refl, sym, ap₂, subst, _∙_}
+use mathlib.Core.Bool.{Bool, true, false, _&&_, _||_}
+use mathlib.Core.List.{List, _∷_}
 use Prim.Native.Nat.{ℕ, zero, suc, _+_, _%_, _≤_, _<_}
 use native.Mathlib.Omega.{arith}
 use native.Mathlib.Decide.{ℕ-discrete}
@@ -10,11 +10,11 @@ use lib.Bits.{bitOr}
 use lib.Dec.{eqb}
 use borrow.Author.Tests.{lt-ltb, le-ltb, ne-eqb}
 use Rattle.model.specs.Limits.{maxFacts}
-use Rattle.model.specs.Kleene.{Kleene, No, Unknown, Yes, isYes, three}
-use Rattle.model.specs.Formula.{Literal, fact, denial, Formula, any, none, eval}
-use Rattle.model.specs.Action.{Effect, sameLiteral, conditionOf}
+use Rattle.model.specs.Kleene.{Kleene, isYes, three}
+use Rattle.model.specs.Formula.{Literal, fact, denial, eval}
+use Rattle.model.specs.Action.{Effect, sameLiteral}
 use Rattle.model.specs.Case.{bit}
-use Rattle.model.specs.Relevance.{names, some, hasEntry}
+use Rattle.model.specs.Relevance.{names, some}
 use Rattle.model.specs.FormulaBytes.{literalByte}
 use Rattle.model.specs.ProblemBytes.{effectsBytes}
 use Rattle.model.specs.WellFormed.{Declared, EffectsOk}
@@ -26,7 +26,7 @@ use Rattle.model.proofs.Laws.Planes.{low-bit, not-yes, is-yes}
 use Rattle.evaluate.specs.declared.Planes.{Planes}
 use Rattle.evaluate.specs.Planes.{FormulaPlanes}
 use Rattle.effects.specs.Effects.{entryAt}
-use Rattle.effects.proofs.Entries.{byteAt, declared-at, drop-entry, Left, entry-stands}
+use Rattle.effects.proofs.Entries.{byteAt, drop-entry, Left, entry-stands}
 use Rattle.names.specs.declared.Named.{Named}
 use Rattle.names.specs.Names.{FactSet, AfterFormula, NamesFacts}
 use Rattle.names.proofs.Sets.{set-none, set-same, set-or}

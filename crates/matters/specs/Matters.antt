@@ -1,6 +1,6 @@
 -- The facts that matter before an action, in the state of lane 0.
 use mathlib.Core.Path.{_≡_}
-use mathlib.Core.Bool.{Bool, true, false, cond, _&&_, _||_}
+use mathlib.Core.Bool.{Bool, false, cond, _&&_, _||_}
 use mathlib.Core.List.{List, _∷_, map}
 use Prim.Native.Nat.{ℕ, _+_, _%_, _≤_, _<_}
 use lib.ListN.{length, getD}

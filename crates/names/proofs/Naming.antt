@@ -1,10 +1,10 @@
 -- The facts that a formula names, from its bytes: a group's members stand after its mark and count, so all literals are met in one pass.
 -- Assumes nothing.
-use mathlib.Core.Path.{_≡_, refl, sym, ap, subst, _∙_}
+use mathlib.Core.Path.{_≡_, refl, sym, _∙_}
 use mathlib.Core.Bool.{Bool, true, false, false≢true, _||_}
 use mathlib.Core.Logic.{inl, inr}
-use mathlib.Core.List.{List, [], _∷_, _++_, append-assoc, append-nil}
-use Prim.Native.Nat.{ℕ, suc, _+_, _*_, _-_, _%_, _≤_, _<_}
+use mathlib.Core.List.{List, _∷_, _++_, append-assoc, append-nil}
+use Prim.Native.Nat.{ℕ, _+_, _*_, _-_, _%_, _≤_, _<_}
 use native.Mathlib.Omega.{arith}
 use lib.ListN.{length, getD}
 use lib.Dec.{eqb}
@@ -12,11 +12,11 @@ use borrow.Author.Tests.{eqb-true}
 use lib.Bits.{bitOr}
 use Rattle.model.specs.Limits.{maxFacts, maxDepth}
 use Rattle.model.specs.Formula.{Literal, fact, denial, Formula, Formulas, lit, all, any, none, more}
-use Rattle.model.specs.Relevance.{factOf, names, memberNames}
+use Rattle.model.specs.Relevance.{names, memberNames}
 use Rattle.model.specs.Read.{bytesOf}
 use Rattle.model.specs.FormulaBytes.{literalByte, memberCount, formulaBytes, memberBytes, encodeFormula}
 use Rattle.model.specs.WellFormed.{Declared, Formed, FormedAll}
-use Rattle.model.specs.Stands.{Span, FormulaAt}
+use Rattle.model.specs.Stands.{Span}
 use Rattle.model.proofs.Laws.Truth.{or-cases, or-assoc, or-none}
 use Rattle.model.proofs.Laws.Reading.{empty, first, span-length, span-end}
 use Rattle.model.proofs.Laws.FormulaCodec.{stated-bytes}

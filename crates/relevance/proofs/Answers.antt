@@ -18,17 +18,17 @@ use Rattle.model.specs.declared.Outcome.the-variants.{Reached, Missed, Blocked}
 use Rattle.model.specs.declared.Stop.{Stop}
 use Rattle.model.specs.declared.RunAnswer.{RunAnswer}
 use Rattle.model.specs.declared.RunAnswer.the-variants.{Refused as RunRefused, Ended}
-use Rattle.model.specs.Limits.{version1, maxFacts, maxSteps}
+use Rattle.model.specs.Limits.{version1}
 use Rattle.model.specs.Kleene.{Kleene, No, known, two}
 use Rattle.model.specs.Answer as Answer
 use Rattle.model.specs.Answer.{Answer, refused, answered}
-use Rattle.model.specs.Answers.{refusal, outcome, runAnswer}
+use Rattle.model.specs.Answers.{refusal, runAnswer}
 use Rattle.model.specs.Run as Run
 use Rattle.model.specs.Run.{run}
 use Rattle.model.specs.Case.{bit, caseOf, stateOf, Task, runOf}
 use Rattle.model.specs.Relevance.{relevant, states, rows, numberOf, relevantTo, workBytes, runRows}
 use Rattle.model.specs.Read.{headBytes}
-use Rattle.model.specs.Operations.{isState, stateAnswer, whenReached, tracedBack, readTask, reachedTask, relevantFacts}
+use Rattle.model.specs.Operations.{isState, stateAnswer, whenReached, reachedTask, relevantFacts}
 use Rattle.model.specs.WellFormed.{Sensible}
 use Rattle.model.specs.Planes.{Table}
 use Rattle.model.proofs.Laws.Splitting.{length-case, case-known}

@@ -1,32 +1,26 @@
 -- A state in every lane: what an action makes of it, and the states of a run. Assumes nothing.
-use mathlib.Core.Path.{_≡_, refl, sym, ap, ap₂, _∙_}
+use mathlib.Core.Path.{_≡_, refl, sym, ap, _∙_}
 use mathlib.Core.Bool.{Bool, true, false, not, _&&_}
 use mathlib.Core.List.{List, [], _∷_, map}
 use Prim.Native.Nat.{ℕ, zero, suc, _≤_, _<_}
 use native.Mathlib.Omega.{arith}
-use lib.ListN.{length, getD, drop, length-map, List·getD-map}
+use lib.ListN.{length, getD, length-map, List·getD-map}
 use lib.Seq.{ext-getD}
-use Rattle.model.specs.Kleene.{Kleene, No, both, denied, isYes, known, two, three}
-use Rattle.model.specs.Formula.{Formula, eval}
-use Rattle.model.specs.Action.{Action, every, sets, clears, exclusive, applicable, step}
+use Rattle.model.specs.Kleene.{No, both, denied, isYes, known, two, three}
+use Rattle.model.specs.Formula.{fact, denial, eval}
+use Rattle.model.specs.Action.{Action, conditionOf, every, sets, clears, exclusive, applicable, step}
 use Rattle.model.specs.Relevance.{states}
 use Rattle.model.specs.ProblemBytes.{actionAt}
-use Rattle.model.proofs.Laws.Agreement.{eval-keeps, step-keeps, Exact, exact, yes-exact}
+use Rattle.model.proofs.Laws.Agreement.{step-keeps, Exact, exact, yes-exact, known-along, read-known}
 use Rattle.model.proofs.Laws.Relevance.{step-length}
 use Rattle.model.proofs.Laws.Tabulate.{length-tabulate}
 
 -- ---- the state st as a case that fixes every fact
 
 module _ (st : List Bool) where
-  along : (i : ℕ) → getD (map known st) i No ≡ known (getD st i false)
-  along i = List·getD-map known st i false
-
-  read-exactly : (φ : Formula) → eval three (map known st) φ ≡ known (eval two st φ)
-  read-exactly = eval-keeps three two Exact exact (map known st) st along
-
   exclusive-same : (a : Action) (f : ℕ) → exclusive three a (map known st) f ≡ exclusive two a st f
   unfolding exclusive
-  exclusive-same a f = rw (read-exactly _, read-exactly _) (by-values (sets two a st f) (clears two a st f))
+  exclusive-same a f = rw (read-known st (conditionOf (fact f) (a .effects)), read-known st (conditionOf (denial f) (a .effects))) (by-values (sets two a st f) (clears two a st f))
     where
       by-values : (x y : Bool) → isYes (denied (both (known x) (known y))) ≡ not (x && y)
       by-values true true = refl
@@ -36,14 +30,14 @@ module _ (st : List Bool) where
   pub applicable-same : (n : ℕ) (a : Action) → applicable three n a (map known st) ≡ applicable two n a st
   unfolding applicable
   applicable-same n a =
-      λ i. (ap isYes (read-exactly (a .precondition)) ∙ yes-exact (eval two st (a .precondition))) i && every n (λ f. exclusive-same a f i)
+      λ i. (ap isYes (read-known st (a .precondition)) ∙ yes-exact (eval two st (a .precondition))) i && every n (λ f. exclusive-same a f i)
 
   pub step-same : (n : ℕ) (a : Action) → step three n a (map known st) ≡ map known (step two n a st)
   unfolding step
   step-same n a =
       ext-getD No (step three n a (map known st)) (map known (step two n a st))
       (length-tabulate n _ ∙ sym (length-map (step two n a st) known ∙ length-tabulate n _))
-      (λ i l. step-keeps three two Exact exact n a (map known st) st along i ∙ sym (List·getD-map known (step two n a st) i false))
+      (λ i l. step-keeps three two Exact exact n a (map known st) st (known-along st) i ∙ sym (List·getD-map known (step two n a st) i false))
 
 -- ---- the states of a run
 

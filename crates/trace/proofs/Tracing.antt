@@ -3,7 +3,7 @@ use mathlib.Core.Path.{_≡_, refl, sym, ap, subst, _∙_}
 use mathlib.Core.Bool.{Bool, true, false, cond, _&&_, _||_}
 use mathlib.Core.Logic.{inl, inr}
 use mathlib.Core.List.{List, [], _∷_, map}
-use Prim.Native.Nat.{ℕ, zero, suc, _+_, _-_, _*_, _/_, _%_, _^_, _≤_, _<_}
+use Prim.Native.Nat.{ℕ, suc, _+_, _-_, _*_, _/_, _%_, _^_, _≤_, _<_}
 use native.Mathlib.Nat.{mul-le-mul-right, suc-mul}
 use native.Mathlib.Omega.{arith}
 use native.Mathlib.Decide.{decLt}
@@ -14,27 +14,30 @@ use borrow.Author.Tests.{eqb-true, ne-eqb}
 use Rattle.model.specs.Limits.{maxFacts, maxDepth}
 use Rattle.model.specs.Kleene.{Kleene, No, Unknown, known, two}
 use Rattle.model.specs.Formula.{Literal, fact, denial, Formula, any, none}
-use Rattle.model.specs.Action.{Effect, Action, sameLiteral, conditionIn, conditionOf, tabulate, sets, step}
+use Rattle.model.specs.Action.{Effect, Action, sameLiteral, conditionIn, conditionOf, tabulate, sets}
 use Rattle.model.specs.Case.{bit, Task}
-use Rattle.model.specs.Relevance.{names, some, setAndCleared, setNames, clearNames, restsOn, exclusionNames, mattersBefore, relevant, states, numberOf, valueByte}
-use Rattle.model.specs.ProblemBytes.{actionAt}
+use Rattle.model.specs.Relevance.{names, setAndCleared, setNames, clearNames, restsOn, exclusionNames, mattersBefore, relevant, states, numberOf}
+use Rattle.model.specs.FormulaBytes.{encodeFormula}
+use Rattle.model.specs.ProblemBytes.{actionAt, actionBytes}
 use Rattle.model.specs.WellFormed.{FormulaOk, EffectsOk}
 use Rattle.model.specs.Planes.{InLanes, Table}
-use Rattle.model.specs.Stands.{ActionAt, TaskStands}
+use Rattle.model.specs.Stands.{TaskStands}
+use Rattle.model.proofs.Laws.Reading.{split}
 use Rattle.model.proofs.Laws.Planes.{ones, all-no, all-yes}
 use Rattle.model.proofs.Laws.Relevance.{relevant-length}
 use Rattle.model.proofs.Laws.StateNumbers.{number-of}
-use Rattle.model.proofs.Laws.Tabulate.{length-tabulate, getD-tabulate, getD-tabulate-past}
+use Rattle.model.proofs.Laws.Tabulate.{getD-tabulate, getD-tabulate-past}
 use Rattle.model.proofs.Laws.Truth.{or-cases, and-true}
-use Rattle.table.specs.Tables.{Outside, SetsFacts, NoneFixed, Sized}
+use Rattle.table.specs.Tables.{SetsFacts, NoneFixed, Sized}
 use Rattle.look.proofs.Lanes.{acting-at, drop-action}
 use Rattle.names.specs.declared.Named.{Named}
-use Rattle.names.specs.Names.{FactSet, AllDeclared, NamesFacts}
+use Rattle.names.specs.Names.{FactSet, AllDeclared, AfterFormula, NamesFacts}
 use Rattle.names.proofs.Sets.{set-same}
 use Rattle.names.proofs.Naming.{formed-declared, named-declared}
 use Rattle.matters.specs.Matters.{MattersBefore}
 use Rattle.matters.proofs.Entries.{some-of}
-use Rattle.trace.specs.Rows.{rowValue, RowsIn, TracesBack}
+use Rattle.trace.specs.Rows.{rowValue, RowAt, AgreeElsewhere, UndoesEntries, RowsIn, TracesBack}
+use Rattle.trace.proofs.Undoing.{value-known, step-elsewhere}
 use Rattle.trace.proofs.States.{states-length, state-length, state-next, state-first}
 
 -- ---- no fact past the declared ones matters
@@ -101,13 +104,9 @@ lanes-yes b e = rw e (record { lane = λ j l. all-yes l })
 pub lanes-no : (b : ℕ) → (b ≡ 1 → ⊥) → InLanes 0 0 (λ j. known (eqb b 1))
 lanes-no b n = rw (ne-eqb b 1 n) (record { lane = λ j l. all-no })
 
-value-known : (b : Bool) → eqb (valueByte b) 1 ≡ b
-value-known true = refl
-value-known false = refl
-
 row-shown :
     (n : ℕ) (case : ℕ → List Kleene) (c d : List ℕ) (st : List Bool) (work : List ℕ) (at : ℕ) → Sized n case → Table c case → length st ≡ n →
-    SetsFacts c 0 n (rowValue work at) d → ((f : ℕ) → f < n → getD work (at + f) 0 ≡ valueByte (getD st f false)) → Table d (λ j. map known st)
+    SetsFacts c 0 n (rowValue work at) d → RowAt work at n st → Table d (λ j. map known st)
 row-shown n case c d st work at sized t z x row =
     x .is case (λ j. map known st) t
     (λ j g l m out.
@@ -124,11 +123,9 @@ module _ (problem steps actions : List ℕ) (goal facts : ℕ) (work : List ℕ)
   abbrev stateAt : Task → List Bool → ℕ → List Bool
   stateAt T st i = getD (states (T .facts) (T .plan) st) i []
 
-  -- the facts that matter before the steps from number i on
+  -- the table shows the state before the steps from number i on, and the set has the facts that matter then
   pub record Mattering (T : Task) (st : List Bool) (i : ℕ) (c : List ℕ) (set : ℕ) : Type 0 where
-    pub case : ℕ → List Kleene
-    pub sized : Sized (T .facts) case
-    pub shown : Table c case
+    pub shown : Table c (λ j. map known (stateAt T st i))
     pub matter : FactSet set (λ f. getD (relevant (T .facts) (T .goal) (drop i (T .plan)) (stateAt T st i)) f false)
 
   pub record Tracing (i at : ℕ) (c : List ℕ) (set : ℕ) : Type 0 where
@@ -139,25 +136,30 @@ module _ (problem steps actions : List ℕ) (goal facts : ℕ) (work : List ℕ)
         (initial : ℕ) (T : Task) → TaskStands problem steps actions initial goal T → facts ≡ T .facts →
         (st : List Bool) → length st ≡ T .facts → RowsIn work (T .facts) (states (T .facts) (T .plan) st) → Mattering T st i c set
 
-  pub tracing-begins : (r : Named) → NamesFacts problem goal r → (c : List ℕ) → NoneFixed facts c → Tracing (length steps) (length steps * facts) c (r .facts)
+  pub tracing-begins :
+      (r : Named) → NamesFacts problem goal r → (c d : List ℕ) → NoneFixed facts c → SetsFacts c 0 facts (rowValue work (length steps * facts)) d →
+      Tracing (length steps) (length steps * facts) d (r .facts)
   unfolding relevant
-  tracing-begins r N c fixed =
+  tracing-begins r N c d fixed x =
       record {
-        size = fixed .size;
+        size = x .size;
         few = omega arith;
         place = refl;
         is =
             λ initial T S e st z rows.
             let (q, at) = S .reaching in
             let h : length (T .plan) ≤ length steps = omega (arith, S .counted) in
-            let (_, x) = N .is (T .facts) (T .goal) q (omega (arith, S .most)) at in
+            let (_, named) = N .is (T .facts) (T .goal) q (omega (arith, S .most)) at in
+            let b : length steps < length (states (T .facts) (T .plan) st) = omega (arith, states-length (T .facts) (T .plan) st, S .counted) in
+            let y = subst (λ (k : ℕ). SetsFacts c 0 k (rowValue work (length steps * k)) d) e x in
             record {
-              case = λ j. replicate facts Unknown;
-              sized = λ j l. length-replicate {A = Kleene} facts Unknown ∙ e;
-              shown = fixed .is;
+              shown =
+                  row-shown (T .facts) (λ j. replicate facts Unknown) c d (stateAt T st (length steps)) work (length steps * T .facts)
+                  (λ j l. length-replicate {A = Kleene} facts Unknown ∙ e) (fixed .is) (state-length (T .facts) (T .plan) st z (length steps) (omega (arith, S .counted))) y
+                  (rows (length steps) b);
               matter =
                   rw (drop-of-length-le (T .plan) h)
-                  (by-rule (T .facts) (r .facts) (names (T .goal)) x
+                  (by-rule (T .facts) (r .facts) (names (T .goal)) named
                   (λ f k. named-declared (T .goal) (T .facts) (formed-declared (T .goal) (T .facts) maxDepth 0 (at .ok .formed)) f k));
             };
       }
@@ -171,31 +173,35 @@ module _ (problem steps actions : List ℕ) (goal facts : ℕ) (work : List ℕ)
       (omega arith, omega (arith, R .place, suc-mul (length steps) facts))
 
   module _ (i at : ℕ) (c : List ℕ) (set : ℕ) (R : Tracing (suc i) at c set) (slot : ℕ) (named : slot ≡ getD steps i 0 % 64)
-      (d : List ℕ) (x : SetsFacts c 0 facts (rowValue work (i * facts)) d) (r : ℕ) (M : MattersBefore problem (getD actions slot 0) d set r) where
+      (p : ℕ) (A : AfterFormula problem (getD actions slot 0) p) (d : List ℕ) (x : UndoesEntries problem p c facts work (i * facts) d)
+      (r : ℕ) (M : MattersBefore problem (getD actions slot 0) d set r) where
     before-step :
         (initial : ℕ) (T : Task) → TaskStands problem steps actions initial goal T → facts ≡ T .facts →
         (st : List Bool) → length st ≡ T .facts → RowsIn work (T .facts) (states (T .facts) (T .plan) st) → Mattering T st (suc i) c set → Mattering T st i d r
-    unfolding relevant
+    unfolding relevant actionBytes
     before-step initial T S e st z rows m =
         let n = T .facts in
         let a = actionAt (T .plan) i in
         let l : i < length steps = omega (arith, R .few) in
-        let p : i < length (T .plan) = omega (arith, S .counted) in
+        let h : i < length (T .plan) = omega (arith, S .counted) in
         let (q, stands) = acting-at problem steps actions goal i l slot named initial T S in
         let now′ = stateAt T st i in
         let size = state-length n (T .plan) st z i (omega arith) in
         let b : i < length (states n (T .plan) st) = omega (arith, states-length n (T .plan) st) in
-        let y = subst (λ (k : ℕ). SetsFacts c 0 k (rowValue work (i * k)) d) e x in
-        let t = row-shown n (m .case) c d now′ work (i * n) (m .sized) (m .shown) size y (rows i b) in
+        let y = subst (λ (k : ℕ). UndoesEntries problem p c k work (i * k) d) e x in
+        let t : Table d (λ j. map known now′) =
+        split (encodeFormula (a .precondition)) (stands .bytes) λ o v w.
+        y .is (a .effects) q (stands .effects) (rw (sym (A .is n (a .precondition) o (record { ok = stands .precondition; bytes = v }))) at w) now′ (stateAt T st (suc i)) size
+        (state-length n (T .plan) st z (suc i) h) (rows i b)
+        (subst (AgreeElsewhere (a .effects) n now′) (sym (state-next n (T .plan) st i h)) (step-elsewhere n a now′)) (m .shown)
+        in
         let set′ = relevant n (T .goal) (drop (suc i) (T .plan)) (stateAt T st (suc i)) in
         let o = M .is n a q (omega (arith, S .most)) stands now′ size t set′ (relevant-length n (T .goal) (drop (suc i) (T .plan)) _) (m .matter) in
         let is : tabulate n (mattersBefore a n now′ set′) ≡ relevant n (T .goal) (drop i (T .plan)) now′ =
-        ap (λ (s : List Bool). tabulate n (mattersBefore a n now′ (relevant n (T .goal) (drop (suc i) (T .plan)) s))) (state-next n (T .plan) st i p) ∙
-        sym (ap (λ (s : List Action). relevant n (T .goal) s now′) (drop-action (T .plan) i p))
+        ap (λ (s : List Bool). tabulate n (mattersBefore a n now′ (relevant n (T .goal) (drop (suc i) (T .plan)) s))) (state-next n (T .plan) st i h) ∙
+        sym (ap (λ (s : List Action). relevant n (T .goal) s now′) (drop-action (T .plan) i h))
         in
         record {
-          case = λ j. map known now′;
-          sized = λ j _. length-map now′ known ∙ size;
           shown = t;
           matter =
               subst (λ (s : List Bool). FactSet r (λ f. getD s f false)) is
@@ -213,11 +219,12 @@ module _ (problem steps actions : List ℕ) (goal facts : ℕ) (work : List ℕ)
 
   pub tracing-next :
       (i at : ℕ) (c : List ℕ) (set : ℕ) → Tracing i at c set → 0 < i → (slot : ℕ) → slot ≡ getD steps (i - 1) 0 % 64 →
-      (d : List ℕ) → SetsFacts c 0 facts (rowValue work (at - facts)) d → (r : ℕ) → MattersBefore problem (getD actions slot 0) d set r → Tracing (i - 1) (at - facts) d r
-  tracing-next i at c set R l slot named d x r M =
+      (p : ℕ) → AfterFormula problem (getD actions slot 0) p → (d : List ℕ) → UndoesEntries problem p c facts work (at - facts) d →
+      (r : ℕ) → MattersBefore problem (getD actions slot 0) d set r → Tracing (i - 1) (at - facts) d r
+  tracing-next i at c set R l slot named p A d x r M =
       let e : i ≡ suc (i - 1) = omega arith in
-      let p : at - facts ≡ (i - 1) * facts = omega (arith, R .place ∙ ap (λ (y : ℕ). y * facts) e ∙ suc-mul (i - 1) facts) in
-      rw p (traced (i - 1) at c set (subst (λ (k : ℕ). Tracing k at c set) e R) slot named d (rw p at x) r M)
+      let k : at - facts ≡ (i - 1) * facts = omega (arith, R .place ∙ ap (λ (y : ℕ). y * facts) e ∙ suc-mul (i - 1) facts) in
+      rw k (traced (i - 1) at c set (subst (λ (y : ℕ). Tracing y at c set) e R) slot named p A d (rw k at x) r M)
 
   pub tracing-ends : (i at : ℕ) (c : List ℕ) (set : ℕ) → Tracing i at c set → i ≡ 0 → TracesBack problem steps actions goal facts work set
   tracing-ends i at c set R z =

@@ -3,14 +3,14 @@ use mathlib.Core.Path.{_≡_, refl, sym, ap, ap₂, subst, _∙_}
 use mathlib.Core.Bool.{Bool, true, false}
 use mathlib.Core.List.{List, [], _∷_, _++_, map, append-nil, append-assoc}
 use Prim.Native.Nat.{ℕ, zero, suc, _+_, _*_, _%_, _≤_, _<_, min}
-use native.Mathlib.Nat.{suc-mul, mul-le-mul-right, mod-eq-of-lt}
+use native.Mathlib.Nat.{suc-mul, mul-le-mul-right}
 use native.Mathlib.Numerals.{add-one}
 use native.Mathlib.Omega.{arith}
 use lib.ListN.{length, getD, set, drop, length-map, length-append, List·getD-map, List·getD-append, drop-of-length-le}
 use lib.Seq.{sets, sets-eq, length-sets, ext-getD, getD-append-add}
 use Rattle.model.specs.Limits.{maxFacts}
-use Rattle.model.specs.Kleene.{Kleene, No, known, two, three}
-use Rattle.model.specs.Action.{Action, tabulate, applicable, step}
+use Rattle.model.specs.Kleene.{Kleene, known, two}
+use Rattle.model.specs.Action.{Action, tabulate, step}
 use Rattle.model.specs.Run.{reached, run}
 use Rattle.model.specs.Case.{Task}
 use Rattle.model.specs.Relevance.{states, valueByte, rows}
@@ -23,7 +23,6 @@ use Rattle.model.proofs.Laws.Relevance.{step-length}
 use Rattle.model.proofs.Laws.Tracing.{rows-length}
 use Rattle.model.proofs.Laws.Stores.{sets-append}
 use Rattle.model.proofs.Laws.Tabulate.{length-tabulate, getD-tabulate, tabulate-last}
-use Rattle.table.specs.Tables.{Sized}
 use Rattle.step.specs.declared.conflict.Going.{Going}
 use Rattle.step.specs.Conflicts.{flag}
 use Rattle.step.specs.Actions.{ObeysAction}

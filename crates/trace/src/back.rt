@@ -7,8 +7,9 @@ ghost use Rattle.model.specs.Limits.{maxFacts};
 ghost use Rattle.model.specs.Kleene.{known};
 ghost use Rattle.model.specs.Planes.{InLanes};
 ghost use Rattle.table.specs.Tables.{SetsFacts};
-ghost use Rattle.trace.specs.Rows.{rowValue, TracesBack};
+ghost use Rattle.trace.specs.Rows.{rowValue, UndoesEntries, TracesBack};
 use matters::matters_before;
+use names::after_formula;
 use names::named_facts;
 use table::ONES;
 use table::none_fixed;
@@ -37,6 +38,40 @@ fn load_row(c: &mut [u64; 256], facts: usize, work: &[u8], at: usize)
     }
 }
 
+// From the state after an action to the one before it, which is in the row at `row`, in every lane: only the facts that one of its entries
+// sets or clears may differ. The entries stand at `at`, their count first.
+fn undo_entries(
+    problem: &[u8],
+    at: usize,
+    c: &mut [u64; 256],
+    facts: usize,
+    work: &[u8],
+    row: usize,
+)
+    requires { ⌜ (length (now c) ≡ 256) × (facts ≤ maxFacts) × (row + facts ≤ length (now work)) ⌝ }
+    ensures { λ _. ⌜ UndoesEntries (now (problem .entry)) at (now (c .entry)) facts (now (work .entry)) row (now (c .exit)) ⌝ }
+{
+    if problem.len() <= at {
+        return;
+    }
+    let n = crate::wide(problem[at]);
+    let mut p = at + 1;
+    let mut e: usize = 0;
+    while e < n {
+        if problem.len() <= p {
+            return;
+        }
+        let f = crate::wide(problem[p] % 64);
+        if facts <= f {
+            return;
+        }
+        let value = lanes_of(work[row + f]);
+        set_fact(c, f, value, value);
+        p = after_formula(problem, p + 1);
+        e = e + 1;
+    }
+}
+
 // The facts that matter before the run whose states the work area holds.
 pub fn trace_back(
     problem: &[u8],
@@ -51,14 +86,16 @@ pub fn trace_back(
 {
     let named = named_facts(problem, goal);
     let mut set = named.facts;
-    let mut c = none_fixed(facts);
     let mut i = steps.len();
     let mut at = i * facts;
+    let mut c = none_fixed(facts);
+    load_row(&mut c, facts, work, at);
     while 0 < i {
         i = i - 1;
         let row = at - facts;
-        load_row(&mut c, facts, work, row);
         let slot = crate::wide(steps[i] % 64);
+        let entries = after_formula(problem, actions[slot]);
+        undo_entries(problem, entries, &mut c, facts, work, row);
         set = matters_before(problem, actions[slot], &c, set);
         at = row;
     }

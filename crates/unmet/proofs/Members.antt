@@ -1,12 +1,12 @@
 -- The first false member: one member after another, in lane 0; and a formula by its first bytes. Assumes nothing.
 use mathlib.Core.Path.{_≡_, refl, sym, ap, _∙_}
-use mathlib.Core.Bool.{true, false, cond}
+use mathlib.Core.Bool.{true, cond}
 use mathlib.Core.List.{List, append-nil}
 use Prim.Native.Nat.{ℕ, suc, _+_, _%_, _≤_, _<_}
 use native.Mathlib.Omega.{arith}
 use lib.ListN.{length, getD}
 use Rattle.model.specs.Limits.{maxFacts}
-use Rattle.model.specs.Kleene.{Kleene, No, Unknown, Yes, isYes, three}
+use Rattle.model.specs.Kleene.{Kleene, isYes, three}
 use Rattle.model.specs.Formula.{Formula, Formulas, none, more, eval}
 use Rattle.model.specs.Run.{firstFalse, unmet, holdsIn}
 use Rattle.model.specs.FormulaBytes.{Group, conjunction, disjunction, memberCount, formulaBytes, memberBytes}

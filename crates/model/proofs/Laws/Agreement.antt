@@ -2,9 +2,9 @@
 -- more (`refining`), and a case with every fact fixed (`exact`). Assumes nothing.
 use mathlib.Core.Path.{_≡_, refl, sym, ap, _∙_}
 use mathlib.Core.Bool.{Bool, true, false, cond, _&&_}
-use mathlib.Core.List.{List, [], _∷_}
+use mathlib.Core.List.{List, [], _∷_, map}
 use Prim.Native.Nat.{ℕ, zero, suc, _<_, suc-le-suc}
-use lib.ListN.{getD}
+use lib.ListN.{getD, List·getD-map}
 use native.Mathlib.Omega.{arith}
 use Rattle.model.specs.Kleene.{Kleene, No, Unknown, Yes, both, either, denied, isYes, known, Logic, two, three}
 use Rattle.model.specs.Formula.{fact, denial, Formula, Formulas, lit, all, any, none, more, eval, evalAll, evalAny}
@@ -177,6 +177,13 @@ exact =
       either = λ {x} {x′} {y} {y′} p q. rw (p, q) (elim y [ true ↦ refl | false ↦ refl ]);
       denied = λ {x} {y} p. rw p (elim y [ true ↦ refl | false ↦ refl ]);
     }
+
+-- a state as a case that fixes every fact
+pub known-along : (st : List Bool) → Along three two Exact exact (map known st) st
+known-along st i = List·getD-map known st i false
+
+pub read-known : (st : List Bool) (φ : Formula) → eval three (map known st) φ ≡ known (eval two st φ)
+read-known st = eval-keeps three two Exact exact (map known st) st (known-along st)
 
 pub known-inj : {b b′ : Bool} → known b ≡ known b′ → b ≡ b′
 known-inj {b} {b′} e = sym (yes-exact b) ∙ ap isYes e ∙ yes-exact b′

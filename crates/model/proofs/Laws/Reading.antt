@@ -1,6 +1,6 @@
 -- The laws of readers: what a reader that succeeds has found, and when one succeeds; numbers in bytes; headers. Assumes nothing.
 use mathlib.Core.Path.{_≡_, refl, sym, ap, subst, subst₂, _∙_}
-use mathlib.Core.Bool.{Bool, true, false, _&&_}
+use mathlib.Core.Bool.{Bool, true, false}
 use mathlib.Core.List.{List, [], _∷_, _++_}
 use Prim.Native.Nat.{ℕ, zero, suc, _+_, _-_, _*_, _/_, _%_, _^_, _≤_, _<_}
 use native.Mathlib.Nat.{pow-suc, div-div-eq-div-mul, div-lt-iff-lt-mul, one-le-pow, mod-eq-of-lt, zero-mul, one-mul, mul-comm, mul-assoc, add-mul, zero-add, add-assoc, mod-one}

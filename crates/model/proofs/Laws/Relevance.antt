@@ -1,7 +1,7 @@
 -- Working backward (W-204): a formula is known by the facts that it names, an action by those that matter before it, and so a run that is
 -- reached by the start facts that are relevant to it. Assumes nothing.
 use mathlib.Core.Path.{_≡_, refl, sym, ap, ap₂, subst, _∙_}
-use mathlib.Core.Bool.{Bool, true, false, false≢true, cond, not, _&&_, _||_}
+use mathlib.Core.Bool.{Bool, true, false, false≢true, not, _&&_, _||_}
 use mathlib.Core.List.{List, [], _∷_}
 use Prim.Native.Nat.{ℕ, zero, suc, _-_, _%_, _^_, _≤_, _<_}
 use native.Mathlib.Omega.{arith}
@@ -14,7 +14,7 @@ use Rattle.model.specs.Formula.{Literal, fact, denial, Formula, Formulas
 use Rattle.model.specs.Action.{Effect, Action, sameLiteral, conditionIn, conditionOf, tabulate, sets, clears, exclusive, applicable, next, step}
 use Rattle.model.specs.Run.{reached, goesOn, run}
 use Rattle.model.specs.Case.{bit, stateOf, Task, runOf}
-use Rattle.model.specs.Relevance.{names, memberNames, some, hasEntry, setAndCleared, setNames, clearNames, restsOn, exclusionNames, effectNames, mattersBefore, relevant, numberOf, relevantTo, RestsOnRelevant}
+use Rattle.model.specs.Relevance.{names, memberNames, some, hasEntry, setAndCleared, setNames, clearNames, restsOn, exclusionNames, mattersBefore, relevant, numberOf, relevantTo, RestsOnRelevant}
 use Rattle.model.proofs.Laws.Tabulate.{length-tabulate, getD-tabulate}
 use Rattle.model.proofs.Laws.Truth.{and-true, and-both, or-first, or-second, or-false, and-none}
 use Rattle.model.proofs.Laws.Conflicts.{every-at, every-all}

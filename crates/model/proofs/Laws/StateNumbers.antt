@@ -1,15 +1,14 @@
 -- The number of a state or of a set of facts, and its bits: each tells the other. Assumes nothing.
 use mathlib.Core.Path.{_≡_, refl, sym, ap, ap₂, _∙_}
-use mathlib.Core.Bool.{Bool, true, false, cond}
+use mathlib.Core.Bool.{Bool, true, false}
 use mathlib.Core.List.{List, [], _∷_}
 use Prim.Native.Nat.{ℕ, zero, suc, _+_, _-_, _*_, _/_, _%_, _^_, _≤_, _<_}
 use native.Mathlib.Nat.{mod-lt, zero-div, pow-suc, add-mul, mul-assoc}
-use native.Mathlib.Numerals.{add-one}
 use native.Mathlib.Omega.{arith}
 use lib.ListN.{length, getD}
 use lib.Dec.{eqb}
-use lib.Pow.{pow-pos, pow-add, high, low, split, field, mod-mod-pow, shr-lt, shr-shr}
-use Rattle.model.specs.Case.{bit, Task, IsState}
+use lib.Pow.{pow-pos, pow-add, high, low, split, field, mod-mod-pow, shr-lt}
+use Rattle.model.specs.Case.{bit}
 use Rattle.model.specs.Relevance.{numberOf}
 use Rattle.model.proofs.Laws.Cover.{Block}
 

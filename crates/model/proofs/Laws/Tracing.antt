@@ -19,9 +19,9 @@ use Rattle.model.specs.Action.{Action, step}
 use Rattle.model.specs.Run.{Outcome, reached, missed, blocked}
 use Rattle.model.specs.Case.{stateOf, Task, runOf, IsState}
 use Rattle.model.specs.Relevance.{states, rows, valueByte, relevantTo, workBytes, runRows, AgreeOn}
-use Rattle.model.specs.Operations.{Written, isState, readTask, stateAnswer, whenReached, tracedBack, reachedTask, relevantFacts}
+use Rattle.model.specs.Operations.{Written, readTask, whenReached, tracedBack, reachedTask, relevantFacts}
 use Rattle.model.specs.Demands.{Relevance}
-use Rattle.model.proofs.Laws.Tasks.{state-tested, Fits, run-answers}
+use Rattle.model.proofs.Laws.Tasks.{state-tested, run-answers}
 use Rattle.model.proofs.Laws.Relevance.{start-length, step-length, rests-on}
 
 -- ---- the rows

@@ -1,8 +1,7 @@
 -- `named_members` meets its contract. Assumes nothing.
-use Prim.Native.Nat.{_-_, _≤_}
+use Prim.Native.Nat.{_-_}
 use native.Mathlib.Omega.{arith}
 use borrow.Author.Needs.{needs}
-use lib.ListN.{length}
 use Rattle.names.proofs.Naming.{Naming, naming-begins, naming-literal, naming-group, naming-ends}
 use Rattle.names.proofs.named_members.Statement.{statement}
 use Rattle.names.proofs.named_members.Tie as tie

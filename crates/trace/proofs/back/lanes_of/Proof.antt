@@ -1,5 +1,4 @@
 -- `lanes_of` meets its contract. Assumes nothing.
-use borrow.Author.Needs.{needs}
 use Rattle.trace.proofs.Tracing.{lanes-yes, lanes-no}
 use Rattle.trace.proofs.back.lanes_of.Statement.{statement}
 use Rattle.trace.proofs.back.lanes_of.Tie as tie
