@@ -1,5 +1,5 @@
 -- One step backward, from the sets that were found: set by set it is what the definition says of each fact. Assumes nothing.
-use mathlib.Core.Path.{_≡_, refl, sym, ap, _∙_}
+use mathlib.Core.Path.{_≡_, refl, sym, ap, ap₂, _∙_}
 use mathlib.Core.Bool.{Bool, true, false, false≢true, cond, not, _&&_, _||_}
 use mathlib.Core.List.{List, [], _∷_, map}
 use Prim.Native.Nat.{ℕ, zero, suc, _≤_, _<_}
@@ -115,20 +115,26 @@ module _ (n : ℕ) (a : Action) (st m : List Bool) (size : length m ≡ n) where
       some-below n _ _ (λ g l. sym (one-rule (getD m g false) (sets two a st g) (setAndCleared a g) (eqb g f) (setNames a g f) (clearNames a g f))) ∙
       sym (some-or n (λ g. setAndCleared a g && (setNames a g f || clearNames a g f)) (λ g. getD m g false && restsOn a st g f)))
 
+once : (x y : Bool) → (x && not (x && y)) ≡ (x && not y)
+once true y = refl
+once false y = refl
+
 kept-set :
     (n : ℕ) (a : Action) (st m : List Bool) (z : length m ≡ n) (after sure : ℕ) → FactSet after (λ f. getD m f false) →
-    ((g : ℕ) → g < n → bit maxFacts sure g ≡ isYes (eval three (map known st) (conditionOf (fact g) (a .effects)))) →
+    ((g : ℕ) → g < n → bit maxFacts sure g ≡ (bit maxFacts after g && isYes (eval three (map known st) (conditionOf (fact g) (a .effects))))) → n ≤ maxFacts →
     FactSet (bitAnd after (bitXor ones sure)) (kept n a st m z)
-kept-set n a st m z after sure h e =
+kept-set n a st m z after sure h e few =
     set-same (set-and h (set-not (own-bits sure)))
     (λ g l.
     elim (decLt g n) [
-      | yes b ↦ ap (λ x. getD m g false && not x) (e g b ∙ holds-same st (conditionOf (fact g) (a .effects)))
+      | yes b ↦
+          ap (λ x. getD m g false && not x) (e g b ∙ ap₂ _&&_ (h .at g (omega arith)) (holds-same st (conditionOf (fact g) (a .effects)))) ∙
+          once (getD m g false) (sets two a st g)
       | no b ↦ let i : length m ≤ g = omega arith in rw (List·getD-eq-default m false i)
     ])
 
 pub matters-by-sets :
-    (s : List ℕ) (p : ℕ) (c : List ℕ) (after : ℕ) (r : Named) → NamesFacts s p r → (e : Entered) → FindsEntries s (r .next) c e → (more : ℕ) →
+    (s : List ℕ) (p : ℕ) (c : List ℕ) (after : ℕ) (r : Named) → NamesFacts s p r → (e : Entered) → FindsEntries s (r .next) c after e → (more : ℕ) →
     GathersFacts s (r .next) (bitOr after (bitAnd (e .set) (e .cleared))) (bitOr (bitAnd after (bitXor ones (e .sure))) (bitAnd (e .set) (e .cleared))) more →
     MattersBefore s p c after (bitOr (bitOr (r .facts) (bitAnd after (bitXor ones (e .sure)))) more)
 unfolding actionBytes
@@ -141,7 +147,7 @@ matters-by-sets s p c after r N e E more G =
           let u = rw (← i) at w in
           let (set, cleared, sure) = E .is facts (a .effects) q few (at .effects) u (λ j. map known st) t in
           let both = set-and set cleared in
-          let keep = kept-set facts a st m z after (e .sure) h sure in
+          let keep = kept-set facts a st m z after (e .sure) h sure few in
           let asks₀ = set-or h both in
           let asks₁ = set-or keep both in
           let o = G .is facts (a .effects) q few (at .effects) u in

@@ -54,7 +54,7 @@ same-self : (l : Literal) → sameLiteral l l ≡ true
 same-self (fact f) = eq-eqb f f refl
 same-self (denial f) = eq-eqb f f refl
 
-same-is : (l m : Literal) → sameLiteral l m ≡ true → l ≡ m
+pub same-is : (l m : Literal) → sameLiteral l m ≡ true → l ≡ m
 same-is (fact f) (fact g) e = ap fact (eqb-true f g e)
 same-is (fact f) (denial g) e = absurd (false≢true e)
 same-is (denial f) (fact g) e = absurd (false≢true e)

@@ -1,7 +1,7 @@
 -- The loops over an action's entries: what is so of one of them, fact by fact, as a set that grows. Assumes nothing.
-use mathlib.Core.Path.{_≡_, refl, sym, ap₂, subst, _∙_}
-use mathlib.Core.Bool.{Bool, true, false, _&&_, _||_}
-use mathlib.Core.List.{List, _∷_}
+use mathlib.Core.Path.{_≡_, refl, sym, ap, ap₂, subst, _∙_}
+use mathlib.Core.Bool.{Bool, true, false, cond, _&&_, _||_}
+use mathlib.Core.List.{List, [], _∷_}
 use Prim.Native.Nat.{ℕ, zero, suc, _+_, _%_, _≤_, _<_}
 use native.Mathlib.Omega.{arith}
 use native.Mathlib.Decide.{ℕ-discrete}
@@ -10,7 +10,7 @@ use lib.Bits.{bitOr}
 use lib.Dec.{eqb}
 use borrow.Author.Tests.{lt-ltb, le-ltb, ne-eqb}
 use Rattle.model.specs.Limits.{maxFacts}
-use Rattle.model.specs.Kleene.{Kleene, isYes, three}
+use Rattle.model.specs.Kleene.{Kleene, No, isYes, three}
 use Rattle.model.specs.Formula.{Literal, fact, denial, eval}
 use Rattle.model.specs.Action.{Effect, sameLiteral}
 use Rattle.model.specs.Case.{bit}
@@ -31,8 +31,9 @@ use Rattle.names.specs.declared.Named.{Named}
 use Rattle.names.specs.Names.{FactSet, AfterFormula, NamesFacts}
 use Rattle.names.proofs.Sets.{set-none, set-same, set-or}
 use Rattle.matters.specs.declared.Entered.{Entered}
-use Rattle.matters.specs.Matters.{asks, AddsEntry, FindsEntries, EntryFacts, GathersFacts}
-use Rattle.matters.proofs.Entries.{someEntry, entry-has, entry-condition, entries-by-fact}
+use Rattle.matters.specs.declared.Told.{Told}
+use Rattle.matters.specs.Matters.{asks, AddsEntry, TellsEntry, FindsEntries, EntryFacts, GathersFacts}
+use Rattle.matters.proofs.Entries.{someEntry, same-is, entry-has, entry-condition, entries-by-fact}
 
 -- ---- one entry
 
@@ -134,8 +135,9 @@ setting g x = sameLiteral (fact g) (x .literal)
 abbrev clearing : ℕ → Effect → Bool
 clearing g x = sameLiteral (denial g) (x .literal)
 
-abbrev settingSurely : List Kleene → ℕ → Effect → Bool
-settingSurely v g x = sameLiteral (fact g) (x .literal) && isYes (eval three v (x .condition))
+-- asked about, and its condition is true
+abbrev settingSurely : ℕ → List Kleene → ℕ → Effect → Bool
+settingSurely after v g x = sameLiteral (fact g) (x .literal) && isYes (cond (asks after 0 (literalByte (x .literal))) (eval three v (x .condition)) No)
 
 -- the entries before number e were met, and the next stands at p
 module _ (s : List ℕ) (at n : ℕ) where
@@ -182,12 +184,52 @@ module _ (s : List ℕ) (at n : ℕ) where
 pub own-bits : (x : ℕ) → FactSet x (bit maxFacts x)
 own-bits x = record { at = λ f l. refl }
 
-module _ (s : List ℕ) (at : ℕ) (c : List ℕ) (n : ℕ) where
+-- one that was not asked about counts as not true
+pub told-asked : (s : List ℕ) (p : ℕ) (c : List ℕ) (after : ℕ) → asks after 0 (getD s p 0) ≡ true → (x : Planes) → FormulaPlanes s c (p + 1) x → TellsEntry s p c after (record { sure = x .sure; next = x .next })
+told-asked s p c after h x X =
+    record {
+      is =
+          λ facts f q few at.
+          let (z, lanes) = X .is facts f q few at in
+          (z, λ case t. rw h (sym (low-bit (x .sure)) ∙ lanes case t .lane 0 (omega arith) .is-sure));
+    }
+
+pub told-left : (s : List ℕ) (p : ℕ) (c : List ℕ) (after : ℕ) → asks after 0 (getD s p 0) ≡ false → (next : ℕ) → AfterFormula s (p + 1) next → TellsEntry s p c after (record { sure = 0; next = next })
+told-left s p c after h next A = record { is = λ facts f q few at. (A .is facts f q at, λ case t. rw h) }
+
+-- what is so of the entry of one fact, if that is asked about
+with-fact : (b : Bool) (p : Effect → Bool) (es : List Effect) → someEntry (λ x. b && p x) es ≡ (b && someEntry p es)
+unfolding someEntry
+with-fact b p [] = sym (and-none b)
+with-fact true p (e ∷ es) = ap (λ c. p e || c) (with-fact true p es)
+with-fact false p (e ∷ es) = with-fact false p es
+
+some-entry-same : (p q : Effect → Bool) (es : List Effect) → ((x : Effect) → p x ≡ q x) → someEntry p es ≡ someEntry q es
+unfolding someEntry
+some-entry-same p q [] h = refl
+some-entry-same p q (e ∷ es) h = ap₂ _||_ (h e) (some-entry-same p q es h)
+
+asked-about : (after : ℕ) (g : ℕ) → g < maxFacts → (v : List Kleene) (x : Effect) → settingSurely after v g x ≡ (bit maxFacts after g && (sameLiteral (fact g) (x .literal) && isYes (eval three v (x .condition))))
+asked-about after g l v x = by-same (sameLiteral (fact g) (x .literal)) refl
+  where
+    of-asked : (b : Bool) → isYes (cond b (eval three v (x .condition)) No) ≡ (b && isYes (eval three v (x .condition)))
+    of-asked true = refl
+    of-asked false = refl
+
+    by-same :
+        (b : Bool) → sameLiteral (fact g) (x .literal) ≡ b →
+        (b && isYes (cond (asks after 0 (literalByte (x .literal))) (eval three v (x .condition)) No)) ≡ (bit maxFacts after g && (b && isYes (eval three v (x .condition))))
+    by-same true h =
+        let i : literalByte (x .literal) ≡ g = ap literalByte (sym (same-is (fact g) (x .literal) h)) in
+        ap (λ b. isYes (cond b (eval three v (x .condition)) No)) (ap (asks after 0) i ∙ sym (asks-fact after 0 g g (omega arith) l)) ∙ of-asked (bit maxFacts after g)
+    by-same false h = sym (and-none (bit maxFacts after g))
+
+module _ (s : List ℕ) (at : ℕ) (c : List ℕ) (after n : ℕ) where
   -- the sets of the first e entries
   abbrev Found : Entered → ℕ → ℕ → List Effect → Type 0
   Found r e facts es =
       Gathered (r .set) setting es e × Gathered (r .cleared) clearing es e ×
-      ((case : ℕ → List Kleene) → Table c case → Gathered (r .sure) (settingSurely (case 0)) es e)
+      ((case : ℕ → List Kleene) → Table c case → Gathered (r .sure) (settingSurely after (case 0)) es e)
 
   abbrev pub Entering : ℕ → ℕ → Entered → Type 0
   Entering e p r = Met s at n e p (Found r e)
@@ -195,15 +237,14 @@ module _ (s : List ℕ) (at : ℕ) (c : List ℕ) (n : ℕ) where
   pub entering-begins : n ≡ getD s at 0 → Entering 0 (at + 1) (record { set = 0; cleared = 0; sure = 0 })
   entering-begins i =
       met-begins s at n i (Found _ 0)
-      (λ facts es. (gathered-begins setting es, gathered-begins clearing es, λ case t. gathered-begins (settingSurely (case 0)) es))
+      (λ facts es. (gathered-begins setting es, gathered-begins clearing es, λ case t. gathered-begins (settingSurely after (case 0)) es))
 
   module _ (e p : ℕ) (r : Entered) (E : Entering e p r) where
-    pub entering-next :
-        e < n → (x : Planes) → FormulaPlanes s c (p + 1) x → (r′ : Entered) → AddsEntry r (getD s p 0) (x .sure) r′ → Entering (e + 1) (x .next) r′
+    pub entering-next : e < n → (x : Told) → TellsEntry s p c after x → (r′ : Entered) → AddsEntry r (getD s p 0) (x .sure) r′ → Entering (e + 1) (x .next) r′
     entering-next l x X r′ A =
         met-next s at n e p (Found r e) (Found r′ (e + 1)) E l (x .next)
         (λ facts es few b k d m f.
-        let (z, lanes) = X .is facts (entryAt es e .condition) m few f in
+        let (z, sure) = X .is facts (entryAt es e .condition) m few f in
         let add = A .is facts (entryAt es e .literal) few d k in (
           z,
           λ (gs, gc, gu). (
@@ -211,18 +252,16 @@ module _ (s : List ℕ) (at : ℕ) (c : List ℕ) (n : ℕ) where
             gathered-next (r .cleared) (r′ .cleared) clearing es e b
                 (λ before h. add (bit maxFacts (r .set)) before (bit maxFacts (r .sure)) (own-bits _) h (own-bits _) .1) gc,
             λ case t.
-                gathered-next (r .sure) (r′ .sure) (settingSurely (case 0)) es e b
-                (λ before h.
-                add (bit maxFacts (r .set)) (bit maxFacts (r .cleared)) before (own-bits _) (own-bits _) h .2 (eval three (case 0) (entryAt es e .condition))
-                (sym (low-bit (x .sure)) ∙ lanes case t .lane 0 (omega arith) .is-sure))
+                gathered-next (r .sure) (r′ .sure) (settingSurely after (case 0)) es e b
+                (λ before h. add (bit maxFacts (r .set)) (bit maxFacts (r .cleared)) before (own-bits _) (own-bits _) h .2 (cond (asks after 0 (byteAt es e)) (eval three (case 0) (entryAt es e .condition)) No) (rw k at (sure case t)))
                 (gu case t),
           ),
         ))
 
-    pub entering-short : e < n → length s ≤ p → (r′ : Entered) → FindsEntries s at c r′
+    pub entering-short : e < n → length s ≤ p → (r′ : Entered) → FindsEntries s at c after r′
     entering-short l h r′ = record { is = λ facts es q few ok v case t. absurd (met-short s at n e p (Found r e) E l h facts es q few ok v) }
 
-    pub entering-ends : n ≤ e → FindsEntries s at c r
+    pub entering-ends : n ≤ e → FindsEntries s at c after r
     unfolding eval
     entering-ends l =
         record {
@@ -230,16 +269,21 @@ module _ (s : List ℕ) (at : ℕ) (c : List ℕ) (n : ℕ) where
               λ facts es q few ok v case t.
               let (i, _, hs) = E .is facts es q few ok v in
               let z : length es ≤ e = omega (arith, E .few) in
-              let u = gathered-ends (r .sure) (settingSurely (case 0)) es e z (hs .2 case t) in (
+              let u = gathered-ends (r .sure) (settingSurely after (case 0)) es e z (hs .2 case t) in (
                 set-same (gathered-ends (r .set) setting es e z (hs .0)) (λ g m. entry-has (fact g) es),
                 set-same (gathered-ends (r .cleared) clearing es e z (hs .1)) (λ g m. entry-has (denial g) es),
-                λ g m. u .at g (omega arith) ∙ entry-condition facts few es ok (λ φ. isYes (eval three (case 0) φ)) refl (fact g),
+                λ g m.
+                    u .at g (omega arith) ∙
+                    some-entry-same (settingSurely after (case 0) g) (λ x. bit maxFacts after g && (sameLiteral (fact g) (x .literal) && isYes (eval three (case 0) (x .condition)))) es
+                    (asked-about after g (omega arith) (case 0)) ∙
+                    with-fact (bit maxFacts after g) (λ x. sameLiteral (fact g) (x .literal) && isYes (eval three (case 0) (x .condition))) es ∙
+                    ap (λ b. bit maxFacts after g && b) (entry-condition facts few es ok (λ φ. isYes (eval three (case 0) φ)) refl (fact g)),
               );
         }
 
 -- the block ends before the count
-pub entering-none : (s : List ℕ) (at : ℕ) (c : List ℕ) (r : Entered) → length s ≤ at → FindsEntries s at c r
-entering-none s at c r h = record { is = λ facts es q few ok v case t. absurd (omega (arith, first v .0)) }
+pub entering-none : (s : List ℕ) (at : ℕ) (c : List ℕ) (after : ℕ) (r : Entered) → length s ≤ at → FindsEntries s at c after r
+entering-none s at c after r h = record { is = λ facts es q few ok v case t. absurd (omega (arith, first v .0)) }
 
 -- ---- gathering what they name
 

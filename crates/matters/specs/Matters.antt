@@ -6,7 +6,7 @@ use Prim.Native.Nat.{ℕ, _+_, _%_, _≤_, _<_}
 use lib.ListN.{length, getD}
 use lib.Dec.{ltb}
 use Rattle.model.specs.Limits.{maxFacts}
-use Rattle.model.specs.Kleene.{Kleene, isYes, known, three}
+use Rattle.model.specs.Kleene.{Kleene, No, isYes, known, three}
 use Rattle.model.specs.Formula.{Literal, fact, denial, Formula, eval}
 use Rattle.model.specs.Action.{Effect, Action, sameLiteral, conditionOf}
 use Rattle.model.specs.Case.{bit}
@@ -19,6 +19,7 @@ use Rattle.model.specs.Stands.{Span, FormulaAt, ActionAt}
 use Rattle.names.specs.declared.Named.{Named}
 use Rattle.names.specs.Names.{FactSet}
 use Rattle.matters.specs.declared.Entered.{Entered}
+use Rattle.matters.specs.declared.Told.{Told}
 
 -- the literal's byte is of a fact in `set`, or a denial of one in `cleared`
 unfoldable pub asks : ℕ → ℕ → ℕ → Bool
@@ -32,13 +33,20 @@ pub record AddsEntry (before : Entered) (b sure : ℕ) (r : Entered) : Type 0 wh
       FactSet (r .set) (λ g. p g || sameLiteral (fact g) m) × FactSet (r .cleared) (λ g. q g || sameLiteral (denial g) m) ×
       ((t : Kleene) → sure % 2 ≡ sureBit t → FactSet (r .sure) (λ g. u g || (sameLiteral (fact g) m && isYes t)))
 
--- the facts that have an entry, and the declared ones whose set condition is true in lane 0
-pub record FindsEntries (s : List ℕ) (p : ℕ) (c : List ℕ) (r : Entered) : Type 0 where
+-- the condition f at p + 1 in lane 0, if the entry at p sets a fact of `after`, and the position after it
+pub record TellsEntry (s : List ℕ) (p : ℕ) (c : List ℕ) (after : ℕ) (r : Told) : Type 0 where
+  pub is :
+      (facts : ℕ) (f : Formula) (q : ℕ) → facts ≤ maxFacts → FormulaAt s facts (p + 1) f q →
+      (r .next ≡ q) ×
+      ((case : ℕ → List Kleene) → Table c case → r .sure % 2 ≡ sureBit (cond (asks after 0 (getD s p 0)) (eval three (case 0) f) No))
+
+-- the facts that have an entry, and of the declared facts in `after` those whose set condition is true in lane 0
+pub record FindsEntries (s : List ℕ) (p : ℕ) (c : List ℕ) (after : ℕ) (r : Entered) : Type 0 where
   pub is :
       (facts : ℕ) (es : List Effect) (q : ℕ) → facts ≤ maxFacts → EffectsOk facts 0 es → Span s (length s) p (length es ∷ effectsBytes es) q →
       (case : ℕ → List Kleene) → Table c case →
       FactSet (r .set) (λ g. hasEntry (fact g) es) × FactSet (r .cleared) (λ g. hasEntry (denial g) es) ×
-      ((g : ℕ) → g < facts → bit maxFacts (r .sure) g ≡ isYes (eval three (case 0) (conditionOf (fact g) es)))
+      ((g : ℕ) → g < facts → bit maxFacts (r .sure) g ≡ (bit maxFacts after g && isYes (eval three (case 0) (conditionOf (fact g) es))))
 
 -- what the condition f at p + 1 names, if the literal at p is asked for, and the position after it
 pub record EntryFacts (s : List ℕ) (p set cleared : ℕ) (r : Named) : Type 0 where

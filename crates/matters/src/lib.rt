@@ -3,7 +3,7 @@
 ghost use mathlib.Core.Path.{_≡_};
 ghost use Prim.Native.Nat.{_<_};
 ghost use lib.ListN.{length};
-ghost use Rattle.matters.specs.Matters.{asks, AddsEntry, FindsEntries, EntryFacts, GathersFacts, MattersBefore};
+ghost use Rattle.matters.specs.Matters.{asks, AddsEntry, TellsEntry, FindsEntries, EntryFacts, GathersFacts, MattersBefore};
 use evaluate::ONES;
 use evaluate::formula_planes;
 use names::Named;
@@ -16,7 +16,8 @@ use numbers::wide;
 // The first literal's byte that is a denial.
 const DENIALS: u8 = 64;
 
-// Of an action's entries: the facts that one sets, those that one clears, and those whose set condition is true.
+// Of an action's entries: the facts that one sets, those that one clears, and, of the facts that are asked about, those whose set condition
+// is true.
 pub struct Entered {
     pub set: u64,
     pub cleared: u64,
@@ -49,9 +50,44 @@ fn with_entry(entries: Entered, literal: u8, sure: u64) -> Entered
     }
 }
 
-// The entries from `at` on, their count first, in the state of lane 0.
-fn find_entries(problem: &[u8], at: usize, c: &[u64; 256]) -> Entered
-    ensures { λ r. ⌜ FindsEntries (now (problem .entry)) at (now (c .entry)) r ⌝ }
+// Whether the entry of this literal is asked for: one that sets a fact of `set`, or clears one of `cleared`.
+fn is_asked(literal: u8, set: u64, cleared: u64) -> bool
+    ensures { λ r. ⌜ r ≡ asks set cleared literal ⌝ }
+{
+    let fact = wide(literal % 64);
+    if literal < DENIALS {
+        return has_fact(set, fact);
+    }
+    has_fact(cleared, fact)
+}
+
+// An entry's condition in lane 0, where it was asked about, and the position after the entry.
+pub struct Told {
+    pub sure: u64,
+    pub next: usize,
+}
+
+// The entry at `at`: its condition is evaluated only if it sets a fact of `after`.
+fn tell_entry(problem: &[u8], at: usize, c: &[u64; 256], after: u64) -> Told
+    requires { ⌜ at < length (now problem) ⌝ }
+    ensures { λ r. ⌜ TellsEntry (now (problem .entry)) at (now (c .entry)) after r ⌝ }
+{
+    if is_asked(problem[at], after, 0) {
+        let r = formula_planes(problem, at + 1, c);
+        return Told {
+            sure: r.sure,
+            next: r.next,
+        };
+    }
+    Told {
+        sure: 0,
+        next: after_formula(problem, at + 1),
+    }
+}
+
+// The entries from `at` on, their count first, in the state of lane 0; `after` has the facts that are asked about.
+fn find_entries(problem: &[u8], at: usize, c: &[u64; 256], after: u64) -> Entered
+    ensures { λ r. ⌜ FindsEntries (now (problem .entry)) at (now (c .entry)) after r ⌝ }
 {
     let mut entries = Entered {
         set: 0,
@@ -68,23 +104,12 @@ fn find_entries(problem: &[u8], at: usize, c: &[u64; 256]) -> Entered
         if problem.len() <= p {
             return entries;
         }
-        let r = formula_planes(problem, p + 1, c);
-        entries = with_entry(entries, problem[p], r.sure);
-        p = r.next;
+        let told = tell_entry(problem, p, c, after);
+        entries = with_entry(entries, problem[p], told.sure);
+        p = told.next;
         e = e + 1;
     }
     entries
-}
-
-// Whether the entry of this literal is asked for: one that sets a fact of `set`, or clears one of `cleared`.
-fn is_asked(literal: u8, set: u64, cleared: u64) -> bool
-    ensures { λ r. ⌜ r ≡ asks set cleared literal ⌝ }
-{
-    let fact = wide(literal % 64);
-    if literal < DENIALS {
-        return has_fact(set, fact);
-    }
-    has_fact(cleared, fact)
 }
 
 // The facts that the condition of the entry at `at` names, if it is asked for, and the position after the entry.
@@ -132,7 +157,7 @@ pub fn matters_before(problem: &[u8], at: usize, c: &[u64; 256], after: u64) -> 
     let precondition = named_facts(problem, at);
     let named = precondition.facts;
     let next = precondition.next;
-    let entries = find_entries(problem, next, c);
+    let entries = find_entries(problem, next, c, after);
     let both = entries.set & entries.cleared;
     let sure = entries.sure;
     let kept = after & (ONES ^ sure);

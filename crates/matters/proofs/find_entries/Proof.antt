@@ -6,10 +6,10 @@ use Rattle.matters.proofs.find_entries.Statement.{statement}
 use Rattle.matters.proofs.find_entries.Tie as tie
 
 abbrev Inv-loop : tie.InvT-loop
-Inv-loop problem at c entries₀ n p₀ e₀ entries p e = Entering problem at c n e p entries
+Inv-loop problem at c after entries₀ n p₀ e₀ entries p e = Entering problem at c after n e p entries
 
 abbrev μ-loop : tie.MeasureT-loop
-μ-loop problem at c entries₀ n p₀ e₀ entries p e = n - e
+μ-loop problem at c after entries₀ n p₀ e₀ entries p e = n - e
 
 pub find-entries-spec : {M : Type 1} → statement M
 find-entries-spec =
@@ -17,17 +17,16 @@ find-entries-spec =
     (tie.spec
     Inv-loop
     μ-loop
-    (λ c. entering-none _ _ _ _ (c .if1 .taken))
+    (λ c. entering-none _ _ _ _ _ (c .if1 .taken))
     (λ c. search needs)
     (λ c κs. search needs)
     (λ c. search needs)
-    (λ c. entering-begins _ _ _ _ (c .wide .ensures .0))
-    (λ c. entering-short _ _ _ _ _ _ _ (c .before .before .loop .inv) (c .before .loop-test .taken) (c .if2 .taken) _)
-    (λ c. search needs)
+    (λ c. entering-begins _ _ _ _ _ (c .wide .ensures .0))
+    (λ c. entering-short _ _ _ _ _ _ _ _ (c .before .before .loop .inv) (c .before .loop-test .taken) (c .if2 .taken) _)
     (λ c κs. search needs)
     (λ c. search needs)
     (λ c κs. search needs)
     (λ c. search needs)
     (λ c. search needs)
-    (λ c. let k = c .before .before .before .before in entering-next _ _ _ _ _ _ _ (k .before .loop .inv) (k .loop-test .taken) _ (c .before .before .formula-planes .ensures) _ (c .with-entry .ensures))
-    (λ c. entering-ends _ _ _ _ _ _ _ (c .before .loop .inv) (c .loop-test .left)))
+    (λ c. let k = c .before .before .before .before in entering-next _ _ _ _ _ _ _ _ (k .before .loop .inv) (k .loop-test .taken) _ (c .before .before .tell-entry .ensures) _ (c .with-entry .ensures))
+    (λ c. entering-ends _ _ _ _ _ _ _ _ (c .before .loop .inv) (c .loop-test .left)))
