@@ -18,7 +18,7 @@ use Rattle.model.specs.Limits.{version1, maxFacts}
 use Rattle.model.specs.Kleene.{Kleene, No, Unknown, three}
 use Rattle.model.specs.Answer as Answer
 use Rattle.model.specs.Answer.{answered}
-use Rattle.model.specs.Case.{caseOf, Task, runOf}
+use Rattle.model.specs.Case.{flag, caseOf, Task, runOf}
 use Rattle.model.specs.Operations.{isState, runState}
 use Rattle.model.specs.Read.{headBytes}
 use Rattle.model.specs.WellFormed.{Sensible}
@@ -46,7 +46,6 @@ use Rattle.model.proofs.Laws.Planes.{low-bit}
 use Rattle.evaluate.specs.declared.Planes.{Planes}
 use Rattle.evaluate.specs.Planes.{FormulaPlanes}
 use Rattle.step.specs.declared.conflict.Going.{Going}
-use Rattle.step.specs.Conflicts.{flag}
 use Rattle.step.specs.Actions.{ObeysAction}
 use Rattle.step.proofs.Conflicts.{flag-true, flag-false}
 use Rattle.look.proofs.Lanes.{runFrom, stopAt, after, sized-after, acting-at, turned, ended}

@@ -14,7 +14,7 @@ use Rattle.model.specs.Formula.{eval}
 use Rattle.model.specs.Action.{Action, applicable, step}
 use Rattle.model.specs.Run.{partOf, Stop, reached, missed, blocked, atEnd, goesOn, run}
 use Rattle.model.specs.Run as Run
-use Rattle.model.specs.Case.{Task}
+use Rattle.model.specs.Case.{flag, Task}
 use Rattle.model.specs.Walk as Walk
 use Rattle.model.specs.ProblemBytes.{actionAt}
 use Rattle.model.specs.Planes.{laneBit, someBit, Table}
@@ -25,7 +25,6 @@ use Rattle.evaluate.specs.declared.Planes.{Planes}
 use Rattle.evaluate.specs.Planes.{FormulaPlanes}
 use Rattle.table.specs.Tables.{Sized}
 use Rattle.step.specs.declared.conflict.Going.{Going}
-use Rattle.step.specs.Conflicts.{flag}
 use Rattle.step.specs.Actions.{ObeysAction}
 use Rattle.step.proofs.Conflicts.{sure-flag}
 use Rattle.look.specs.declared.Looks.{Looks}

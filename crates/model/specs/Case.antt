@@ -1,6 +1,6 @@
 -- States and cases, and their numbers (document 01, "Blocks" and "Cases and the walk"). The width of a state's number is a parameter.
 use mathlib.Core.Path.{_≡_}
-use mathlib.Core.Bool.{Bool, true, cond}
+use mathlib.Core.Bool.{Bool, true, false, cond}
 use mathlib.Core.List.{List}
 use Prim.Native.Nat.{ℕ, suc, _-_, _/_, _%_, _^_, _<_}
 use lib.Dec.{eqb, ltb}
@@ -12,6 +12,11 @@ use Rattle.model.specs.Run.{Outcome, reached, run}
 -- "Fact 0 is the top bit of the six bytes taken as one big-endian number": bit i of a number w bits wide.
 unfoldable pub bit : ℕ → ℕ → ℕ → Bool
 bit w s i = eqb (s / 2 ^ (w - suc i) % 2) 1
+
+-- a truth value as a number
+abbrev pub flag : Bool → ℕ
+flag false = 0
+flag true = 1
 
 -- "a state is that same 48-bit number with unused low bits zero": its n values.
 unfoldable pub stateOf : ℕ → ℕ → ℕ → List Bool

@@ -10,7 +10,7 @@ use Rattle.model.specs.Kleene.{two}
 use Rattle.model.specs.Formula.{Literal, fact, denial, Formula, Formulas, lit, all, any, none, more}
 use Rattle.model.specs.Action.{Effect, Action, sameLiteral, conditionOf, tabulate, sets, step}
 use Rattle.model.specs.Run.{reached}
-use Rattle.model.specs.Case.{bit, stateOf, Task, runOf, IsState}
+use Rattle.model.specs.Case.{bit, flag, stateOf, Task, runOf, IsState}
 
 -- the facts that a formula names: whether f is one of them
 abbrev pub factOf : Literal → ℕ
@@ -81,16 +81,12 @@ module _ (n : ℕ) where
 -- "as a state number with those bits set": w bits wide, fact 0 on top
 unfoldable pub numberOf : ℕ → List Bool → ℕ
 numberOf w [] = 0
-numberOf w (b ∷ bs) = cond b (2 ^ (w - 1)) 0 + numberOf (w - 1) bs
+numberOf w (b ∷ bs) = flag b * 2 ^ (w - 1) + numberOf (w - 1) bs
 
 -- "rows of one byte (0 or 1) per fact"
-abbrev pub valueByte : Bool → ℕ
-valueByte false = 0
-valueByte true = 1
-
 unfoldable pub rows : List (List Bool) → List ℕ
 rows [] = []
-rows (c ∷ cs) = map valueByte c ++ rows cs
+rows (c ∷ cs) = map flag c ++ rows cs
 
 module _ (T : Task) where
   -- "The answer is a set of start facts", those that matter before the run of the state numbered s

@@ -14,13 +14,14 @@ use Rattle.model.specs.Formula.{Literal, fact, denial, eval}
 use Rattle.model.specs.FormulaBytes.{literalByte}
 use Rattle.model.specs.Action.{Effect, Action, conditionOf, every, exclusive}
 use Rattle.model.specs.Run.{lowestFalse}
+use Rattle.model.specs.Case.{flag}
 use Rattle.model.specs.WellFormed.{Declared, EffectsOk}
 use Rattle.model.specs.Planes.{laneBit, sureBit, Table}
 use Rattle.model.proofs.Laws.Agreement.{by-row}
 use Rattle.model.proofs.Laws.Conflicts.{every-at, every-last, every-same, every-all, lowest-is}
 use Rattle.model.proofs.Laws.Planes.{ones, low-bit, bit-small, bit-and, bit-zero, lane-both, lane-denied}
 use Rattle.effects.specs.Effects.{entryAt, Entries}
-use Rattle.step.specs.Conflicts.{flag, WithoutConflicts}
+use Rattle.step.specs.Conflicts.{WithoutConflicts}
 use Rattle.effects.proofs.Entries.{byteAt, declared-at, rises, rises-from, condition-at, condition-none}
 use Rattle.effects.proofs.Settling.{fact-at, denial-at}
 

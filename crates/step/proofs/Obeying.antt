@@ -11,6 +11,7 @@ use Rattle.model.specs.Kleene.{Kleene, three}
 use Rattle.model.specs.Formula.{eval}
 use Rattle.model.specs.Action.{Action, every, exclusive, applicable}
 use Rattle.model.specs.Run.{holdsIn, lowestFalse}
+use Rattle.model.specs.Case.{flag}
 use Rattle.model.specs.FormulaBytes.{encodeFormula}
 use Rattle.model.specs.ProblemBytes.{effectsBytes, actionBytes}
 use Rattle.model.specs.Planes.{laneBit, Table}
@@ -21,7 +22,7 @@ use Rattle.evaluate.specs.declared.Planes.{Planes}
 use Rattle.evaluate.specs.Planes.{FormulaPlanes}
 use Rattle.step.specs.declared.conflict.Going.{Going}
 use Rattle.effects.specs.Effects.{Entries, FindsConditions, Settles}
-use Rattle.step.specs.Conflicts.{flag, WithoutConflicts}
+use Rattle.step.specs.Conflicts.{WithoutConflicts}
 use Rattle.step.specs.Actions.{ObeysAction}
 use Rattle.effects.proofs.Finding.{applies}
 use Rattle.step.proofs.Conflicts.{sure-flag, flag-and}

@@ -8,11 +8,11 @@ use Rattle.model.specs.Limits.{maxFacts}
 use Rattle.model.specs.Kleene.{Kleene, three}
 use Rattle.model.specs.Action.{Action, exclusive, applicable, step}
 use Rattle.model.specs.Run.{holdsIn, lowestFalse}
+use Rattle.model.specs.Case.{flag}
 use Rattle.model.specs.Planes.{laneBit, Table}
 use Rattle.model.specs.Stands.{ActionAt}
 use Rattle.table.specs.Tables.{Sized}
 use Rattle.step.specs.declared.conflict.Going.{Going}
-use Rattle.step.specs.Conflicts.{flag}
 
 -- the lanes of `alive` in which the action is applicable; where there are some, d is the table after it, and otherwise that before it
 pub record ObeysAction (problem : List ℕ) (at : ℕ) (c : List ℕ) (alive : ℕ) (d : List ℕ) (r : Going) : Type 0 where

@@ -1,6 +1,5 @@
 -- Facts that an action would set and clear, in 64 cases (document 02, W-202).
 use mathlib.Core.Path.{_≡_}
-use mathlib.Core.Bool.{Bool, true, false}
 use mathlib.Core.List.{List}
 use Prim.Native.Nat.{ℕ, _≤_, _<_, min}
 use lib.ListN.{length}
@@ -8,14 +7,11 @@ use Rattle.model.specs.Limits.{maxFacts}
 use Rattle.model.specs.Kleene.{Kleene, three}
 use Rattle.model.specs.Action.{Action, every, exclusive}
 use Rattle.model.specs.Run.{lowestFalse}
+use Rattle.model.specs.Case.{flag}
 use Rattle.model.specs.WellFormed.{EffectsOk}
 use Rattle.model.specs.Planes.{laneBit, Table}
 use Rattle.step.specs.declared.conflict.Going.{Going}
 use Rattle.effects.specs.Effects.{Entries}
-
-abbrev pub flag : Bool → ℕ
-flag true = 1
-flag false = 0
 
 -- the lanes of `alive` in which no fact is in conflict; and, where lane 0 alone is asked and does not go on, the lowest fact that is
 pub record WithoutConflicts (n : ℕ) (literals found : List ℕ) (alive : ℕ) (r : Going) : Type 0 where

@@ -14,7 +14,8 @@ use Rattle.model.specs.Limits.{maxFacts}
 use Rattle.model.specs.Kleene.{known, two}
 use Rattle.model.specs.Formula.{Literal, fact, denial, any, none, eval}
 use Rattle.model.specs.Action.{Effect, Action, next, step}
-use Rattle.model.specs.Relevance.{factOf, hasEntry, valueByte}
+use Rattle.model.specs.Case.{flag}
+use Rattle.model.specs.Relevance.{factOf, hasEntry}
 use Rattle.model.specs.FormulaBytes.{literalByte}
 use Rattle.model.specs.WellFormed.{Declared}
 use Rattle.model.specs.Planes.{InLanes, Table}
@@ -29,7 +30,7 @@ use Rattle.matters.proofs.Passing.{Met, met-begins, met-next}
 use Rattle.matters.proofs.Entries.{no-entry}
 use Rattle.trace.specs.Rows.{RowAt, AgreeElsewhere, UndoesEntries}
 
-pub value-known : (b : Bool) → eqb (valueByte b) 1 ≡ b
+pub value-known : (b : Bool) → eqb (flag b) 1 ≡ b
 value-known true = refl
 value-known false = refl
 
@@ -63,7 +64,7 @@ pub record Undone (facts : ℕ) (es : List Effect) (e : ℕ) (st st′ : List Bo
 -- one more
 undone-next :
     (facts : ℕ) (es : List Effect) (e : ℕ) (st st′ : List Bool) (c d : List ℕ) (f b value : ℕ) → facts ≤ maxFacts → f < facts → f ≡ factOf (entryAt es e .literal) →
-    InLanes value value (λ j. known (eqb b 1)) → b ≡ valueByte (getD st f false) → SetsFact c f value value d → Undone facts es e st st′ c → Undone facts es (e + 1) st st′ d
+    InLanes value value (λ j. known (eqb b 1)) → b ≡ flag (getD st f false) → SetsFact c f value value d → Undone facts es e st st′ c → Undone facts es (e + 1) st st′ d
 undone-next facts es e st st′ c d f b value few l is lanes row x u =
     let v = getD st f false in
     record {

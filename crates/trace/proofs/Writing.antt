@@ -12,8 +12,8 @@ use Rattle.model.specs.Limits.{maxFacts}
 use Rattle.model.specs.Kleene.{Kleene, known, two}
 use Rattle.model.specs.Action.{Action, tabulate, step}
 use Rattle.model.specs.Run.{reached, run}
-use Rattle.model.specs.Case.{Task}
-use Rattle.model.specs.Relevance.{states, valueByte, rows}
+use Rattle.model.specs.Case.{flag, Task}
+use Rattle.model.specs.Relevance.{states, rows}
 use Rattle.model.specs.ProblemBytes.{actionAt}
 use Rattle.model.specs.Planes.{laneBit, sureBit, Table}
 use Rattle.model.specs.Stands.{TaskStands}
@@ -24,7 +24,6 @@ use Rattle.model.proofs.Laws.Tracing.{rows-length}
 use Rattle.model.proofs.Laws.Stores.{sets-append}
 use Rattle.model.proofs.Laws.Tabulate.{length-tabulate, getD-tabulate, tabulate-last}
 use Rattle.step.specs.declared.conflict.Going.{Going}
-use Rattle.step.specs.Conflicts.{flag}
 use Rattle.step.specs.Actions.{ObeysAction}
 use Rattle.look.proofs.Lanes.{acting-at, drop-action}
 use Rattle.trace.specs.Rows.{PutsRow, PutsRun, RowsIn}
@@ -54,18 +53,18 @@ putting-next c before at f work P =
           (sym (sets-append (laneValues c f) (getD c (2 * f + 1) 0 % 2 ∷ []) before at));
     }
 
-value-bit : (b : Bool) → sureBit (known b) ≡ valueByte b
+value-bit : (b : Bool) → sureBit (known b) ≡ flag b
 value-bit true = refl
 value-bit false = refl
 
-lane-values : (c : List ℕ) (n : ℕ) → n ≤ maxFacts → (st : List Bool) → length st ≡ n → Table c (λ j. map known st) → laneValues c n ≡ map valueByte st
+lane-values : (c : List ℕ) (n : ℕ) → n ≤ maxFacts → (st : List Bool) → length st ≡ n → Table c (λ j. map known st) → laneValues c n ≡ map flag st
 lane-values c n few st z t =
-    ext-getD 0 (laneValues c n) (map valueByte st) (length-tabulate n _ ∙ sym (length-map st valueByte ∙ z))
+    ext-getD 0 (laneValues c n) (map flag st) (length-tabulate n _ ∙ sym (length-map st flag ∙ z))
     (λ i l.
     let h : i < n = omega (arith, length-tabulate n (λ g. getD c (2 * g + 1) 0 % 2)) in
     getD-tabulate n (λ g. getD c (2 * g + 1) 0 % 2) i 0 h ∙ sym (low-bit (getD c (2 * i + 1) 0)) ∙
     table-fact c (λ j. map known st) i 0 t (omega arith) (omega arith) .is-sure ∙ ap sureBit (List·getD-map known st i false) ∙
-    value-bit (getD st i false) ∙ sym (List·getD-map valueByte st i false))
+    value-bit (getD st i false) ∙ sym (List·getD-map flag st i false))
 
 pub row-put :
     (c : List ℕ) (facts : ℕ) (before : List ℕ) (at f : ℕ) (work : List ℕ) → facts ≤ maxFacts → f ≡ facts → Putting c before at f work → PutsRow c facts before at work
@@ -120,13 +119,13 @@ module _ (problem steps actions : List ℕ) (facts : ℕ) (c before : List ℕ) 
 
     module _ (work′ : List ℕ) (P : PutsRow current facts work at work′) where
       -- the state now is written down too
-      with-row : (T : Task) (st : List Bool) → facts ≡ T .facts → (R : Reaching T st i current work) → work′ ≡ sets before 0 (R .done ++ map valueByte (R .state))
+      with-row : (T : Task) (st : List Bool) → facts ≡ T .facts → (R : Reaching T st i current work) → work′ ≡ sets before 0 (R .done ++ map flag (R .state))
       with-row T st e R =
           let place : at ≡ 0 + length (R .done) = omega (arith, W .place ∙ ap (λ (x : ℕ). i * x) e ∙ sym (R .count)) in
           P .is (R .state) (R .size ∙ sym e) (R .shown) ∙
-          ap (λ (x : List ℕ). sets x at (map valueByte (R .state))) (R .written) ∙
-          ap (λ (x : ℕ). sets (sets before 0 (R .done)) x (map valueByte (R .state))) place ∙
-          sym (sets-append (R .done) (map valueByte (R .state)) before 0)
+          ap (λ (x : List ℕ). sets x at (map flag (R .state))) (R .written) ∙
+          ap (λ (x : ℕ). sets (sets before 0 (R .done)) x (map flag (R .state))) place ∙
+          sym (sets-append (R .done) (map flag (R .state)) before 0)
 
       module _ (l : i < length steps) (slot : ℕ) (named : slot ≡ getD steps i 0 % 64)
           (going : Going) (after : List ℕ) (O : ObeysAction problem (getD actions slot 0) current 1 after going) where
@@ -148,14 +147,14 @@ module _ (problem steps actions : List ℕ) (facts : ℕ) (c before : List ℕ) 
             let k : laneBit 0 (going .lanes) ≡ 1 = bits 0 (omega arith) ∙ ap₂ (λ (x : ℕ) (y : Bool). min x (flag y)) (low-bit 1) (applicable-same (R .state) n a ∙ b) in
             omega (arith, ap (laneBit 0) z, low-bit 0)
             in
-            let row = map valueByte (R .state) in
+            let row = map flag (R .state) in
             record {
               state = step two n a (R .state);
               size = step-length n a (R .state);
               shown = subst (λ (x : List Kleene). Table after (λ j. x)) (step-same (R .state) n a) (later some);
               reaches = rw (add-one i) r;
               done = R .done ++ row;
-              count = rw (add-one i) (length-append (R .done) row ∙ omega (arith, R .count, length-map (R .state) valueByte, R .size, suc-mul i n));
+              count = rw (add-one i) (length-append (R .done) row ∙ omega (arith, R .count, length-map (R .state) flag, R .size, suc-mul i n));
               split =
                   rw (add-one i)
                   (R .split ∙ ap (λ (x : List Action). R .done ++ rows (states n x (R .state))) d ∙
@@ -182,9 +181,9 @@ module _ (problem steps actions : List ℕ) (facts : ℕ) (c before : List ℕ) 
                 λ initial goal T S e st z t r.
                 let R = W .is initial goal T S e st z t r in
                 let h : length (T .plan) ≤ i = omega (arith, S .counted) in
-                let whole : rows (states (T .facts) (T .plan) st) ≡ R .done ++ map valueByte (R .state) =
+                let whole : rows (states (T .facts) (T .plan) st) ≡ R .done ++ map flag (R .state) =
                 R .split ∙ ap (λ (x : List Action). R .done ++ rows (states (T .facts) x (R .state))) (drop-of-length-le (T .plan) h) ∙
-                ap (λ (x : List ℕ). R .done ++ x) (append-nil (map valueByte (R .state)))
+                ap (λ (x : List ℕ). R .done ++ x) (append-nil (map flag (R .state)))
                 in
                 with-row T st e R ∙ ap (sets before 0) (sym whole);
           }
@@ -194,16 +193,16 @@ module _ (problem steps actions : List ℕ) (facts : ℕ) (c before : List ℕ) 
 module _ (n : ℕ) where
   row-at :
       (cs : List (List Bool)) → ((i : ℕ) → i < length cs → length (getD cs i []) ≡ n) → (i : ℕ) → i < length cs → (f : ℕ) → f < n →
-      getD (rows cs) (i * n + f) 0 ≡ valueByte (getD (getD cs i []) f false)
+      getD (rows cs) (i * n + f) 0 ≡ flag (getD (getD cs i []) f false)
   unfolding rows
   row-at [] z i l f m = absurd (omega arith)
   row-at (c ∷ cs) z zero l f m =
       let k : 0 * n + f ≡ f = omega arith in
-      rw k (List·getD-append (map valueByte c) (rows cs) 0 f (omega (arith, length-map c valueByte, z 0 (omega arith))) ∙ List·getD-map valueByte c f false)
+      rw k (List·getD-append (map flag c) (rows cs) 0 f (omega (arith, length-map c flag, z 0 (omega arith))) ∙ List·getD-map flag c f false)
   row-at (c ∷ cs) z (suc i) l f m =
-      let s : length (map valueByte c) ≡ n = length-map c valueByte ∙ z 0 (omega arith) in
-      let k : suc i * n + f ≡ length (map valueByte c) + (i * n + f) = omega (arith, suc-mul i n) in
-      rw k (getD-append-add (map valueByte c) (rows cs) (i * n + f) 0 ∙ row-at cs (λ j h. z (suc j) (omega arith)) i (omega arith) f m)
+      let s : length (map flag c) ≡ n = length-map c flag ∙ z 0 (omega arith) in
+      let k : suc i * n + f ≡ length (map flag c) + (i * n + f) = omega (arith, suc-mul i n) in
+      rw k (getD-append-add (map flag c) (rows cs) (i * n + f) 0 ∙ row-at cs (λ j h. z (suc j) (omega arith)) i (omega arith) f m)
 
   -- a run that was written down
   pub rows-in :

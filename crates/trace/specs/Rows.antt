@@ -10,8 +10,8 @@ use Rattle.model.specs.Kleene.{Kleene, known, two}
 use Rattle.model.specs.Formula.{fact, denial}
 use Rattle.model.specs.Action.{Effect}
 use Rattle.model.specs.Run.{reached, run}
-use Rattle.model.specs.Case.{Task}
-use Rattle.model.specs.Relevance.{hasEntry, relevant, states, valueByte, rows}
+use Rattle.model.specs.Case.{flag, Task}
+use Rattle.model.specs.Relevance.{hasEntry, relevant, states, rows}
 use Rattle.model.specs.ProblemBytes.{effectsBytes}
 use Rattle.model.specs.WellFormed.{EffectsOk}
 use Rattle.model.specs.Planes.{Table}
@@ -21,7 +21,7 @@ use Rattle.names.specs.Names.{FactSet}
 -- the state st of every lane stands in the bytes from `at` on
 pub record PutsRow (c : List ℕ) (facts : ℕ) (before : List ℕ) (at : ℕ) (after : List ℕ) : Type 0 where
   pub size : length after ≡ length before
-  pub is : (st : List Bool) → length st ≡ facts → Table c (λ j. map known st) → after ≡ sets before at (map valueByte st)
+  pub is : (st : List Bool) → length st ≡ facts → Table c (λ j. map known st) → after ≡ sets before at (map flag st)
 
 -- the states of its run do, one after another, if the run is reached
 pub record PutsRun (problem steps actions : List ℕ) (facts : ℕ) (c before after : List ℕ) : Type 0 where
@@ -37,7 +37,7 @@ rowValue work at f j = known (eqb (getD work (at + f) 0) 1)
 
 -- the state st stands in the row at `at`
 abbrev pub RowAt : List ℕ → ℕ → ℕ → List Bool → Type 0
-RowAt work at n st = (f : ℕ) → f < n → getD work (at + f) 0 ≡ valueByte (getD st f false)
+RowAt work at n st = (f : ℕ) → f < n → getD work (at + f) 0 ≡ flag (getD st f false)
 
 -- the states st and st′ agree on the facts for which there is no entry
 abbrev pub AgreeElsewhere : List Effect → ℕ → List Bool → List Bool → Type 0

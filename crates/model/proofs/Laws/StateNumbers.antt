@@ -8,15 +8,11 @@ use native.Mathlib.Omega.{arith}
 use lib.ListN.{length, getD}
 use lib.Dec.{eqb}
 use lib.Pow.{pow-pos, pow-add, high, low, split, field, mod-mod-pow, shr-lt}
-use Rattle.model.specs.Case.{bit}
+use Rattle.model.specs.Case.{bit, flag}
 use Rattle.model.specs.Relevance.{numberOf}
 use Rattle.model.proofs.Laws.Cover.{Block}
 
 -- ---- the top bit, and the others
-
-abbrev flag : Bool → ℕ
-flag true = 1
-flag false = 0
 
 bit-of-rest : (w x i : ℕ) → i < w → bit (suc w) x (suc i) ≡ bit w (x % 2 ^ w) i
 unfolding bit
@@ -46,8 +42,7 @@ top-bit w r b h =
 
 cons-is : (w : ℕ) (b : Bool) (bs : List Bool) → numberOf (suc w) (b ∷ bs) ≡ flag b * 2 ^ w + numberOf w bs
 unfolding numberOf
-cons-is w true bs = let e : suc w - 1 ≡ w = omega arith in rw e (omega arith)
-cons-is w false bs = let e : suc w - 1 ≡ w = omega arith in rw e (omega arith)
+cons-is w b bs = let e : suc w - 1 ≡ w = omega arith in rw e refl
 
 below-double : (w r : ℕ) (b : Bool) → r < 2 ^ w → flag b * 2 ^ w + r < 2 ^ suc w
 below-double w r true h = omega (arith, pow-suc 2 w)

@@ -17,8 +17,8 @@ use Rattle.model.specs.Answer.{Answer, refused, answered}
 use Rattle.model.specs.Kleene.{two}
 use Rattle.model.specs.Action.{Action, step}
 use Rattle.model.specs.Run.{Outcome, reached, missed, blocked}
-use Rattle.model.specs.Case.{stateOf, Task, runOf, IsState}
-use Rattle.model.specs.Relevance.{states, rows, valueByte, relevantTo, workBytes, runRows, AgreeOn}
+use Rattle.model.specs.Case.{flag, stateOf, Task, runOf, IsState}
+use Rattle.model.specs.Relevance.{states, rows, relevantTo, workBytes, runRows, AgreeOn}
 use Rattle.model.specs.Operations.{Written, readTask, whenReached, tracedBack, reachedTask, relevantFacts}
 use Rattle.model.specs.Demands.{Relevance}
 use Rattle.model.proofs.Laws.Tasks.{state-tested, run-answers}
@@ -28,9 +28,9 @@ use Rattle.model.proofs.Laws.Relevance.{start-length, step-length, rest
 
 pub rows-length : (n : ℕ) (plan : List Action) (c : List Bool) → length c ≡ n → length (rows (states n plan c)) ≡ suc (length plan) * n
 unfolding states rows
-rows-length n [] c z = rw (append-nil (map valueByte c), length-map c valueByte, z) (omega arith)
+rows-length n [] c z = rw (append-nil (map flag c), length-map c flag, z) (omega arith)
 rows-length n (a ∷ plan) c z =
-    rw (length-append (map valueByte c) (rows (states n plan (step two n a c))), length-map c valueByte, z, rows-length n plan (step two n a c) (step-length n a c))
+    rw (length-append (map flag c) (rows (states n plan (step two n a c))), length-map c flag, z, rows-length n plan (step two n a c) (step-length n a c))
     (omega (arith, suc-mul (suc (length plan)) n))
 
 -- ---- the answers by cases
