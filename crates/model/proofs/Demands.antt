@@ -20,7 +20,7 @@ use Rattle.model.proofs.Laws.Reading.{answer-got}
 use Rattle.model.proofs.Laws.ProblemCodec.{problem-gives, problem-ok, plan-gives, plan-ok}
 use Rattle.model.proofs.Laws.ListCodec.{list-sound, list-ok}
 use Rattle.model.proofs.Laws.Tasks.{answer-then, task-fits}
-use Rattle.model.proofs.Laws.Tracing.{relevances, work-unchanged}
+use Rattle.model.proofs.Laws.Tracing.{relevances, work-unchanged, run-first}
 use Rattle.model.proofs.Laws.Judging.{verdicts}
 use Rattle.model.proofs.Laws.RunningEnd.{running-end}
 use Rattle.model.proofs.Laws.Lists.{written-answered, refused-unchanged, wrote, lists, n≤w}
@@ -43,6 +43,7 @@ module _ (F : Limits) (S : Sensible F) where
         refused-unchanged =
             λ problem plan grant out n q e. refused-unchanged F out n q (listFor F problem plan grant (length out)) e;
         refused-work-unchanged = work-unchanged F;
+        run-refuses-first = run-first F;
         rest-unchanged =
             λ problem plan grant out n e.
             answer-then (written-answered F out n (listFor F problem plan grant (length out)) e .1) λ T given _.

@@ -46,6 +46,10 @@ pub record Demand1 (F : Limits) : Type 0 where
   pub refused-work-unchanged :
       (problem plan : List ℕ) (s : ℕ) (work : List ℕ) (n q : ℕ) →
       relevantFacts F problem plan s work .answer ≡ refused n q → relevantFacts F problem plan s work .buffer ≡ work
+  -- "It refuses, after the run's refusals, with 41 .. and 42" (W-204): what the run refuses is refused alike
+  pub run-refuses-first :
+      (problem plan : List ℕ) (s : ℕ) (work : List ℕ) (n q : ℕ) →
+      runState F problem plan s ≡ refused n q → relevantFacts F problem plan s work .answer ≡ refused n q
   -- "A call that writes changes nothing past what it is said to write, and returns the length of each block it wrote."
   pub rest-unchanged :
       (problem plan : List ℕ) (grant : ℕ) (out : List ℕ) (n : ℕ) → writeList F problem plan grant out .answer ≡ answered n →

@@ -13,7 +13,7 @@ use numbers::wide;
 const MARKS: u8 = 128;
 
 // The bits of a word.
-const WORD: usize = 64;
+pub const WORD: usize = 64;
 
 // The set of one fact.
 pub fn fact_bit(fact: usize) -> u64

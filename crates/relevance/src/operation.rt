@@ -18,11 +18,9 @@ use model::Problem;
 use model::Refusal;
 use model::RelevantAnswer;
 use model::RunAnswer;
+use names::WORD;
 use trace::put_run;
 use trace::trace_back;
-
-// The bits of a word.
-const WORD: usize = 64;
 
 // What a call refuses before it writes.
 pub enum Checked {

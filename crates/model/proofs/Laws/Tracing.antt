@@ -1,9 +1,9 @@
 -- The operation that tells which start facts an outcome rests on (W-204): its answers by cases, and what they say. Assumes nothing.
 use mathlib.Core.Path.{_≡_, refl, sym, ap, subst, _∙_}
-use mathlib.Core.Bool.{Bool, cond}
+use mathlib.Core.Bool.{Bool, true, false, cond}
 use mathlib.Core.Logic.{_≢_, inl, inr}
 use mathlib.Core.List.{List, [], _∷_, _++_, map, append-nil}
-use Prim.Native.Nat.{ℕ, suc, _+_, _*_, _≤_, _<_}
+use Prim.Native.Nat.{ℕ, suc, _*_, _≤_, _<_}
 use native.Mathlib.Nat.{suc-mul}
 use native.Mathlib.Omega.{arith}
 use native.Mathlib.Decide.{decLt}
@@ -19,7 +19,7 @@ use Rattle.model.specs.Action.{Action, step}
 use Rattle.model.specs.Run.{Outcome, reached, missed, blocked}
 use Rattle.model.specs.Case.{flag, stateOf, Task, runOf, IsState}
 use Rattle.model.specs.Relevance.{states, rows, relevantTo, workBytes, runRows, AgreeOn}
-use Rattle.model.specs.Operations.{Written, readTask, whenReached, tracedBack, reachedTask, relevantFacts}
+use Rattle.model.specs.Operations.{Written, isState, stateAnswer, readTask, runState, whenReached, tracedBack, reachedTask, relevantFacts}
 use Rattle.model.specs.Demands.{Relevance}
 use Rattle.model.proofs.Laws.Tasks.{state-tested, run-answers}
 use Rattle.model.proofs.Laws.Relevance.{start-length, step-length, rests-on}
@@ -141,3 +141,28 @@ work-unchanged F problem plan s work n q e = kept (reachedTask F problem plan s 
     kept : (x : Answer Task) → tracedBack s work x .answer ≡ refused n q → tracedBack s work x .buffer ≡ work
     kept (refused m p) e = refl
     kept (answered T) e = let z : _≡_ {A = ℕ} 0 1 = cc in absurd (omega arith)
+
+-- what the run refuses is refused alike, whatever the work area
+pub run-first :
+    (F : Limits) (problem plan : List ℕ) (s : ℕ) (work : List ℕ) (n q : ℕ) → runState F problem plan s ≡ refused n q →
+    relevantFacts F problem plan s work .answer ≡ refused n q
+unfolding relevantFacts reachedTask runState Answer._>>=_
+run-first F problem plan s work n q e = by-task (readTask F problem plan) e
+  where
+    rest : Task → Outcome → Answer Task
+    rest T o = whenReached o (cond (ltb (length work) (workBytes T)) (refused 42 0) (answered T))
+
+    same : (m p : ℕ) → _≡_ {A = Answer Outcome} (refused m p) (refused n q) → _≡_ {A = Answer ℕ} (refused m p) (refused n q)
+    same m p h = let a : m ≡ n = cc in let b : p ≡ q = cc in rw (a, b) refl
+
+    by-state :
+        (T : Task) (b : Bool) → cond b (answered (runOf T s)) (refused 40 0) ≡ refused n q →
+        tracedBack s work (Answer._>>=_ (cond b (answered (runOf T s)) (refused 40 0)) (rest T)) .answer ≡ refused n q
+    by-state T true h = let z : _≡_ {A = ℕ} 0 1 = cc in absurd (omega arith)
+    by-state T false h = same 40 0 h
+
+    by-task :
+        (x : Answer Task) → Answer._>>=_ x (λ T. stateAnswer T s) ≡ refused n q →
+        tracedBack s work (Answer._>>=_ x (λ T. Answer._>>=_ (stateAnswer T s) (rest T))) .answer ≡ refused n q
+    by-task (refused m p) h = same m p h
+    by-task (answered T) h = by-state T (isState T s) h
