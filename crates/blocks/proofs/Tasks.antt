@@ -1,9 +1,8 @@
 -- What is found of a problem and a plan, as the operations have it. Assumes nothing.
 use mathlib.Core.Path.{_≡_, refl, sym, ap, _∙_}
 use mathlib.Core.Bool.{true, false, true≢false}
-use mathlib.Core.List.{List, [], _∷_}
-use Prim.Native.Nat.{ℕ, zero, suc, _+_, _-_, _<_}
-use native.Mathlib.Nat.{not-suc-le-zero}
+use mathlib.Core.List.{List}
+use Prim.Native.Nat.{ℕ, _+_, _-_, _<_}
 use native.Mathlib.Omega.{arith}
 use lib.ListN.{length, getD, drop}
 use lib.Seq.{getD-drop}
@@ -23,30 +22,29 @@ use Rattle.formula.proofs.Readers.{Got}
 use Rattle.blocks.specs.declared.problem.Found.{Found}
 use Rattle.blocks.specs.declared.plan.Task.{Task}
 use Rattle.blocks.specs.Parts.{Placed, Finds, TaskAt, FindsTask}
-use Rattle.blocks.proofs.Standing.{stands-found}
+use Rattle.blocks.proofs.Standing.{each-below, stands-found}
 use Rattle.blocks.proofs.Promise.{not-refused}
 
 -- ---- the problem
 
 module _ {F : Limits} {s : List ℕ} {r : Found} (f : Finds F s (problem F s 0) r) where
-  problem-found : r .refused ≡ false → (p : Problem) × (problemOf F s ≡ answered p) × Placed F s (r .problem) p
+  pub problem-refused : r .refused ≡ true → problemOf F s ≡ refusal (r .refusal)
+  unfolding problemOf answerOf
+  problem-refused h = rw (f .refusal h)
+
+  pub problem-found : r .refused ≡ false → (p : Problem) × (problemOf F s ≡ answered p) × Placed F s (r .problem) p
   unfolding problemOf answerOf
   problem-found h = let (p, q, e, w) = f .found h in (p, ap answerOf e, w)
 
   pub read-problem-refused : r .refused ≡ true → refusal (r .refusal) ≡ readProblem F s
-  unfolding readProblem problemOf answerOf _>>=_
-  read-problem-refused h = rw (f .refusal h)
+  unfolding readProblem _>>=_
+  read-problem-refused h = rw (problem-refused h)
 
   pub read-problem-found : r .refused ≡ false → answered (record { facts = r .problem .facts; actions = r .problem .actions }) ≡ readProblem F s
   unfolding readProblem _>>=_
   read-problem-found h = let (p, e, w) = problem-found h in rw e (λ i. answered (record { facts = w .facts i; actions = w .actions i }))
 
 -- ---- a plan that was read
-
-each-below : {m : ℕ} (bs : List ℕ) → Each (λ b. b < m) bs → (i : ℕ) → i < length bs → getD bs i 0 < m
-each-below [] k i l = absurd (not-suc-le-zero l)
-each-below (b ∷ bs) (h, k) zero l = h
-each-below (b ∷ bs) (h, k) (suc i) l = each-below bs k i (omega arith)
 
 -- it ends with its block, and its steps are all that follows the header
 pub plan-read :
@@ -66,8 +64,8 @@ finds-none v e = record { limits = v; refusal = λ z. e; found = λ z. absurd (t
 
 module _ {F : Limits} {s : List ℕ} {r : Found} (f : Finds F s (problem F s 0) r) (t : List ℕ) where
   pub no-problem : r .refused ≡ true → readTask F s t ≡ refusal (r .refusal)
-  unfolding readTask problemOf answerOf _>>=_
-  no-problem h = rw (f .refusal h)
+  unfolding readTask _>>=_
+  no-problem h = rw (problem-refused f h)
 
   module _ (h : r .refused ≡ false) where
     pub no-plan : {y : Refusal} → plan t (r .problem .actions) 0 ≡ rejected y → readTask F s t ≡ refusal y

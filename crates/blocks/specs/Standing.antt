@@ -1,14 +1,16 @@
 -- A task that was found in its blocks: each part is known by the bytes that encode it, and by no reader.
 use mathlib.Core.Path.{_≡_}
 use mathlib.Core.List.{List}
-use Prim.Native.Nat.{ℕ, _+_, _≤_}
+use Prim.Native.Nat.{ℕ, _+_, _≤_, _<_}
 use lib.ListN.{length, drop}
 use Rattle.model.specs.declared.Limits.{Limits}
+use Rattle.model.specs.Limits.{maxActions}
 use Rattle.model.specs.Answer.{answered}
 use Rattle.model.specs.Case.{Task}
 use Rattle.model.specs.Read.{headBytes}
-use Rattle.model.specs.Operations.{readTask}
-use Rattle.model.specs.WellFormed.{Sensible}
+use Rattle.model.specs.ProblemBytes as bytes
+use Rattle.model.specs.Operations.{taskOf, readTask}
+use Rattle.model.specs.WellFormed.{Each, Sensible}
 use Rattle.model.specs.Stands.{TaskStands}
 use Rattle.model.specs.declared.Problem.{Problem}
 use Rattle.blocks.specs.declared.problem.Places.{Places}
@@ -27,6 +29,12 @@ placesOf parts = record { initial = parts .initial; goal = parts .goal }
 -- the same, where `parts` says
 abbrev pub TaskIn : Limits → List ℕ → List ℕ → Problem → Task → Type 0
 TaskIn F problem steps parts T = VersionTask F problem steps (parts .action) (parts .facts) (placesOf parts) T
+
+-- the problem p stands where `parts` says: so does the task that any of its plans makes
+pub record ProblemIn (F : Limits) (problem : List ℕ) (parts : Problem) (p : bytes.Problem) : Type 0 where
+  pub count : parts .actions ≡ length (p .actions)
+  pub few : length (p .actions) ≤ maxActions
+  pub task : (steps : List ℕ) → Each (λ b. b < length (p .actions)) steps → TaskIn F problem steps parts (taskOf F p steps)
 
 -- a problem and a plan that were found are read as some task, by the numbers F of a version; it is of the version whose numbers were
 -- found, and stands there; a plan's steps are all that follows its header

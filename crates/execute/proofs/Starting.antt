@@ -48,7 +48,8 @@ use Rattle.evaluate.specs.Planes.{FormulaPlanes}
 use Rattle.step.specs.declared.conflict.Going.{Going}
 use Rattle.step.specs.Actions.{ObeysAction}
 use Rattle.step.proofs.Conflicts.{flag-true, flag-false}
-use Rattle.look.proofs.Lanes.{runFrom, stopAt, after, sized-after, acting-at, turned, ended}
+use Rattle.look.specs.Cases.{runFrom}
+use Rattle.look.proofs.Lanes.{stopAt, after, sized-after, acting-at, turned, ended}
 use Rattle.unmet.specs.Members.{UnmetPart}
 
 -- ---- the table

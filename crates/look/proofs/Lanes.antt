@@ -28,7 +28,7 @@ use Rattle.step.specs.declared.conflict.Going.{Going}
 use Rattle.step.specs.Actions.{ObeysAction}
 use Rattle.step.proofs.Conflicts.{sure-flag}
 use Rattle.look.specs.declared.Looks.{Looks}
-use Rattle.look.specs.Cases.{reachedBit, RunsCases, lookBits, LooksAtCases}
+use Rattle.look.specs.Cases.{reachedBit, runFrom, Running, RunsCases, lookBits, LooksAtCases}
 
 -- ---- bits
 
@@ -51,10 +51,6 @@ turn-bit :
 turn-bit a a′ b o o′ s e f = rw (e, goes-bit b o′ s, f) (omega arith)
 
 -- ---- the run of a task that stands there
-
--- what is left of a run, from step i on
-abbrev pub runFrom : Task → ℕ → List Kleene → Run.Outcome
-runFrom T i v = run three (T .facts) (T .goal) (drop i (T .plan)) i v
 
 -- where it is blocked if step i is not applicable
 abbrev pub stopAt : Task → ℕ → List Kleene → Stop
@@ -112,15 +108,6 @@ module _ (problem steps actions : List ℕ) (goal i : ℕ) where
       let (q, g) = S .reaching in
       let (_, lanes) = x .is (T .facts) (T .goal) q (omega (arith, S .most)) g in
       (isYes (eval three (now′ j) (T .goal)), lanes now′ u .lane j l .is-sure ∙ sure-flag (eval three (now′ j) (T .goal)), run-end T i (now′ j) (omega (arith, S .counted)))
-
--- after i steps: the lanes that go on, and the table of their values
-pub record Running (problem steps actions : List ℕ) (goal lanes : ℕ) (c : List ℕ) (i alive : ℕ) (d : List ℕ) : Type 0 where
-  pub size : length d ≡ 256
-  pub few : i ≤ length steps
-  pub is :
-      (initial : ℕ) (T : Task) → TaskStands problem steps actions initial goal T → (case : ℕ → List Kleene) → Sized (T .facts) case → Table c case →
-      (now′ : ℕ → List Kleene) × Sized (T .facts) now′ × Table d now′ ×
-      ((j : ℕ) → j < 64 → min (laneBit j lanes) (reachedBit (runFrom T 0 (case j))) ≡ min (laneBit j alive) (reachedBit (runFrom T i (now′ j))))
 
 pub running-begins : (problem steps actions : List ℕ) (goal lanes : ℕ) (c : List ℕ) → length c ≡ 256 → Running problem steps actions goal lanes c 0 lanes c
 running-begins problem steps actions goal lanes c w =

@@ -23,6 +23,7 @@ use Rattle.model.proofs.Laws.Tasks.{answer-then, task-fits}
 use Rattle.model.proofs.Laws.Tracing.{relevances, work-unchanged, run-first}
 use Rattle.model.proofs.Laws.Judging.{verdicts}
 use Rattle.model.proofs.Laws.RunningEnd.{running-end}
+use Rattle.model.proofs.Laws.Searching.{problem-first, searching}
 use Rattle.model.proofs.Laws.Lists.{written-answered, refused-unchanged, wrote, lists, n≤w}
 
 module _ (F : Limits) (S : Sensible F) where
@@ -44,6 +45,7 @@ module _ (F : Limits) (S : Sensible F) where
             λ problem plan grant out n q e. refused-unchanged F out n q (listFor F problem plan grant (length out)) e;
         refused-work-unchanged = work-unchanged F;
         run-refuses-first = run-first F;
+        problem-refuses-first = problem-first F;
         rest-unchanged =
             λ problem plan grant out n e.
             answer-then (written-answered F out n (listFor F problem plan grant (length out)) e .1) λ T given _.
@@ -58,6 +60,7 @@ module _ (F : Limits) (S : Sensible F) where
         demand2 = λ problem plan T given. verdicts T (n≤w F S T (task-fits F problem plan T given)) F problem plan given;
         demand3 = λ problem plan T given. lists F S T (task-fits F problem plan T given) problem plan given;
         relevance = λ problem plan T given. relevances F problem plan T given (n≤w F S T (task-fits F problem plan T given));
+        searching = searching F S;
       }
 
 pub version1-sensible : Sensible version1

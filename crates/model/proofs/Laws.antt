@@ -24,3 +24,5 @@ pub mod Judging
 pub mod Lists
 pub mod Covers
 pub mod NoStart
+pub mod Plans
+pub mod Searching

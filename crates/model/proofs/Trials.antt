@@ -7,7 +7,7 @@ use Rattle.model.specs.Limits.{version1}
 use Rattle.model.specs.Walk.{Line, Verdict, walked}
 use Rattle.model.specs.DeskText.{verdictLine, verdictRest}
 use Rattle.model.specs.Operations.{lineCount}
-use Rattle.model.specs.Trials.{Row, reply, P-no-start, starred, NoStart, edges, DeskGrant, unmet-members, conflicts, running-ends, relevances}
+use Rattle.model.specs.Trials.{Row, reply, P-no-start, starred, NoStart, edges, DeskGrant, unmet-members, conflicts, running-ends, relevances, searches}
 use Rattle.model.proofs.Laws.Tasks.{task-fits}
 use Rattle.model.proofs.Laws.Judging.{judged-in, judged-out}
 use Rattle.model.proofs.Laws.NoStart.{no-start}
@@ -38,6 +38,10 @@ running-ends-hold = refl
 pub relevances-hold : Hold relevances
 unfolding reply
 relevances-hold = refl
+
+pub searches-hold : Hold searches
+unfolding reply
+searches-hold = refl
 
 pub no-start-holds : NoStart
 unfolding reply

@@ -1,9 +1,12 @@
 -- The answer enums of src/lib.rt: the paper's number and values for each of their cases. The contracts of the operations are
 -- equations between these and the definitions of Operations.
+use mathlib.Core.List.{List}
 use Prim.Native.Nat.{ℕ}
+use lib.ListN.{take}
 use Rattle.model.specs.Answer.{Answer, refused, answered}
 use Rattle.model.specs.Run as Run
 use Rattle.model.specs.Walk.{Verdict, right, wrong, undecided}
+use Rattle.model.specs.Search.{Search, firstRight, noneRight, undecidedAt}
 use Rattle.model.specs.Operations.{Counts}
 use Rattle.model.specs.declared.Refusal.{Refusal}
 use Rattle.model.specs.declared.Part.{Part}
@@ -26,6 +29,10 @@ use Rattle.model.specs.declared.FollowAnswer.{FollowAnswer}
 use Rattle.model.specs.declared.FollowAnswer.the-variants.{Refused as FollowRefused, Passes}
 use Rattle.model.specs.declared.RelevantAnswer.{RelevantAnswer}
 use Rattle.model.specs.declared.RelevantAnswer.the-variants.{Refused as RelevantRefused, Facts}
+use Rattle.model.specs.declared.ShortPlan.{ShortPlan}
+use Rattle.model.specs.declared.SearchEnd.{SearchEnd}
+use Rattle.model.specs.declared.SearchEnd.the-variants.{Refused as SearchRefused, Found, NoneRight, Undecided as SearchUndecided}
+use Rattle.model.specs.declared.SearchAnswer.{SearchAnswer}
 
 -- "Each refusal carries a number and a place"
 abbrev pub refusal : {A : Type 0} → Refusal → Answer A
@@ -82,3 +89,17 @@ coverAnswer (Ends e) = answered e
 abbrev pub relevantAnswer : RelevantAnswer → Answer ℕ
 relevantAnswer (RelevantRefused r) = refusal r
 relevantAnswer (Facts m) = answered m
+
+-- a plan of a search
+abbrev pub shortSteps : ShortPlan → List ℕ
+shortSteps p = take (p .length) (p .steps)
+
+-- "the first right plan, or that none is right, or undecided .., each with the visits used in all" (W-205)
+abbrev pub searchEnds : SearchEnd → List ℕ → ℕ → Answer Search
+searchEnds (SearchRefused r) p a = refusal r
+searchEnds Found p a = answered (firstRight p a)
+searchEnds NoneRight p a = answered (noneRight a)
+searchEnds SearchUndecided p a = answered (undecidedAt p a)
+
+abbrev pub searchAnswer : SearchAnswer → Answer Search
+searchAnswer r = searchEnds (r .end) (shortSteps (r .plan)) (r .visits)

@@ -5,21 +5,23 @@
 -- operation's contract is an equation with its definition, so what is said here of a definition holds of the code's answer.
 use mathlib.Core.Path.{_≡_}
 use mathlib.Core.Logic.{_↔_, _≢_}
-use mathlib.Core.List.{List}
-use Prim.Native.Nat.{ℕ, suc, _-_, _*_, _/_, _≤_, _<_}
+use mathlib.Core.List.{List, _∷_, _++_}
+use Prim.Native.Nat.{ℕ, suc, _+_, _-_, _*_, _/_, _≤_, _<_}
 use lib.ListN.{length, take, drop}
 use Rattle.model.specs.declared.Limits.{Limits}
+use Rattle.model.specs.Limits.{maxLength, maxPlans}
 use Rattle.model.specs.Answer.{refused, answered}
 use Rattle.model.specs.Run.{Outcome, reached}
 use Rattle.model.specs.Case.{stateOf, Task, runOf, IsState, IsStart, Right}
 use Rattle.model.specs.Belief.{Solution, initialBelief, OutcomeMeans}
 use Rattle.model.specs.Walk.{Line, covered, Verdict, right, wrong, undecided, visits, lookAt, walked}
 use Rattle.model.specs.Relevance.{relevantTo, workBytes, runRows, AgreeOn}
+use Rattle.model.specs.Search.{Search, firstRight, noneRight, undecidedAt, plansUpTo, search, visitsOf, IsShort, Earlier, Enumerates}
 use Rattle.model.specs.Read.{headBytes}
 use Rattle.model.specs.ProblemBytes.{Problem, problemOf, planOf, encodeProblem, encodePlan}
 use Rattle.model.specs.ListBytes.{listOf, encodeList}
 use Rattle.model.specs.WellFormed.{Bytes, Each, ProblemOk, PlanOk, ListOk, LineHolds, Joined}
-use Rattle.model.specs.Operations.{taskOf, readTask, runState, judge, listBytes, writeList, followList, relevantFacts}
+use Rattle.model.specs.Operations.{taskOf, readTask, runState, judge, listBytes, writeList, followList, relevantFacts, searchPlans}
 
 -- Demand 1, "All input": ".. refuses malformed blocks by number and place in the stated order, calls nothing else malformed, and a
 -- refused call changes no byte." The order is the text of the readers (FormulaBytes, ProblemBytes, ListBytes).
@@ -50,6 +52,9 @@ pub record Demand1 (F : Limits) : Type 0 where
   pub run-refuses-first :
       (problem plan : List ℕ) (s : ℕ) (work : List ℕ) (n q : ℕ) →
       runState F problem plan s ≡ refused n q → relevantFacts F problem plan s work .answer ≡ refused n q
+  -- "It refuses, after the problem's refusals, with 43 .. and 44" (W-205): what reading the problem refuses is refused alike
+  pub problem-refuses-first :
+      (problem : List ℕ) (longest grant n q : ℕ) → problemOf F problem ≡ refused n q → searchPlans F problem longest grant ≡ refused n q
   -- "A call that writes changes nothing past what it is said to write, and returns the length of each block it wrote."
   pub rest-unchanged :
       (problem plan : List ℕ) (grant : ℕ) (out : List ℕ) (n : ℕ) → writeList F problem plan grant out .answer ≡ answered n →
@@ -185,8 +190,74 @@ pub record Relevance (F : Limits) (problem plan : List ℕ) (T : Task) : Type 0 
       (take (workBytes T) (relevantFacts F problem plan s work .buffer) ≡ runRows T s) ×
       (drop (workBytes T) (relevantFacts F problem plan s work .buffer) ≡ drop (workBytes T) work)
 
+-- what an answer of a search says, of any list of plans, each of which makes a task
+module _ (task : List ℕ → Task) (plans : List (List ℕ)) (grant : ℕ) where
+  abbrev pub NotRight : List ℕ → Type 0
+  NotRight p = Right (task p) → ⊥
+
+  -- the plan p stands in the list after those of `before`, and none of them is right; all of their walks are within the grant
+  pub record ComesTo (before : List (List ℕ)) (p : List ℕ) : Type 0 where
+    pub after : List (List ℕ)
+    pub stands : plans ≡ before ++ (p ∷ after)
+    pub none-before : Each NotRight before
+    pub within : visitsOf task before ≤ grant
+
+  -- "the first right plan", with "the visits used in all"
+  pub record SaysFirstRight (p : List ℕ) (used : ℕ) : Type 0 where
+    pub before : List (List ℕ)
+    pub comes-to : ComesTo before p
+    pub is-right : Right (task p)
+    pub is-used : used ≡ visitsOf task before + visits (walked (task p))
+    pub granted : used ≤ grant
+
+  -- "that none is right"
+  pub record SaysNoneRight (used : ℕ) : Type 0 where
+    pub none : Each NotRight plans
+    pub is-used : used ≡ visitsOf task plans
+    pub granted : used ≤ grant
+
+  -- "undecided with the first plan whose walk needs more than the visits left"
+  pub record SaysUndecidedAt (p : List ℕ) (used : ℕ) : Type 0 where
+    pub before : List (List ℕ)
+    pub comes-to : ComesTo before p
+    pub needs-more : grant < visitsOf task before + visits (walked (task p))
+    pub all-used : used ≡ grant
+
+  abbrev pub SearchSays : Search → Type 0
+  SearchSays (firstRight p used) = SaysFirstRight p used
+  SearchSays (noneRight used) = SaysNoneRight used
+  SearchSays (undecidedAt p used) = SaysUndecidedAt p used
+
+-- W-205, for a problem that is read as p: "Try every short plan, in order"
+pub record Searching (F : Limits) (problem : List ℕ) (p : Problem) : Type 0 where
+  -- "every plan up to that length, by length and then by step numbers from the first step on, each exactly once"
+  pub enumerates : (longest : ℕ) → Enumerates (length (p .actions)) longest (plansUpTo (length (p .actions)) longest)
+  -- "43 for a length over 4 and 44 if there are more than 1,000,000 plans of those lengths"; otherwise it answers
+  pub over-length : (longest grant : ℕ) → maxLength < longest → searchPlans F problem longest grant ≡ refused 43 0
+  pub too-many :
+      (longest grant : ℕ) → longest ≤ maxLength → maxPlans < length (plansUpTo (length (p .actions)) longest) →
+      searchPlans F problem longest grant ≡ refused 44 0
+  -- each answer exactly if it is so
+  pub says :
+      (longest grant : ℕ) → longest ≤ maxLength → length (plansUpTo (length (p .actions)) longest) ≤ maxPlans → (r : Search) →
+      (searchPlans F problem longest grant ≡ answered r) ↔ SearchSays (taskOf F p) (plansUpTo (length (p .actions)) longest) grant r
+  -- the plan found is right, and every plan before it is not
+  pub found-first :
+      (longest grant : ℕ) (q : List ℕ) (used : ℕ) → searchPlans F problem longest grant ≡ answered (firstRight q used) →
+      IsShort (length (p .actions)) longest q × Right (taskOf F p q) ×
+      ((b : List ℕ) → IsShort (length (p .actions)) longest b → Earlier b q → Right (taskOf F p b) → ⊥)
+  -- where none is right, no plan up to that length is
+  pub none-right :
+      (longest grant used : ℕ) → searchPlans F problem longest grant ≡ answered (noneRight used) →
+      (b : List ℕ) → IsShort (length (p .actions)) longest b → Right (taskOf F p b) → ⊥
+  -- a found or none answer stays the same under every larger grant
+  pub larger-grant :
+      (longest g g′ : ℕ) → g ≤ g′ → ((q : List ℕ) (used : ℕ) → searchPlans F problem longest g ≢ answered (undecidedAt q used)) →
+      searchPlans F problem longest g′ ≡ searchPlans F problem longest g
+
 pub record Demands (F : Limits) : Type 0 where
   pub demand1 : Demand1 F
   pub demand2 : (problem plan : List ℕ) (T : Task) → readTask F problem plan ≡ answered T → Demand2 F problem plan T
   pub demand3 : (problem plan : List ℕ) (T : Task) → readTask F problem plan ≡ answered T → Demand3 F problem plan T
   pub relevance : (problem plan : List ℕ) (T : Task) → readTask F problem plan ≡ answered T → Relevance F problem plan T
+  pub searching : (problem : List ℕ) (p : Problem) → problemOf F problem ≡ answered p → Searching F problem p

@@ -11,6 +11,7 @@ pub mod Answer
 pub mod CaseList
 pub mod Cover
 pub mod Relevance
+pub mod Search
 pub mod Read
 pub mod FormulaBytes
 pub mod ProblemBytes

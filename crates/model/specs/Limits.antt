@@ -20,6 +20,13 @@ maxFormulaBytes = 1024
 abbrev pub maxDepth : ℕ
 maxDepth = 8
 
+-- "a longest length of 0 to 4", and at most "1,000,000 plans of those lengths" (W-205)
+abbrev pub maxLength : ℕ
+maxLength = 4
+
+abbrev pub maxPlans : ℕ
+maxPlans = 1000000
+
 -- what every version keeps to: a denial's byte is its fact's and 64 more, and a fact has two literals
 abbrev pub maxFacts : ℕ
 maxFacts = 64

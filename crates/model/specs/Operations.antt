@@ -6,6 +6,7 @@ use Prim.Native.Nat.{ℕ, _+_, _-_, _*_, _%_, _^_}
 use lib.ListN.{length, take, drop}
 use lib.Dec.{eqb, ltb}
 use Rattle.model.specs.declared.Limits.{Limits}
+use Rattle.model.specs.Limits.{maxLength, maxPlans}
 use Rattle.model.specs.Answer.{Answer, refused, answered, _>>=_}
 use Rattle.model.specs.Run.{Outcome, reached, missed, blocked}
 use Rattle.model.specs.Case.{Task, runOf}
@@ -13,6 +14,7 @@ use Rattle.model.specs.Walk.{Line, Verdict, right, wrong, undecided, loo
 use Rattle.model.specs.CaseList.{follow}
 use Rattle.model.specs.Cover.{coverEnd}
 use Rattle.model.specs.Relevance.{relevantTo, workBytes, runRows}
+use Rattle.model.specs.Search.{Search, plansUpTo, planCount, search}
 use Rattle.model.specs.Read.{headBytes}
 use Rattle.model.specs.ProblemBytes.{Problem, problemOf, planOf, actionAt}
 use Rattle.model.specs.ListBytes.{listOf, encodeList}
@@ -44,6 +46,10 @@ whenReached (blocked p) x = refused 41 0
 abbrev pub tracedBack : ℕ → List ℕ → Answer Task → Written
 tracedBack s work (refused n q) = record { answer = refused n q; buffer = work }
 tracedBack s work (answered T) = record { answer = answered (relevantTo T s); buffer = runRows T s ++ drop (workBytes T) work }
+
+-- "43 for a length over 4 and 44 if there are more than 1,000,000 plans of those lengths" (W-205)
+abbrev pub whenFew : {A : Type 0} → ℕ → ℕ → Answer A → Answer A
+whenFew m longest x = cond (ltb maxLength longest) (refused 43 0) (cond (ltb maxPlans (planCount m longest)) (refused 44 0) x)
 
 abbrev pub lineCount : Verdict (List Line) → Verdict ℕ
 lineCount (right ls a) = right (length ls) a
@@ -146,3 +152,9 @@ module _ (F : Limits) where
   -- area's first rows hold the states of the run, and the rest is unchanged
   unfoldable pub relevantFacts : List ℕ → List ℕ → ℕ → List ℕ → Written
   relevantFacts problem plan s work = tracedBack s work (reachedTask problem plan s (length work))
+
+  -- "Try every short plan, in order." It refuses "after the problem's refusals" (W-205)
+  unfoldable pub searchPlans : List ℕ → ℕ → ℕ → Answer Search
+  searchPlans problem longest grant = do
+    p ← problemOf F problem
+    whenFew (length (p .actions)) longest (answered (search (taskOf p) grant (plansUpTo (length (p .actions)) longest) 0))

@@ -2,7 +2,7 @@
 -- document 02 add: a call and what it gives. What no row can say, for every plan or for walks of a million visits, is a statement beside the tables.
 use mathlib.Core.Path.{_≡_}
 use mathlib.Core.List.{List, [], _∷_, _++_}
-use Prim.Native.Nat.{ℕ, _≤_, _<_}
+use Prim.Native.Nat.{ℕ, zero, suc, _≤_, _<_}
 use lib.ListN.{length, drop, replicate}
 use Rattle.model.specs.declared.Limits.{Limits}
 use Rattle.model.specs.Limits.{version1}
@@ -16,13 +16,14 @@ use Rattle.model.specs.Answer.{Answer, refused, answered}
 use Rattle.model.specs.CaseList.{first, refuseAt, ends, fault, follow}
 use Rattle.model.specs.Cover.{coverEnd}
 use Rattle.model.specs.Relevance.{names, some, hasEntry, mattersBefore, relevant, states, numberOf, rows, relevantTo, runRows}
+use Rattle.model.specs.Search.{Search, firstRight, noneRight, undecidedAt, eachStep, plansOf, plansFrom, plansUpTo, planCount, search}
 use Rattle.model.specs.Read.{andThen, _>>=_, _>>_, done, position, require, answerOf, bigEndianFrom, bytesOf, block, byte, counted, header, count}
 use Rattle.model.specs.FormulaBytes.{isLiteral, literalOf, groupHead, headFrom, head, members, whole, item, stated, formula}
 use Rattle.model.specs.ProblemBytes.{effect, effects, effectList, action, actions, ending, parts, body, problem, problemOf, steps, plan, planOf, actionAt}
 use Rattle.model.specs.ListBytes.{lineAt, linesFrom, caseList, listOf, lineBytes, linesBytes, encodeList}
 use Rattle.model.specs.Text.{ascii, hex}
 use Rattle.model.specs.DeskText.{digits, decimal, sentence, marks, refusalLine, rightLine, wrongLine, undecidedLine, verdictLine, lineText, linesText, listText, verdictRest, answerLine, answerRest, firstLine, laterLines, deskText}
-use Rattle.model.specs.Operations.{Counts, Written, isState, lineCount, readProblem, readPlan, taskOf, readTask, runState, judge, listBytes, linesFor, written, listFor, writeList, followList, coverAfter, reachedTask, relevantFacts}
+use Rattle.model.specs.Operations.{Counts, Written, isState, lineCount, readProblem, readPlan, taskOf, readTask, runState, judge, listBytes, linesFor, written, listFor, writeList, followList, coverAfter, reachedTask, relevantFacts, searchPlans}
 
 pub data Call : Type 0 where
   read-problem : List ℕ → Call
@@ -33,6 +34,7 @@ pub data Call : Type 0 where
   follow-list : List ℕ → List ℕ → List ℕ → Call
   cover-after : List ℕ → List ℕ → List ℕ → ℕ → Call
   relevant-facts : List ℕ → List ℕ → ℕ → List ℕ → Call
+  search-plans : List ℕ → ℕ → ℕ → Call
   desk : Limits → List ℕ → List ℕ → Call
 
 pub data Reply : Type 0 where
@@ -41,11 +43,12 @@ pub data Reply : Type 0 where
   outcome : Answer Outcome → Reply
   verdict : Answer (Verdict ℕ) → Reply
   writes : Written → Reply
+  searched : Answer Search → Reply
   text : List ℕ → Reply
 
 -- what the definitions give; a proof that unfolds this computes with all of them
 unfoldable pub reply : Call → Reply
-unfolding eval conditionIn every exclusive applicable next step firstFalse unmet lowestFalse partOf goesOn run bit stateOf caseOf runOf walkFrom walk lookAt walked judged Answer._>>=_ first refuseAt ends fault follow coverEnd andThen _>>=_ _>>_ done position require answerOf bigEndianFrom bytesOf block byte counted header count isLiteral literalOf groupHead headFrom head members whole item stated formula effect effects effectList action actions ending parts body problem problemOf steps plan planOf actionAt lineAt linesFrom caseList listOf lineBytes linesBytes encodeList isState readProblem readPlan taskOf readTask runState judge listBytes linesFor written listFor writeList followList coverAfter names some hasEntry mattersBefore relevant states numberOf rows relevantTo runRows reachedTask relevantFacts ascii hex digits decimal sentence marks refusalLine rightLine wrongLine undecidedLine verdictLine lineText linesText listText verdictRest answerLine answerRest firstLine laterLines deskText
+unfolding eval conditionIn every exclusive applicable next step firstFalse unmet lowestFalse partOf goesOn run bit stateOf caseOf runOf walkFrom walk lookAt walked judged Answer._>>=_ first refuseAt ends fault follow coverEnd andThen _>>=_ _>>_ done position require answerOf bigEndianFrom bytesOf block byte counted header count isLiteral literalOf groupHead headFrom head members whole item stated formula effect effects effectList action actions ending parts body problem problemOf steps plan planOf actionAt lineAt linesFrom caseList listOf lineBytes linesBytes encodeList isState readProblem readPlan taskOf readTask runState judge listBytes linesFor written listFor writeList followList coverAfter names some hasEntry mattersBefore relevant states numberOf rows relevantTo runRows reachedTask relevantFacts eachStep plansOf plansFrom plansUpTo planCount search searchPlans ascii hex digits decimal sentence marks refusalLine rightLine wrongLine undecidedLine verdictLine lineText linesText listText verdictRest answerLine answerRest firstLine laterLines deskText
 reply (read-problem p) = counts (readProblem version1 p)
 reply (read-plan p q) = number (readPlan version1 p q)
 reply (run-state p q s) = outcome (runState version1 p q s)
@@ -54,6 +57,7 @@ reply (write-list F p q g out) = writes (writeList F p q g out)
 reply (follow-list p q l) = number (followList version1 p q l)
 reply (cover-after p q l m) = number (coverAfter version1 p q l m)
 reply (relevant-facts p q s work) = writes (relevantFacts version1 p q s work)
+reply (search-plans p l g) = searched (searchPlans version1 p l g)
 reply (desk F p q) = text (deskText F p q)
 
 pub record Row : Type 0 where
@@ -437,4 +441,57 @@ relevances =
     ∷ (relevant-facts resting (block1 (0 ∷ [])) 0x080000000000 (replicate 7 7) ⇒ kept 40 0 (replicate 7 7))
     ∷ (relevant-facts resting (block1 (5 ∷ [])) 0x080000000000 (replicate 7 7) ⇒ kept 34 5 (replicate 7 7))
     ∷ (relevant-facts [] [] 0 (7 ∷ []) ⇒ kept 11 0 (7 ∷ []))
+    ∷ []
+
+-- so many actions with precondition fact 0 and no effect
+abbrev pub idle : ℕ → List ℕ
+idle zero = []
+idle (suc n) = 0 ∷ 1 ∷ 0 ∷ 0 ∷ idle n
+
+-- one fact, false at the start and the goal, and so many such actions: no plan is right, and the walk of each takes two visits
+abbrev pub idling : ℕ → List ℕ
+idling m = block1 (1 ∷ m ∷ (hex "0001 40 0001 00" ++ idle m))
+
+abbrev pub finds : List ℕ → ℕ → Reply
+finds plan used = searched (answered (firstRight plan used))
+
+abbrev pub findsNone : ℕ → Reply
+findsNone used = searched (answered (noneRight used))
+
+abbrev pub stopsAt : List ℕ → ℕ → Reply
+stopsAt plan used = searched (answered (undecidedAt plan used))
+
+-- every short plan (document 02, W-205): P, whose plans of the steps 0, 1 and 1, 0 are right, up to each length, and with grants that suffice, fall one
+-- short, and are used up before and at a plan; a problem whose empty plan is right, and one without start states; no plan right, with 0, 1 and
+-- more actions; 31, 32 and 64 actions; and what is refused, the problem's refusals first, then 43, then 44.
+abbrev pub searches : List Row
+searches =
+    (search-plans P 0 grant ⇒ findsNone 5)
+    ∷ (search-plans P 1 grant ⇒ findsNone 17)
+    ∷ (search-plans P 2 grant ⇒ finds (0 ∷ 1 ∷ []) 27)
+    ∷ (search-plans P 4 27 ⇒ finds (0 ∷ 1 ∷ []) 27)
+    ∷ (search-plans P 4 26 ⇒ stopsAt (0 ∷ 1 ∷ []) 26)
+    ∷ (search-plans P 4 22 ⇒ stopsAt (0 ∷ 1 ∷ []) 22)
+    ∷ (search-plans P 4 21 ⇒ stopsAt (0 ∷ 0 ∷ []) 21)
+    ∷ (search-plans P 1 17 ⇒ findsNone 17)
+    ∷ (search-plans P 1 16 ⇒ stopsAt (1 ∷ []) 16)
+    ∷ (search-plans P 1 0 ⇒ stopsAt [] 0)
+    ∷ (search-plans P-goal 4 1 ⇒ finds [] 1)
+    ∷ (search-plans P-no-start 4 1 ⇒ finds [] 1)
+    ∷ (search-plans P-no-start 4 0 ⇒ stopsAt [] 0)
+    ∷ (search-plans (idling 0) 0 2 ⇒ findsNone 2)
+    ∷ (search-plans (idling 0) 4 2 ⇒ findsNone 2)
+    ∷ (search-plans (idling 1) 4 10 ⇒ findsNone 10)
+    ∷ (search-plans (idling 1) 4 9 ⇒ stopsAt (0 ∷ 0 ∷ 0 ∷ 0 ∷ []) 9)
+    ∷ (search-plans (idling 3) 2 26 ⇒ findsNone 26)
+    ∷ (search-plans (idling 3) 2 25 ⇒ stopsAt (2 ∷ 2 ∷ []) 25)
+    ∷ (search-plans (idling 31) 4 5 ⇒ stopsAt (1 ∷ []) 5)
+    ∷ (search-plans (idling 32) 4 5 ⇒ searched (refused 44 0))
+    ∷ (search-plans (idling 32) 3 5 ⇒ stopsAt (1 ∷ []) 5)
+    ∷ (search-plans (idling 64) 3 5 ⇒ stopsAt (1 ∷ []) 5)
+    ∷ (search-plans (idling 64) 4 5 ⇒ searched (refused 44 0))
+    ∷ (search-plans (idling 64) 5 5 ⇒ searched (refused 43 0))
+    ∷ (search-plans (idling 0) 5 5 ⇒ searched (refused 43 0))
+    ∷ (search-plans P 0xffffffffffffffff 0 ⇒ searched (refused 43 0))
+    ∷ (search-plans [] 5 0 ⇒ searched (refused 11 0))
     ∷ []

@@ -193,3 +193,30 @@ pub enum RelevantAnswer {
     Refused(Refusal),
     Facts { set: u64 },
 }
+
+// A plan of a search: its first `length` steps.
+pub struct ShortPlan {
+    pub length: usize,
+    pub steps: [u8; ShortPlan::MAX_STEPS],
+}
+
+impl ShortPlan {
+    pub const MAX_STEPS: usize = 4;
+    // The plans that a search may have to try.
+    pub const MAX_PLANS: u64 = 1000000;
+}
+
+// How a search ends.
+pub enum SearchEnd {
+    Refused(Refusal),
+    Found,
+    NoneRight,
+    Undecided,
+}
+
+// The answer of a search: a plan is found, or undecided; the visits are those used in all.
+pub struct SearchAnswer {
+    pub end: SearchEnd,
+    pub visits: u64,
+    pub plan: ShortPlan,
+}

@@ -7,17 +7,12 @@ use Rattle.model.specs.Limits.{version1}
 use Rattle.model.specs.Answer.{answered}
 use Rattle.model.specs.Walk.{right, wrong}
 use Rattle.model.specs.Text.{ascii, hex}
-use Rattle.model.specs.Trials.{read-problem, judge-with, cover-after, relevant-facts, desk, number, verdict, text, Row, _⇒_, wrote, no-step, step-0, grant, block1, accepts, refuses, initially, stalls-at}
+use Rattle.model.specs.Trials.{read-problem, judge-with, cover-after, relevant-facts, desk, number, verdict, text, Row, _⇒_, wrote, no-step, step-0, grant, block1, accepts, refuses, initially, stalls-at, idle}
 
 -- so many effects, each on condition fact 0, from a literal byte on
 abbrev rising : ℕ → ℕ → List ℕ
 rising zero b = []
 rising (suc n) b = b ∷ 0 ∷ 1 ∷ 0 ∷ rising n (b + 1)
-
--- so many actions with precondition fact 0 and no effect
-abbrev idle : ℕ → List ℕ
-idle zero = []
-idle (suc n) = 0 ∷ 1 ∷ 0 ∷ 0 ∷ idle n
 
 -- 48 facts, one action that sets fact 47 always, and 256 steps of it
 abbrev wide : List ℕ

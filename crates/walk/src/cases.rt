@@ -122,7 +122,7 @@ pub fn walk_block(
 }
 
 // The walk from a lane's case.
-fn walk_node(
+pub fn walk_node(
     problem: &[u8],
     steps: &[u8],
     actions: &[usize; 64],

@@ -13,7 +13,7 @@ use table::fix_levels;
 use table::none_fixed;
 
 // The levels of the first block: the odd ones, so that all blocks below it are full.
-fn first_levels(facts: usize) -> usize
+pub fn first_levels(facts: usize) -> usize
     ensures { λ r. ⌜ LevelsOf facts r ⌝ }
 {
     if facts == 0 { 0 } else { (facts - 1) % 5 + 1 }

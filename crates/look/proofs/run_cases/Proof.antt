@@ -6,7 +6,8 @@ use native.Mathlib.Omega.{arith}
 use borrow.Author.Needs.{needs}
 use mathlib.Core.Path.{_≡_, refl}
 use lib.ListN.{length}
-use Rattle.look.proofs.Lanes.{Running, running-begins, running-stops, running-next, running-ends}
+use Rattle.look.specs.Cases.{Running}
+use Rattle.look.proofs.Lanes.{running-begins, running-stops, running-next, running-ends}
 
 abbrev Inv-loop : tie.InvT-loop
 Inv-loop problem steps actions goal lanes c current₀ found₀ literals₀ alive₀ i₀ current found literals alive i =

@@ -56,11 +56,10 @@ module _ (F : Limits) where
     pub facts : T .facts ≤ F .facts
     pub width : T .width ≡ F .width
 
-  pub task-fits : (problem plan : List ℕ) (T : Task) → readTask F problem plan ≡ answered T → Fits T
-  unfolding readTask taskOf problemOf problem body parts ending _>>=_ _>>_ done
-  task-fits problem plan T h =
-      answer-then h λ p e h₁.
-      answer-then h₁ λ steps _ h₂.
+  -- "fact count (1 byte, 1 to 48)": a problem that was read has no more facts
+  pub problem-fits : (problem′ : List ℕ) (p : Problem) → problemOf F problem′ ≡ answered p → p .facts ≤ F .facts
+  unfolding problemOf problem body parts ending _>>=_ _>>_ done
+  problem-fits problem′ p e =
       then-got (answer-got _ e .1) λ _ p₀ _ g₀.
       then-got g₀ λ n p₁ e₁ g₁.
       then-got g₁ λ _ _ _ g₂.
@@ -69,10 +68,16 @@ module _ (F : Limits) where
       then-got g₄ λ _ _ _ g₅.
       then-got g₅ λ _ _ _ g₆.
       then-got g₆ λ _ _ _ g₇.
-      let l = count-gives problem 15 1 (F .facts) p₀ .of n p₁ e₁ .1 in
-      let m = subst (λ (x : Problem). x .facts ≤ F .facts) (got-inj g₇ .0) l in
+      let l = count-gives problem′ 15 1 (F .facts) p₀ .of n p₁ e₁ .1 in
+      subst (λ (x : Problem). x .facts ≤ F .facts) (got-inj g₇ .0) l
+
+  pub task-fits : (problem plan : List ℕ) (T : Task) → readTask F problem plan ≡ answered T → Fits T
+  unfolding readTask taskOf
+  task-fits problem plan T h =
+      answer-then h λ p e h₁.
+      answer-then h₁ λ steps _ h₂.
       let t : taskOf F p steps ≡ T = cc in
-      subst Fits t (record { facts = m; width = refl })
+      subst Fits t (record { facts = problem-fits problem p e; width = refl })
 
   -- "30 over 261 bytes": a plan that was read is no longer
   pub plan-short : (problem′ plan′ : List ℕ) (T : Task) → readTask F problem′ plan′ ≡ answered T → length plan′ ≤ headBytes + maxSteps
