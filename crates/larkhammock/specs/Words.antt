@@ -1,9 +1,11 @@
 -- The eight words of each answer of the C interface: "word[0] is the tag. Words that a row below does not name are 0."
 use mathlib.Core.List.{List, [], _∷_}
 use Prim.Native.Nat.{ℕ}
+use lib.ListN.{length, getD}
 use Rattle.model.specs.Answer.{Answer, refused, answered}
 use Rattle.model.specs.Run.{Part, atMember, atFact, Outcome, reached, missed, blocked}
 use Rattle.model.specs.Walk.{Verdict, right, wrong, undecided}
+use Rattle.model.specs.Search.{Search, firstRight, noneRight, undecidedAt}
 use Rattle.model.specs.Operations.{Counts}
 
 abbrev words : ℕ → ℕ → ℕ → ℕ → ℕ → List ℕ
@@ -57,3 +59,17 @@ verdictWords (undecided visits) = words 3 visits 0 0 0
 abbrev pub judgeWords : Answer (Verdict ℕ) → List ℕ
 judgeWords (refused n q) = refusalWords n q
 judgeWords (answered v) = verdictWords v
+
+-- search_plans: "visits used in all (undecided: the grant), length, then each step in word[3] to word[6]"
+abbrev pub planWords : ℕ → ℕ → List ℕ → List ℕ
+planWords tag visits p = tag ∷ visits ∷ length p ∷ getD p 0 0 ∷ getD p 1 0 ∷ getD p 2 0 ∷ getD p 3 0 ∷ 0 ∷ []
+
+-- "1 found, 2 none, 3 undecided"; "none: length and steps are 0"
+abbrev pub foundWords : Search → List ℕ
+foundWords (firstRight p visits) = planWords 1 visits p
+foundWords (noneRight visits) = words 2 visits 0 0 0
+foundWords (undecidedAt p visits) = planWords 3 visits p
+
+abbrev pub searchWords : Answer Search → List ℕ
+searchWords (refused n q) = refusalWords n q
+searchWords (answered r) = foundWords r

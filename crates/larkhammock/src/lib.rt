@@ -2,9 +2,12 @@
 ghost use mathlib.Core.Path.{_≡_};
 ghost use mathlib.Core.List.{[], _∷_};
 ghost use Rattle.model.specs.Limits.{version1};
-ghost use Rattle.model.specs.Answers.{part as partOf, outcome as meaning};
-ghost use Rattle.model.specs.Operations.{readProblem, readPlan, runState, judge, writeList, followList, relevantFacts};
-ghost use Rattle.larkhammock.specs.Words.{refusalWords, partWord, partNumber, wrongWords, problemWords, countWords, runWords, judgeWords};
+ghost use lib.ListN.{getD};
+ghost use Prim.Native.Nat.{_<_};
+ghost use Rattle.model.specs.Answers.{part as partOf, outcome as meaning, shortSteps};
+ghost use Rattle.model.specs.Operations.{readProblem, readPlan, runState, judge, writeList, followList, relevantFacts, searchPlans};
+ghost use Rattle.larkhammock.specs.Words.{refusalWords, partWord, partNumber, wrongWords, problemWords, countWords, runWords, judgeWords, planWords, searchWords};
+ghost use Rattle.search.specs.Trying.{Room};
 use model::FollowAnswer;
 use model::JudgeAnswer;
 use model::Outcome;
@@ -14,6 +17,8 @@ use model::ProblemAnswer;
 use model::Refusal;
 use model::RelevantAnswer;
 use model::RunAnswer;
+use model::SearchEnd;
+use model::ShortPlan;
 use model::WriteAnswer;
 
 // An answer: word 0 is its tag, and words that its row does not name are 0.
@@ -168,5 +173,47 @@ pub extern "C" fn larkhammock_relevant_facts(
     match relevance::relevant_facts(problem, plan, state, work) {
         RelevantAnswer::Refused(r) => refused(r),
         RelevantAnswer::Facts { set } => row(1, set, 0, 0, 0),
+    }
+}
+
+// A step of a plan, or 0 past its last.
+fn step_word(plan: ShortPlan, i: usize) -> u64
+    requires { ⌜ i < 4 ⌝ }
+    ensures { λ r. ⌜ r ≡ getD (shortSteps plan) i 0 ⌝ }
+{
+    if i < plan.length {
+        let steps = plan.steps;
+        return steps[i] as u64;
+    }
+    0
+}
+
+// The row of a search that ended at a plan: visits, length, and each step.
+fn plan_row(tag: u64, visits: u64, plan: ShortPlan) -> Answer
+    requires { ⌜ Room plan 0 ⌝ }
+    ensures { λ r. ⌜ r .word ≡ planWords tag visits (shortSteps plan) ⌝ }
+{
+    let length = plan.length as u64;
+    let first = step_word(plan, 0);
+    let second = step_word(plan, 1);
+    let third = step_word(plan, 2);
+    let fourth = step_word(plan, 3);
+    Answer {
+        word: [tag, visits, length, first, second, third, fourth, 0],
+    }
+}
+
+#[no_mangle]
+pub extern "C" fn larkhammock_search_plans(problem: &[u8], longest: u64, grant: u64) -> Answer
+    ensures { λ r. ⌜ r .word ≡ searchWords (searchPlans version1 (now (problem .entry)) longest grant) ⌝ }
+{
+    let answer = search::search_plans(problem, longest, grant);
+    let plan = answer.plan;
+    let end = answer.end;
+    match end {
+        SearchEnd::Refused(r) => refused(r),
+        SearchEnd::Found => plan_row(1, answer.visits, plan),
+        SearchEnd::NoneRight => row(2, answer.visits, 0, 0, 0),
+        SearchEnd::Undecided => plan_row(3, answer.visits, plan),
     }
 }
