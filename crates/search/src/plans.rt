@@ -116,12 +116,12 @@ fn try_plan(
         },
         Ending::Closed {
             lines: _,
-            visits,
+            visits: more,
             next: _,
         } => Progress {
             ended: true,
             right: true,
-            used: used + visits,
+            used: used + more,
             plan,
         },
     }

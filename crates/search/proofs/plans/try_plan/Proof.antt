@@ -17,7 +17,7 @@ add-t18 : tie.Need-add-t18
 add-t18 c = let d = c .before .before .before .before .before .before .before in omega (arith, failed-spends _ _ _ _ _ (d .pre .3) (c .before .before .before .walk-plan .ensures .counted) (c .before .visits .given .1))
 
 add-t19 : tie.Need-add-t19
-add-t19 c = let d = c .before .before .before .before .before .before .before in omega (arith, closed-spends _ _ _ _ _ _ (d .pre .3) (c .before .before .before .walk-plan .ensures .counted) (c .before .visits2 .given .1))
+add-t19 c = let d = c .before .before .before .before .before .before .before in omega (arith, closed-spends _ _ _ _ _ _ (d .pre .3) (c .before .before .before .walk-plan .ensures .counted) (c .before .more .given .1))
 
 returns : tie.Need-returns
 returns c = let d = c .before .before .before .before .before .before in
@@ -31,7 +31,7 @@ returns-2 c = let d = c .before .before .before .before .before .before .before 
 returns-3 : tie.Need-returns-3
 returns-3 c = let d = c .before .before .before .before .before .before .before in
     let w = c .before .before .before .walk-plan .ensures in
-    tried-closed _ _ _ _ _ _ _ _ _ _ refl (d .pre .2) (d .pre .3) w _ _ _ (c .before .visits2 .given .1) (closed-spends _ _ _ _ _ _ (d .pre .3) (w .counted) (c .before .visits2 .given .1))
+    tried-closed _ _ _ _ _ _ _ _ _ _ refl (d .pre .2) (d .pre .3) w _ _ _ (c .before .more .given .1) (closed-spends _ _ _ _ _ _ (d .pre .3) (w .counted) (c .before .more .given .1))
 
 pub try-plan-spec : {M : Type 1} → statement M
 try-plan-spec =
