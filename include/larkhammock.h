@@ -127,6 +127,24 @@ larkhammock_answer larkhammock_relevant_facts(
     uint64_t state,
     uint8_t *work, size_t work_len);
 
+/*
+ * Try every plan of at most so many steps, by length and then by step numbers
+ * from the first step on: judge one after the other, looking at no more cases
+ * in all than granted. Refusals as for the problem, then, at place 0, 43 where
+ * longest is over 4 and 44 where there are over 1,000,000 such plans.
+ *   word[0]  1 found, 2 none is right, 3 undecided
+ *   word[1]  the visits used in all; where undecided, the grant
+ *   word[2]  where found: the length of the first right plan
+ *            where undecided: the length of the first plan whose walk needs
+ *            more than the visits left
+ *   word[3]  to word[6], where found or undecided: the steps of that plan, each
+ *            an action's number, and 0 past its length
+ */
+larkhammock_answer larkhammock_search_plans(
+    const uint8_t *problem, size_t problem_len,
+    uint64_t longest,
+    uint64_t grant);
+
 #ifdef __cplusplus
 }
 #endif

@@ -6,7 +6,8 @@
 //! whether it does: it [judges](judge) a plan, names a counterexample where
 //! there is one, [writes](write_list) a certificate for a right plan, and
 //! [follows](follow_list) a certificate that anyone has written. Of one run that
-//! reaches the goal it tells [which start facts](relevant_facts) that rests on.
+//! reaches the goal it tells [which start facts](relevant_facts) that rests on, and
+//! where nobody has a plan it [tries](search_plans) every short one.
 //!
 //! Problems, plans and lists are blocks of bytes. Any bytes may be handed in:
 //! what is not sound is turned down with a [`Refusal`].
@@ -39,10 +40,12 @@ mod lines;
 pub mod raw;
 mod refusal;
 mod relevance;
+mod search;
 
 pub use lines::{Line, Lines};
 pub use refusal::Refusal;
 pub use relevance::{FactSet, ReachedRun, States};
+pub use search::{Search, ShortPlan};
 
 /// The length of the longest list block, in bytes: a buffer of this length
 /// holds what [`write_list`] writes for any plan.
@@ -51,6 +54,12 @@ pub const LONGEST_LIST: usize = 65_533;
 /// The bytes of the longest run's states, those of 256 steps and 48 facts: a
 /// work area of this length is enough for [`relevant_facts`] of any run.
 pub const LONGEST_WORK: usize = (256 + 1) * 48;
+
+/// The most steps of a plan that [`search_plans`] tries.
+pub const LONGEST_SEARCHED: u64 = 4;
+
+/// The most plans that [`search_plans`] tries.
+pub const MOST_SEARCHED: u64 = 1_000_000;
 
 /// The README's call is a test.
 #[cfg(doctest)]
@@ -290,6 +299,46 @@ pub fn relevant_facts<'a>(
     Ok(ReachedRun {
         facts: FactSet::of_number(word[1]),
         states: States::new(&work[..(steps + 1) * facts], facts),
+    })
+}
+
+/// Tries every plan of at most `longest` steps, by length and then by step
+/// numbers from the first step on, until one is right. They are judged one after
+/// the other, and look at no more cases in all than granted.
+///
+/// `longest` is at most [`LONGEST_SEARCHED`], and there are at most
+/// [`MOST_SEARCHED`] such plans: up to four steps of 31 actions are few enough, and
+/// up to three of 64.
+///
+/// ```
+/// use larkhammock::{example, search_plans, Search};
+///
+/// // The plans are: none, 0, 1, and then 0 0, 0 1, 1 0, 1 1.
+/// let search = search_plans(example::PROBLEM, 2, u64::MAX)?;
+/// let Search::Found { plan, visits } = search else {
+///     panic!("there is a right plan");
+/// };
+/// assert_eq!((plan.steps(), visits), (&[0, 1][..], 27));
+///
+/// // One step is not enough, and with 26 visits it stays open whether two are.
+/// let search = search_plans(example::PROBLEM, 1, u64::MAX)?;
+/// assert_eq!(search, Search::NoneRight { visits: 17 });
+/// let search = search_plans(example::PROBLEM, 2, 26)?;
+/// assert_eq!(search, Search::Undecided { plan, visits: 26 });
+///
+/// let refusal = search_plans(example::PROBLEM, 5, u64::MAX).unwrap_err();
+/// assert_eq!(refusal.to_string(), "refused 43 at 0: the longest length is over 4");
+/// # Ok::<(), larkhammock::Refusal>(())
+/// ```
+pub fn search_plans(problem: &[u8], longest: u64, grant: u64) -> Result<Search, Refusal> {
+    let word = decided(raw::search_plans(problem, longest, grant))?;
+    let visits = word[1];
+    let plan = ShortPlan::of_words(&word[2..7]).unwrap_or_else(|| broken(&word));
+    Ok(match word[0] {
+        1 => Search::Found { plan, visits },
+        2 => Search::NoneRight { visits },
+        3 => Search::Undecided { plan, visits },
+        _ => broken(&word),
     })
 }
 

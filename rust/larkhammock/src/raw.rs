@@ -63,6 +63,12 @@ extern "C" {
         work: *mut u8,
         work_len: usize,
     ) -> Answer;
+    fn larkhammock_search_plans(
+        problem: *const u8,
+        problem_len: usize,
+        longest: u64,
+        grant: u64,
+    ) -> Answer;
 }
 
 // SAFETY, for every call below: a slice's pointer is never null and is valid
@@ -148,4 +154,9 @@ pub fn relevant_facts(problem: &[u8], plan: &[u8], state: u64, work: &mut [u8]) 
             work.len(),
         )
     }
+}
+
+/// Tag 1 found, 2 none, 3 undecided: visits, length, each of four steps.
+pub fn search_plans(problem: &[u8], longest: u64, grant: u64) -> Answer {
+    unsafe { larkhammock_search_plans(problem.as_ptr(), problem.len(), longest, grant) }
 }

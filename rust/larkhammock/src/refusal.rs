@@ -16,8 +16,8 @@ use std::fmt;
 #[derive(Clone, Copy, Debug, PartialEq, Eq, Hash)]
 pub struct Refusal {
     /// Which fault: 10 to 25 for a problem, 30 to 34 for a plan, 40 for a
-    /// state, 41 and 42 for the facts that its run rests on, 50 to 53 for writing
-    /// a list, 60 to 70 for following one.
+    /// state, 41 and 42 for the facts that its run rests on, 43 and 44 for a search,
+    /// 50 to 53 for writing a list, 60 to 70 for following one.
     pub number: u64,
     /// Where: a byte's position, or what the fault's description says.
     pub place: u64,
@@ -51,6 +51,8 @@ impl Refusal {
             40 => "the state has a bit set past the declared facts",
             41 => "the run does not reach the goal",
             42 => "the work area is too short for the states of the run",
+            43 => "the longest length is over 4",
+            44 => "there are more than 1,000,000 plans of those lengths",
             50 => "the plan is undecided after these visits",
             51 => "the plan is wrong, found after these visits",
             52 => "the list has more than 8,191 lines: this many",
