@@ -2,7 +2,7 @@
 //! row does not name are 0.
 
 use crate::model::Problem;
-use crate::oracle::{Outcome, Part, Refusal, Verdict};
+use crate::oracle::{Outcome, Part, Refusal, Search, Verdict};
 
 pub type Answer = [u64; 8];
 
@@ -54,6 +54,24 @@ pub fn judge(result: &Result<Verdict, Refusal>) -> Answer {
         }
         Ok(Verdict::Undecided { visits }) => words(&[3, *visits]),
     }
+}
+
+pub fn search_plans(result: &Result<Search, Refusal>) -> Answer {
+    match result {
+        Err(refusal) => refused(refusal),
+        Ok(Search::Found { plan, visits }) => words(&plan_words(1, *visits, plan)),
+        Ok(Search::NoneRight { visits }) => words(&[2, *visits]),
+        Ok(Search::Undecided { plan, visits }) => words(&plan_words(3, *visits, plan)),
+    }
+}
+
+/// The tag, the visits, and a plan's length and steps.
+fn plan_words(tag: u64, visits: u64, plan: &[u8]) -> Vec<u64> {
+    let steps = plan.iter().copied().map(u64::from);
+    [tag, visits, plan.len() as u64]
+        .into_iter()
+        .chain(steps)
+        .collect()
 }
 
 /// The tag, and a block's step, part and number.

@@ -7,7 +7,7 @@ use std::ops::Range;
 use crate::answer::{self, words, Answer};
 use crate::oracle;
 
-/// What is tested: the seven operations, as their eight words.
+/// What is tested: the eight operations, as their eight words.
 pub trait Subject {
     fn read_problem(&self, problem: &[u8]) -> Answer;
     fn read_plan(&self, problem: &[u8], plan: &[u8]) -> Answer;
@@ -16,6 +16,7 @@ pub trait Subject {
     fn write_list(&self, problem: &[u8], plan: &[u8], grant: u64, arena: &mut Arena) -> Answer;
     fn follow_list(&self, problem: &[u8], plan: &[u8], list: &[u8]) -> Answer;
     fn relevant_facts(&self, problem: &[u8], plan: &[u8], state: u64, arena: &mut Arena) -> Answer;
+    fn search_plans(&self, problem: &[u8], longest: u64, grant: u64) -> Answer;
 }
 
 #[derive(Clone, Copy, Debug, PartialEq, Eq)]
@@ -27,10 +28,11 @@ pub enum Operation {
     WriteList,
     FollowList,
     RelevantFacts,
+    SearchPlans,
 }
 
 impl Operation {
-    pub const ALL: [Operation; 7] = [
+    pub const ALL: [Operation; 8] = [
         Operation::ReadProblem,
         Operation::ReadPlan,
         Operation::Run,
@@ -38,10 +40,11 @@ impl Operation {
         Operation::WriteList,
         Operation::FollowList,
         Operation::RelevantFacts,
+        Operation::SearchPlans,
     ];
 }
 
-/// Arguments for all seven operations.
+/// Arguments for all eight operations.
 #[derive(Clone, Default)]
 pub struct Case {
     pub problem: Vec<u8>,
@@ -53,6 +56,10 @@ pub struct Case {
     pub room: usize,
     /// The bytes that are lent for the states of a run.
     pub work: usize,
+    /// The longest length of a search.
+    pub longest: u64,
+    /// The grant of a search: many plans share it, where the other is for one.
+    pub shared_grant: u64,
 }
 
 /// The lent buffer with guard bytes on both sides.
@@ -117,9 +124,12 @@ impl fmt::Debug for Difference {
             grant,
             room,
             work,
+            longest,
+            shared_grant,
             ..
         } = case;
-        write!(f, "  state {state:x} grant {grant} room {room} work {work}")
+        writeln!(f, "  state {state:x} grant {grant} room {room} work {work}")?;
+        write!(f, "  longest {longest} shared grant {shared_grant}")
     }
 }
 
@@ -169,6 +179,10 @@ impl Subject for Oracle {
         }
         answer::number(&told.map(|run| run.set))
     }
+
+    fn search_plans(&self, problem: &[u8], longest: u64, grant: u64) -> Answer {
+        answer::search_plans(&oracle::search_plans(problem, longest, grant))
+    }
 }
 
 /// What the oracle says of one call.
@@ -193,6 +207,7 @@ pub fn observed(subject: &dyn Subject, operation: Operation, case: &Case) -> Eff
         Operation::WriteList => subject.write_list(problem, plan, case.grant, &mut arena),
         Operation::FollowList => subject.follow_list(problem, plan, list),
         Operation::RelevantFacts => subject.relevant_facts(problem, plan, case.state, &mut arena),
+        Operation::SearchPlans => subject.search_plans(problem, case.longest, case.shared_grant),
     };
     Effect { answer, arena }
 }
@@ -212,7 +227,15 @@ pub fn check(
     operation: Operation,
     case: &Case,
 ) -> Result<Answer, Box<Difference>> {
-    let expected = expected(operation, case);
+    compare(subject, operation, case, expected(operation, case))
+}
+
+fn compare(
+    subject: &dyn Subject,
+    operation: Operation,
+    case: &Case,
+    expected: Effect,
+) -> Result<Answer, Box<Difference>> {
     let got = observed(subject, operation, case);
     if got == expected {
         return Ok(got.answer);
@@ -225,7 +248,7 @@ pub fn check(
     }))
 }
 
-/// Compares all seven calls; the answers in the order of [`Operation::ALL`].
+/// Compares all eight calls; the answers in the order of [`Operation::ALL`].
 pub fn check_all(subject: &dyn Subject, case: &Case) -> Result<Vec<Answer>, Box<Difference>> {
     Operation::ALL
         .iter()
@@ -237,9 +260,9 @@ pub fn check_all(subject: &dyn Subject, case: &Case) -> Result<Vec<Answer>, Box<
 /// and the buffer to the oracle's.
 #[track_caller]
 pub fn expect(subject: &dyn Subject, operation: Operation, case: &Case, named: &[u64]) {
-    let answer = expected(operation, case).answer;
-    assert_eq!(answer, words(named), "the oracle's {operation:?}");
-    if let Err(difference) = check(subject, operation, case) {
+    let expected = expected(operation, case);
+    assert_eq!(expected.answer, words(named), "the oracle's {operation:?}");
+    if let Err(difference) = compare(subject, operation, case, expected) {
         panic!("{difference:?}");
     }
 }

@@ -43,6 +43,7 @@ pub fn with_plan(steps: &[u8]) -> Case {
         grant: u64::MAX,
         room: VERSION_1.most_bytes(),
         work: VERSION_1.most_work_bytes(),
+        shared_grant: u64::MAX,
         ..Case::default()
     }
 }

@@ -1,5 +1,5 @@
-//! The numbers of document 01, written from it and taken from nowhere else: a
-//! mistake of the library's must not be one here too.
+//! The numbers of documents 01 and 02, written from them and taken from nowhere
+//! else: a mistake of the library's must not be one here too.
 
 /// The bytes of a block before its body: the version and the body's length.
 pub const HEADER: usize = 5;
@@ -18,6 +18,12 @@ pub const DENIAL: u8 = 64;
 
 pub const MOST_STEPS: usize = 256;
 pub const MOST_PLAN_BYTES: usize = HEADER + MOST_STEPS;
+
+/// The steps of the longest plans that a search may be asked for.
+pub const LONGEST_SEARCHED: u64 = 4;
+
+/// A search tries so many plans at most.
+pub const MOST_SEARCHED: u64 = 1_000_000;
 
 /// What one version of problems and lists has for itself.
 #[derive(Clone, Copy, Debug, PartialEq, Eq)]

@@ -33,7 +33,7 @@ fn printed(source: &Path, name: &str) -> String {
 #[test]
 fn a_c_program_gets_the_same_words() {
     let source = gcc::source("check.c");
-    assert_eq!(printed(&source, "check"), "25 answers as they should be\n");
+    assert_eq!(printed(&source, "check"), "30 answers as they should be\n");
 }
 
 /// The README's call, on the library's small example.

@@ -2,18 +2,21 @@
 
 mod former;
 mod rules;
+mod searches;
 mod support;
 
 use conformance::answer::{self, words, Answer};
 use conformance::encode;
+use conformance::families;
 use conformance::gen::{case_of_round, sound_case, Rng};
 use conformance::harness::{check, expected, Arena, Case, Operation, Subject};
-use conformance::model::{Formula, Kind};
+use conformance::model::{Action, Formula, Kind, Problem};
 use conformance::oracle::{self, conflicts, holds, states, walk, Task};
 use conformance::trial;
 use conformance::version::{HEADER, VERSION_1};
 use former::{with_sets_winning, MOVES};
 use rules::Rule;
+use searches::Searcher;
 use support::Library;
 
 /// The library with one word of one operation's answer changed.
@@ -64,6 +67,13 @@ impl Subject for Tampered {
     fn relevant_facts(&self, problem: &[u8], plan: &[u8], state: u64, arena: &mut Arena) -> Answer {
         let answer = Library.relevant_facts(problem, plan, state, arena);
         self.tamper(Operation::RelevantFacts, answer)
+    }
+
+    fn search_plans(&self, problem: &[u8], longest: u64, grant: u64) -> Answer {
+        self.tamper(
+            Operation::SearchPlans,
+            Library.search_plans(problem, longest, grant),
+        )
     }
 }
 
@@ -134,6 +144,14 @@ impl Subject for Oracle {
         *arena = left;
         answer
     }
+
+    fn search_plans(&self, problem: &[u8], longest: u64, grant: u64) -> Answer {
+        ask(Operation::SearchPlans, problem, &[], |case| {
+            case.longest = longest;
+            case.shared_grant = grant;
+        })
+        .0
+    }
 }
 
 fn ask(
@@ -185,6 +203,8 @@ enum Fault {
     EmptyCarriesToo,
     /// Goes by this rule for what matters before a step.
     Relevant(Rule),
+    /// Tries short plans in this way.
+    Searches(Searcher),
     NoRunIsTold,
     WorkBeforeOutcome,
     NoStateIsWritten,
@@ -434,6 +454,13 @@ impl Subject for Fault {
         }
         answer
     }
+
+    fn search_plans(&self, problem: &[u8], longest: u64, grant: u64) -> Answer {
+        match self {
+            Fault::Searches(searcher) => searcher.answer(problem, longest, grant),
+            _ => Oracle.search_plans(problem, longest, grant),
+        }
+    }
 }
 
 #[test]
@@ -447,6 +474,39 @@ fn each_wrong_idea_is_found_out() {
             Operation::ALL.iter().any(wrong)
         });
         assert!(found, "{fault:?} gets past 2,000 cases");
+    }
+}
+
+/// Searches with as many actions as may be and one more, which are few among the
+/// generated: no visit is granted, so that they end at once.
+fn searches_at_the_edge() -> Vec<Case> {
+    let idle = Action {
+        precondition: Formula::always(),
+        effects: Vec::new(),
+    };
+    let search = |actions: usize, longest| {
+        let problem = Problem {
+            actions: vec![idle.clone(); actions],
+            ..families::idle(VERSION_1, 1)
+        };
+        Case {
+            problem: encode::problem(&problem),
+            longest,
+            ..Case::default()
+        }
+    };
+    vec![search(31, 4), search(32, 4), search(32, 5)]
+}
+
+#[test]
+fn each_wrong_search_is_found_out() {
+    for searcher in Searcher::WRONG {
+        let fault = Fault::Searches(searcher);
+        let mut rng = Rng::new(0xfa18);
+        let generated = (0..2_000).map(|_| sound_case(&mut rng, &VERSION_1));
+        let mut cases = searches_at_the_edge().into_iter().chain(generated);
+        let found = cases.any(|case| check(&fault, Operation::SearchPlans, &case).is_err());
+        assert!(found, "{searcher:?} gets past 2,000 cases");
     }
 }
 
@@ -493,14 +553,17 @@ fn the_oracle_without_a_fault_is_not_found_out() {
         }
         let rule = Fault::Relevant(Rule::AsWritten);
         check(&rule, Operation::RelevantFacts, &case).expect("the rule is as written");
+        let search = Fault::Searches(Searcher::AsWritten);
+        check(&search, Operation::SearchPlans, &case).expect("the search is as written");
     }
     let list = trial::list();
     let state = VERSION_1.number(&[false, true, true]);
     let case = Case {
         list,
         state,
+        longest: 2,
         ..trial::with_plan(&[0, 1])
     };
     let answers = Operation::ALL.map(|operation| expected(operation, &case).answer[0]);
-    assert_eq!(answers, [1; 7]);
+    assert_eq!(answers, [1; 8]);
 }

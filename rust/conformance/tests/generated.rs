@@ -26,7 +26,7 @@ const NUMBERS: u64 = 4;
 
 /// Every number that a call can be refused with.
 fn every_refusal() -> BTreeSet<u64> {
-    let ranges = [10..=25, 30..=34, 40..=42, 50..=53, 60..=70];
+    let ranges = [10..=25, 30..=34, 40..=44, 50..=53, 60..=70];
     ranges.into_iter().flatten().collect()
 }
 
@@ -132,6 +132,7 @@ fn every_operation_answers_as_the_oracle_and_every_refusal_is_met() {
     }
     assert_eq!(refusals, every_refusal());
     let (run, judge) = (Operation::Run as u8, Operation::Judge as u8);
+    let search = Operation::SearchPlans as u8;
     let every_tag = [
         (Operation::ReadProblem as u8, 1, 0),
         (Operation::ReadPlan as u8, 1, 0),
@@ -145,6 +146,9 @@ fn every_operation_answers_as_the_oracle_and_every_refusal_is_met() {
         (Operation::WriteList as u8, 1, 0),
         (Operation::FollowList as u8, 1, 0),
         (Operation::RelevantFacts as u8, 1, 0),
+        (search, 1, 0),
+        (search, 2, 0),
+        (search, 3, 0),
     ];
     assert_eq!(tags, every_tag.into());
     runs.are_of_every_kind("run");
@@ -201,6 +205,21 @@ fn told(run: larkhammock::ReachedRun) -> oracle::ReachedRun {
     }
 }
 
+fn search(search: larkhammock::Search) -> oracle::Search {
+    let steps = |plan: larkhammock::ShortPlan| plan.steps().to_vec();
+    match search {
+        larkhammock::Search::Found { plan, visits } => oracle::Search::Found {
+            plan: steps(plan),
+            visits,
+        },
+        larkhammock::Search::NoneRight { visits } => oracle::Search::NoneRight { visits },
+        larkhammock::Search::Undecided { plan, visits } => oracle::Search::Undecided {
+            plan: steps(plan),
+            visits,
+        },
+    }
+}
+
 /// The named types of the safe crate say the same as the oracle's.
 #[test]
 fn the_safe_crate_says_the_same() {
@@ -215,6 +234,8 @@ fn the_safe_crate_says_the_same() {
             grant,
             room,
             work,
+            longest,
+            shared_grant,
         } = &case;
         assert_eq!(
             larkhammock::read_problem(problem),
@@ -254,6 +275,10 @@ fn the_safe_crate_says_the_same() {
         assert_eq!(
             larkhammock::relevant_facts(problem, plan, *state, &mut vec![0; *work]).map(told),
             oracle::relevant_facts(problem, plan, *state, *work).map_err(refusal)
+        );
+        assert_eq!(
+            larkhammock::search_plans(problem, *longest, *shared_grant).map(search),
+            oracle::search_plans(problem, *longest, *shared_grant).map_err(refusal)
         );
     }
 }

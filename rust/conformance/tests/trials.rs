@@ -227,6 +227,30 @@ fn to_set_and_clear_a_fact_blocks_at_step_0_fact_2() {
     }
 }
 
+/// W-205: of the plans up to two steps, 0, 1 is the fifth and the first right one.
+#[test]
+fn both_actions_are_found_by_a_search() {
+    let search = |longest, shared_grant, named: &[u64]| {
+        let case = Case {
+            longest,
+            shared_grant,
+            ..with_plan(&[])
+        };
+        expect(SearchPlans, &case, named);
+    };
+    search(2, u64::MAX, &[1, 27, 2, 0, 1]);
+    search(4, 27, &[1, 27, 2, 0, 1]);
+    search(2, 26, &[3, 26, 2, 0, 1]);
+    search(2, 21, &[3, 21, 2, 0, 0]);
+    search(2, 17, &[3, 17, 2, 0, 0]);
+    search(1, 17, &[2, 17]);
+    search(1, 16, &[3, 16, 1, 1]);
+    search(0, 5, &[2, 5]);
+    search(0, 4, &[3, 4]);
+    search(0, 0, &[3, 0]);
+    search(5, u64::MAX, &[0, 43, 0]);
+}
+
 /// A problem of two facts with one action, and a state to run it from.
 fn small(action: Action, initial: Formula, goal: Formula, steps: &[u8]) -> Case {
     let problem = Problem {

@@ -25,6 +25,7 @@ pub fn example() -> Example {
                  south.",
             ),
         ],
+        search: None,
     }
 }
 

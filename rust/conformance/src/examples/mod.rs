@@ -1,6 +1,7 @@
 //! Problems with plans that can be tried at the desk, and the files they fill.
 
 mod grid;
+mod small_store;
 mod sorting;
 mod store;
 mod trial;
@@ -9,7 +10,7 @@ use std::collections::BTreeMap;
 
 use crate::desk;
 use crate::encode;
-use crate::oracle::{self, Facts};
+use crate::oracle::{self, Facts, Search};
 use crate::version::VERSION_1;
 
 /// One problem or a few, with what they are about.
@@ -18,6 +19,54 @@ pub struct Example {
     /// The title and all that comes before the trials.
     about: String,
     pub trials: Vec<Trial>,
+    pub search: Option<Searching>,
+}
+
+/// Searches among the short plans of the file `problem`, up to each of these
+/// lengths, and a story of them. The last finds a plan.
+pub struct Searching {
+    pub problem: Vec<u8>,
+    pub lengths: &'static [u64],
+    pub grant: u64,
+    story: &'static str,
+}
+
+impl Searching {
+    fn new(problem: &[u8], lengths: &'static [u64], story: &'static str) -> Searching {
+        Searching {
+            problem: problem.to_vec(),
+            lengths,
+            grant: desk::GRANT,
+            story,
+        }
+    }
+
+    fn search(&self, longest: u64) -> Search {
+        let search = oracle::search_plans(&self.problem, longest, self.grant);
+        search.expect("the problem is sound and small")
+    }
+
+    /// The steps of the plan that is found.
+    fn plan(&self) -> Vec<u8> {
+        let mut searches = self.lengths.iter().map(|longest| self.search(*longest));
+        match searches.next_back() {
+            Some(Search::Found { plan, .. }) => plan,
+            other => panic!("{other:?}"),
+        }
+    }
+
+    /// What the program `search` of the crate `larkhammock` prints, without the
+    /// end of its line.
+    pub fn printed(&self, longest: u64) -> String {
+        let steps = |plan: &[u8]| -> String { plan.iter().map(|s| format!(" {s}")).collect() };
+        match self.search(longest) {
+            Search::Found { plan, visits } => format!("found{} visited {visits}", steps(&plan)),
+            Search::NoneRight { visits } => format!("none visited {visits}"),
+            Search::Undecided { plan, visits } => {
+                format!("undecided{} visited {visits}", steps(&plan))
+            }
+        }
+    }
 }
 
 /// A problem and a plan, and the names of their files and of the print.
@@ -72,6 +121,7 @@ pub fn all() -> Vec<Example> {
     vec![
         trial::example(),
         store::example(),
+        small_store::example(),
         sorting::example(),
         grid::example(),
     ]
@@ -102,6 +152,7 @@ Problems and plans for the desk program, `target/bin/desk PROBLEM PLAN`:
 
 - [trial](trial/README.md): the problem of document 01
 - [store](store/README.md): carriages brought home after a stoppage
+- [small-store](small-store/README.md): two of them, and a search for the plan
 - [sorting](sorting/README.md): a sorting network of 8 channels
 - [grid](grid/README.md): a robot that does not know where it is
 
@@ -138,6 +189,15 @@ fn readme(example: &Example) -> String {
             let facts = listed(&trial.relevant_facts(start.state));
             page += &format!("\n{}\n", start.story.replace("FACTS", &facts));
         }
+    }
+    if let Some(search) = &example.search {
+        page += &format!("\n## By search\n\n{}\n\n```\n$ cd rust\n", search.story);
+        for longest in search.lengths {
+            let problem = format!("../examples/{}/problem", example.folder);
+            page += "$ cargo run --release --example search -- ";
+            page += &format!("{problem} {longest}\n{}\n", search.printed(*longest));
+        }
+        page += "```\n";
     }
     page
 }

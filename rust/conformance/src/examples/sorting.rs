@@ -34,6 +34,7 @@ pub fn example() -> Example {
                 "`wrong-plan` leaves out action 14. The state named is a row that it does not sort.",
             ),
         ],
+        search: None,
     }
 }
 

@@ -46,6 +46,7 @@ pub fn example() -> Example {
                 )
             },
         ],
+        search: None,
     }
 }
 

@@ -8,20 +8,24 @@ mod rng;
 
 use crate::encode;
 use crate::harness::Case;
-use crate::oracle::{walk, End, Task};
+use crate::oracle::{search_plans, walk, End, Search, Task};
 use crate::version::{Version, MOST_PLAN_BYTES, MOST_PROBLEM_BYTES, PLAN_VERSION};
 
 use damage::{arbitrary, damaged, scribbled, unsound};
 pub use formulas::formula_of_size;
 pub use lists::{altered, cover, even_cover, every_cover, refined, Alteration};
 use problems::wide_task;
-pub use problems::{right_task, task};
+pub use problems::{ordered_problem, right_task, task};
 pub use rng::Rng;
 
 /// No generated call lets the walk look at more cases than this.
 const PATIENCE: u64 = 1_500;
 
-/// Arguments for all seven operations, all of them sound.
+/// The same of a search, which looks at each of them for another plan: what its
+/// answer is takes fewer to tell.
+const SEARCH_PATIENCE: u64 = 100;
+
+/// Arguments for all eight operations, all of them sound.
 pub fn sound_case(rng: &mut Rng, version: &Version) -> Case {
     let task = if rng.chance(1, 2) {
         right_task(rng, version)
@@ -119,6 +123,7 @@ fn case_of(rng: &mut Rng, task: &Task) -> Case {
 /// Chooses a grant and buffers that suit the blocks: near the edges, and never
 /// so large a grant that the walk takes long.
 fn settle(rng: &mut Rng, case: &mut Case, patience: u64) {
+    settle_search(case);
     case.grant = rng.word();
     case.room = rng.below(64);
     case.work = rng.below(64);
@@ -131,14 +136,36 @@ fn settle(rng: &mut Rng, case: &mut Case, patience: u64) {
         case.grant = rng.word() % patience;
         return;
     }
-    case.grant = match rng.below(8) {
-        0 => walk.visits - 1,
-        1 => walk.visits,
-        2 => rng.word() % walk.visits,
-        3 => walk.visits + rng.word() % 9,
-        _ => u64::MAX - rng.word() % 2,
-    };
+    case.grant = grant_near(rng, walk.visits);
     case.room = near(rng, task.problem.version.list_bytes(walk.lines.len()));
+}
+
+/// Chooses a longest length, mostly one of 0 to 4, and a grant for a search. It
+/// goes by the case itself, so that a seed gives the same cases for the rest.
+fn settle_search(case: &mut Case) {
+    let bytes = case.problem.iter().copied().map(u64::from);
+    let rng = &mut Rng::new(bytes.fold(case.state, |seed, byte| seed.rotate_left(5) ^ byte));
+    case.longest = match rng.below(32) {
+        0 => rng.word(),
+        1 => 5,
+        n => n as u64 % 5,
+    };
+    case.shared_grant = rng.word() % SEARCH_PATIENCE;
+    let search = search_plans(&case.problem, case.longest, SEARCH_PATIENCE);
+    if let Ok(Search::Found { visits, .. } | Search::NoneRight { visits }) = search {
+        case.shared_grant = grant_near(rng, visits);
+    }
+}
+
+/// A grant that is one short, exact, short, a few more or as good as endless.
+fn grant_near(rng: &mut Rng, visits: u64) -> u64 {
+    match rng.below(8) {
+        0 => visits - 1,
+        1 => visits,
+        2 => rng.word() % visits,
+        3 => visits + rng.word() % 9,
+        _ => u64::MAX - rng.word() % 2,
+    }
 }
 
 /// A length that is one short, short, exact or longer.

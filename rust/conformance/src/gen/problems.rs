@@ -7,7 +7,7 @@ use super::Rng;
 use crate::encode;
 use crate::model::{Action, Effect, Formula, Literal, Problem};
 use crate::oracle::{after, conflicts, holds, Task};
-use crate::version::{Version, MOST_ACTIONS, MOST_PROBLEM_BYTES, MOST_STEPS};
+use crate::version::{Version, LONGEST_SEARCHED, MOST_ACTIONS, MOST_PROBLEM_BYTES, MOST_STEPS};
 
 /// A plan with steps among the actions; empty where there are none.
 pub fn plan(rng: &mut Rng, actions: usize) -> Vec<u8> {
@@ -232,6 +232,53 @@ fn spoil(rng: &mut Rng, problem: &mut Problem) {
             action.effects[effect].condition = other;
         }
         _ => problem.goal = other,
+    }
+}
+
+/// A problem for which a search has to go far: it wants up to four steps in turn,
+/// each of which sets a fact if that of the step before is true. Facts after those
+/// come and go, and decide nothing.
+pub fn ordered_problem(rng: &mut Rng, version: &Version) -> Problem {
+    let wanted = rng.below(LONGEST_SEARCHED as usize + 1) as u8;
+    let facts = wanted + rng.between(1, 3) as u8;
+    let mut actions: Vec<Action> = (0..rng.between(1, 4))
+        .map(|_| Action {
+            precondition: Formula::always(),
+            effects: Vec::new(),
+        })
+        .collect();
+    let mut goal = Formula::always();
+    for fact in 0..wanted {
+        let before = match fact {
+            0 => Formula::always(),
+            _ => Formula::fact(fact - 1),
+        };
+        let step = rng.below(actions.len());
+        actions[step].effects.push(Effect::sets(fact, before));
+        goal = Formula::fact(fact);
+    }
+    for action in &mut actions {
+        let other = rng.between(wanted.into(), usize::from(facts) - 1) as u8;
+        match rng.below(3) {
+            0 => action
+                .effects
+                .push(Effect::sets(other, literal(rng, facts))),
+            1 => action
+                .effects
+                .push(Effect::clears(other, literal(rng, facts))),
+            _ => {}
+        }
+    }
+    let mut starts: Vec<Formula> = (0..wanted).map(Formula::not).collect();
+    starts.push(Formula::any(
+        (0..rng.between(1, 3)).map(|_| literal(rng, facts)),
+    ));
+    Problem {
+        version: *version,
+        facts,
+        initial: Formula::all(starts),
+        goal,
+        actions,
     }
 }
 

@@ -7,6 +7,7 @@ mod cases;
 mod follow;
 mod parse;
 mod relevance;
+mod search;
 mod states;
 
 use crate::encode;
@@ -14,6 +15,7 @@ use crate::model::{Action, Line, Problem};
 
 pub use cases::{closes, walk, End, Walk};
 pub use relevance::{conditions, named, Facts};
+pub use search::{plans, Search};
 pub use states::{after, conflicts, holds, lowest_failing, outcome, states};
 
 /// Up to this many facts the judge's verdict comes from every state in turn.
@@ -185,6 +187,12 @@ pub fn relevant_facts(
     let facts = relevance::relevant(&task, &states);
     let set = facts.iter().map(|f| task.problem.version.bit(*f)).sum();
     Ok(ReachedRun { facts, set, states })
+}
+
+pub fn search_plans(problem: &[u8], longest: u64, grant: u64) -> Result<Search, Refusal> {
+    let problem = parse::problem(problem)?;
+    search::refused(problem.actions.len(), longest)?;
+    Ok(search::search(problem, longest, grant))
 }
 
 /// The verdict of a walk. Where the states can be enumerated, they decide, and

@@ -84,6 +84,8 @@ int main(void)
     const uint64_t plenty = UINT64_MAX;
     const uint64_t wrong_blocked[8] = {2, 5, s010, 3, 1, 0, 1, 0};
     const uint64_t wrong_stalled[8] = {2, 5, s010, 3, 1, 1, 2, 0};
+    const uint64_t found[8] = {1, 27, 2, 0, 1, 0, 0, 0};
+    const uint64_t undecided[8] = {3, 26, 2, 0, 1, 0, 0, 0};
     uint8_t out[40], work[16], kept[40];
 
     is("read_problem", larkhammock_read_problem(SLICE(problem)), 1, 3, 2, 0);
@@ -161,6 +163,17 @@ int main(void)
     is("relevant_facts, two",
        larkhammock_relevant_facts(SLICE(problem), SLICE(both), s100, work, 9),
        1, s100 | s010, 0, 0);
+
+    are("search_plans", larkhammock_search_plans(SLICE(problem), 4, plenty),
+        found);
+    are("search_plans, undecided",
+        larkhammock_search_plans(SLICE(problem), 2, 26), undecided);
+    is("search_plans, none",
+       larkhammock_search_plans(SLICE(problem), 1, plenty), 2, 17, 0, 0);
+    is("search_plans, too long",
+       larkhammock_search_plans(SLICE(problem), 5, plenty), 0, 43, 0, 0);
+    is("search_plans, cut",
+       larkhammock_search_plans(problem, 4, 5, plenty), 0, 11, 4, 0);
 
     if (faults == 0)
         printf("%d answers as they should be\n", checked);

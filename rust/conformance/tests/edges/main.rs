@@ -7,6 +7,7 @@ mod read_plan;
 mod read_problem;
 mod relevant_facts;
 mod run;
+mod search_plans;
 #[path = "../support/mod.rs"]
 mod support;
 mod write_list;
@@ -32,6 +33,7 @@ fn case_of(problem: &Problem, steps: &[u8]) -> Case {
         grant: u64::MAX,
         room: VERSION_1.most_bytes(),
         work: VERSION_1.most_work_bytes(),
+        shared_grant: u64::MAX,
         ..Case::default()
     }
 }
@@ -53,6 +55,7 @@ fn the_problem_is_refused_before_the_plan_and_the_list() {
         plan: vec![2],
         list: vec![3],
         state: u64::MAX,
+        longest: u64::MAX,
         ..Case::default()
     };
     for operation in Operation::ALL {
@@ -63,4 +66,6 @@ fn the_problem_is_refused_before_the_plan_and_the_list() {
     for operation in [ReadPlan, Run, Judge, WriteList, FollowList, RelevantFacts] {
         expect(operation, &case, &[0, 31, 1]);
     }
+    // A search takes no plan.
+    expect(SearchPlans, &case, &[0, 43, 0]);
 }
