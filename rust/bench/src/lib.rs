@@ -11,5 +11,6 @@ pub mod problems;
 pub mod ratios;
 pub mod relevance;
 pub mod sat;
+pub mod search;
 pub mod solvers;
 pub mod timing;

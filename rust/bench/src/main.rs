@@ -6,14 +6,15 @@ use std::fs;
 use std::io;
 use std::path::Path;
 
-use bench::{follow, growth, judge, machine, relevance, solvers};
+use bench::{follow, growth, judge, machine, relevance, search, solvers};
 
 type Section = (&'static str, fn() -> String);
 
-const SECTIONS: [Section; 5] = [
+const SECTIONS: [Section; 6] = [
     ("judge", judge::section),
     ("follow", follow::section),
     ("relevance", relevance::section),
+    ("search", search::section),
     ("growth", growth::section),
     ("solvers", solvers::section),
 ];

@@ -3,9 +3,10 @@
 use std::collections::{BTreeMap, BTreeSet};
 
 use bench::plain;
+use bench::plain::search::{Plan, Search};
 use bench::problems;
 use bench::sat::{self, Cnf, Lit};
-use conformance::answer::words;
+use conformance::answer::{words, Answer};
 use conformance::gen::{damaged_case, sound_case, Rng};
 use conformance::harness::Case;
 use conformance::oracle;
@@ -122,6 +123,47 @@ fn plain_relevant_facts_are_told_and_refused_alike() {
     // Told, and each refusal of its own.
     for number in [0, 40, 41, 42] {
         assert!(met[&number] > 1_000, "{met:?}");
+    }
+}
+
+/// The search in plain Rust finds what the library's does.
+#[test]
+fn plain_searches_find_and_refuse_alike() {
+    let mut rng = Rng::new(0xbe7e);
+    let mut met = BTreeMap::new();
+    for round in 0..20_000 {
+        let case = match round % 4 {
+            0 => damaged_case(&mut rng, &VERSION_1),
+            _ => sound_case(&mut rng, &VERSION_1),
+        };
+        let Case {
+            problem, longest, ..
+        } = &case;
+        for grant in [case.shared_grant.min(20_000), 2_000] {
+            let told = raw::search_plans(problem, *longest, grant).word;
+            let plain = plain::search::search_plans(problem, *longest, grant);
+            assert_eq!(searched(plain), told, "round {round}, grant {grant}");
+            let number = if told[0] == 0 { told[1] } else { 0 };
+            *met.entry((told[0], number)).or_insert(0) += 1;
+        }
+    }
+    for kind in [(1, 0), (2, 0), (3, 0), (0, 43)] {
+        assert!(met[&kind] > 1_000, "{met:?}");
+    }
+    assert!(met[&(0, 44)] > 10, "{met:?}");
+}
+
+/// The words of a search in plain Rust.
+fn searched(search: Result<Search, plain::Refusal>) -> Answer {
+    let with_plan = |tag, visits, plan: Plan| {
+        let steps = plan.steps.map(u64::from);
+        words(&[&[tag, visits, plan.length as u64], &steps[..]].concat())
+    };
+    match search {
+        Err(refusal) => words(&[0, refusal.number.into(), refusal.place as u64]),
+        Ok(Search::Found { plan, visits }) => with_plan(1, visits, plan),
+        Ok(Search::NoneRight { visits }) => words(&[2, visits]),
+        Ok(Search::Undecided { plan, visits }) => with_plan(3, visits, plan),
     }
 }
 

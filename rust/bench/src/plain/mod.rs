@@ -1,12 +1,13 @@
 //! What is measured, as one would write it by hand in Rust: the judge twice, a
-//! case at a time, and 63 cases at a time on bit planes; and the relevant facts of
-//! a run. All have the same reading and the library's answers, and share nothing
-//! with it.
+//! case at a time, and 63 cases at a time on bit planes; the relevant facts of a
+//! run; and the search among short plans. All have the same reading and the
+//! library's answers, and share nothing with it.
 
 pub mod planes;
 mod read;
 pub mod relevance;
 pub mod scalar;
+pub mod search;
 
 pub use read::Refusal;
 

@@ -9,23 +9,36 @@ pub struct Refusal {
     pub place: usize,
 }
 
-fn refuse<T>(number: u8, place: usize) -> Result<T, Refusal> {
+pub fn refuse<T>(number: u8, place: usize) -> Result<T, Refusal> {
     Err(Refusal { number, place })
 }
 
 /// A problem that was read, and the steps of its plan. A part is where its
 /// first length field stands.
+#[derive(Clone, Copy)]
 pub struct Task<'a> {
     pub bytes: &'a [u8],
     pub facts: u8,
     pub initial: usize,
     pub goal: usize,
+    pub count: u8,
     pub actions: [usize; 64],
     pub steps: &'a [u8],
 }
 
 impl<'a> Task<'a> {
     pub fn read(problem: &'a [u8], plan: &'a [u8]) -> Result<Task<'a>, Refusal> {
+        let task = Task::of_problem(problem)?;
+        header(plan, 261, 30)?;
+        let steps = &plan[5..];
+        if let Some(i) = steps.iter().position(|step| *step >= task.count) {
+            return refuse(34, 5 + i);
+        }
+        Ok(Task { steps, ..task })
+    }
+
+    /// The problem with the empty plan.
+    pub fn of_problem(problem: &'a [u8]) -> Result<Task<'a>, Refusal> {
         header(problem, 32_768, 10)?;
         let mut reader = Reader {
             bytes: problem,
@@ -44,18 +57,14 @@ impl<'a> Task<'a> {
         if reader.at < problem.len() {
             return refuse(25, reader.at);
         }
-        header(plan, 261, 30)?;
-        let steps = &plan[5..];
-        if let Some(i) = steps.iter().position(|step| *step >= count) {
-            return refuse(34, 5 + i);
-        }
         Ok(Task {
             bytes: problem,
             facts,
             initial,
             goal,
+            count,
             actions,
-            steps,
+            steps: &[],
         })
     }
 }

@@ -12,10 +12,18 @@ const MOST_EFFECTS: usize = 96;
 /// An effect's literal, and its condition in the values before the action.
 type Found = (u8, Planes);
 
+/// Room for the effects of an action. What is left in it matters to no other look, so
+/// that many plans can share it.
+pub struct Room([Found; MOST_EFFECTS]);
+
+impl Room {
+    pub const NEW: Room = Room([(0, Planes::NO); MOST_EFFECTS]);
+}
+
 /// What looks: the task, and room for the effects of an action.
 pub struct Look<'a> {
     task: &'a Task<'a>,
-    found: [Found; MOST_EFFECTS],
+    found: &'a mut [Found; MOST_EFFECTS],
 }
 
 /// The step at which no lane was surely applicable any more, and why.
@@ -25,10 +33,10 @@ enum Stop {
 }
 
 impl<'a> Look<'a> {
-    pub fn new(task: &'a Task<'a>) -> Look<'a> {
+    pub fn new(task: &'a Task<'a>, room: &'a mut Room) -> Look<'a> {
         Look {
             task,
-            found: [(0, Planes::NO); MOST_EFFECTS],
+            found: &mut room.0,
         }
     }
 
@@ -49,7 +57,7 @@ impl<'a> Look<'a> {
             }
             Err(Stop::Conflict(step)) => {
                 let (_, effects) = action(self.task, self.task.steps[step]);
-                let (found, _) = find(effects, &table, &mut self.found);
+                let (found, _) = find(effects, &table, self.found);
                 let part = Part::Fact(lowest_conflict(found));
                 Outcome::Blocked { step, part }
             }
@@ -68,7 +76,7 @@ impl<'a> Look<'a> {
             if alive == 0 {
                 return Err(Stop::Unmet(step));
             }
-            let (found, conflicts) = find(effects, table, &mut self.found);
+            let (found, conflicts) = find(effects, table, self.found);
             alive &= !conflicts;
             if alive == 0 {
                 return Err(Stop::Conflict(step));

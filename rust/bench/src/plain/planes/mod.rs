@@ -10,6 +10,9 @@ mod walk;
 use super::read::Task;
 use super::Verdict;
 
+pub use look::Room;
+pub use walk::is_right;
+
 /// The bits of a state's number, of which the top one is fact 0.
 const WIDTH: u32 = 48;
 

@@ -1,6 +1,6 @@
 //! The walk itself, block by block.
 
-use super::look::Look;
+use super::look::{Look, Room};
 use super::table::{Planes, Table};
 use super::{Lanes, WIDTH};
 use crate::plain::read::Task;
@@ -39,14 +39,8 @@ struct Walk<'a> {
 }
 
 pub fn verdict(task: &Task, grant: u64) -> Verdict {
-    let mut walk = Walk {
-        look: Look::new(task),
-        facts: task.facts,
-        case: Table::UNKNOWN,
-        grant,
-        visits: 0,
-        lines: 0,
-    };
+    let mut room = Room::NEW;
+    let mut walk = Walk::new(task, grant, &mut room);
     let end = walk.block(Block::first(task.facts));
     let visits = walk.visits;
     match end {
@@ -60,6 +54,31 @@ pub fn verdict(task: &Task, grant: u64) -> Verdict {
             lines: walk.lines,
             visits,
         },
+    }
+}
+
+/// Whether the plan is right, unless the grant was too small to know; and the
+/// visits.
+pub fn is_right(task: &Task, grant: u64, room: &mut Room) -> (Option<bool>, u64) {
+    let mut walk = Walk::new(task, grant, room);
+    let right = match walk.block(Block::first(task.facts)) {
+        Err(Stop::Spent) => None,
+        Err(Stop::Failing(_)) => Some(false),
+        Ok(()) => Some(true),
+    };
+    (right, walk.visits)
+}
+
+impl<'a> Walk<'a> {
+    fn new(task: &'a Task<'a>, grant: u64, room: &'a mut Room) -> Walk<'a> {
+        Walk {
+            look: Look::new(task, room),
+            facts: task.facts,
+            case: Table::UNKNOWN,
+            grant,
+            visits: 0,
+            lines: 0,
+        }
     }
 }
 
