@@ -7,7 +7,7 @@ ghost use Prim.Native.Nat.{_<_};
 ghost use Rattle.model.specs.Answers.{part as partOf, outcome as meaning, shortSteps};
 ghost use Rattle.model.specs.Operations.{readProblem, readPlan, runState, judge, writeList, followList, relevantFacts, searchPlans};
 ghost use Rattle.larkhammock.specs.Words.{refusalWords, partWord, partNumber, wrongWords, problemWords, countWords, runWords, judgeWords, planWords, searchWords};
-ghost use Rattle.search.specs.Trying.{Room};
+ghost use Rattle.prefixes.specs.Trying.{Room};
 use model::FollowAnswer;
 use model::JudgeAnswer;
 use model::Outcome;

@@ -31,9 +31,10 @@ use Rattle.blocks.proofs.Tasks.{problem-refused, problem-found}
 use Rattle.table.specs.Tables.{NoneFixed}
 use Rattle.table.specs.Blocks.{blockCase, FixesLevels}
 use Rattle.walk.specs.Walks.{LevelsOf}
-use Rattle.search.specs.declared.plans.Root.{Root}
-use Rattle.search.specs.declared.plans.Progress.{Progress}
-use Rattle.search.specs.Trying.{RootAt, cameTo, TriesProblem, ends, Ends}
+use Rattle.prefixes.specs.declared.plan.Root.{Root}
+use Rattle.prefixes.specs.declared.plan.Progress.{Progress}
+use Rattle.prefixes.specs.Trying.{RootAt, cameTo}
+use Rattle.search.specs.Problems.{TriesProblem, ends, Ends}
 
 -- the root of a problem, and the table of its first block
 pub root-at :

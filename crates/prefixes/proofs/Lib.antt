@@ -1,0 +1,4 @@
+-- Laws of the definitions, for several functions' proofs.
+pub mod Beginning
+pub mod Trying
+pub mod Alike
