@@ -92,16 +92,33 @@ fn plain_judges_judge_and_refuse_alike() {
     }
 }
 
+/// Three sound cases, and a damaged one.
+fn mostly_sound_case(rng: &mut Rng, round: usize) -> Case {
+    match round % 4 {
+        0 => damaged_case(rng, &VERSION_1),
+        _ => sound_case(rng, &VERSION_1),
+    }
+}
+
+fn refused(refusal: plain::Refusal) -> Answer {
+    words(&[0, refusal.number.into(), refusal.place as u64])
+}
+
+/// The number of a refusal, and 0 of any other answer.
+fn refusal_number(answer: &Answer) -> u64 {
+    match answer {
+        [0, number, ..] => *number,
+        _ => 0,
+    }
+}
+
 /// The relevant facts in plain Rust are the library's, and so is the work area.
 #[test]
 fn plain_relevant_facts_are_told_and_refused_alike() {
     let mut rng = Rng::new(0xbe7d);
     let mut met = BTreeMap::new();
     for round in 0..20_000 {
-        let case = match round % 4 {
-            0 => damaged_case(&mut rng, &VERSION_1),
-            _ => sound_case(&mut rng, &VERSION_1),
-        };
+        let case = mostly_sound_case(&mut rng, round);
         let Case {
             problem,
             plan,
@@ -113,12 +130,11 @@ fn plain_relevant_facts_are_told_and_refused_alike() {
         let told = raw::relevant_facts(problem, plan, *state, &mut ours).word;
         let answer = match plain::relevance::relevant_facts(problem, plan, *state, &mut plain) {
             Ok(set) => words(&[1, set]),
-            Err(refusal) => words(&[0, refusal.number.into(), refusal.place as u64]),
+            Err(refusal) => refused(refusal),
         };
         assert_eq!(answer, told, "round {round}");
         assert_eq!(plain, ours, "round {round}");
-        let number = if told[0] == 0 { told[1] } else { 0 };
-        *met.entry(number).or_insert(0) += 1;
+        *met.entry(refusal_number(&told)).or_insert(0) += 1;
     }
     // Told, and each refusal of its own.
     for number in [0, 40, 41, 42] {
@@ -132,10 +148,7 @@ fn plain_searches_find_and_refuse_alike() {
     let mut rng = Rng::new(0xbe7e);
     let mut met = BTreeMap::new();
     for round in 0..20_000 {
-        let case = match round % 4 {
-            0 => damaged_case(&mut rng, &VERSION_1),
-            _ => sound_case(&mut rng, &VERSION_1),
-        };
+        let case = mostly_sound_case(&mut rng, round);
         let Case {
             problem, longest, ..
         } = &case;
@@ -143,8 +156,7 @@ fn plain_searches_find_and_refuse_alike() {
             let told = raw::search_plans(problem, *longest, grant).word;
             let plain = plain::search::search_plans(problem, *longest, grant);
             assert_eq!(searched(plain), told, "round {round}, grant {grant}");
-            let number = if told[0] == 0 { told[1] } else { 0 };
-            *met.entry((told[0], number)).or_insert(0) += 1;
+            *met.entry((told[0], refusal_number(&told))).or_insert(0) += 1;
         }
     }
     for kind in [(1, 0), (2, 0), (3, 0), (0, 43)] {
@@ -160,7 +172,7 @@ fn searched(search: Result<Search, plain::Refusal>) -> Answer {
         words(&[&[tag, visits, plan.length as u64], &steps[..]].concat())
     };
     match search {
-        Err(refusal) => words(&[0, refusal.number.into(), refusal.place as u64]),
+        Err(refusal) => refused(refusal),
         Ok(Search::Found { plan, visits }) => with_plan(1, visits, plan),
         Ok(Search::NoneRight { visits }) => words(&[2, visits]),
         Ok(Search::Undecided { plan, visits }) => with_plan(3, visits, plan),
