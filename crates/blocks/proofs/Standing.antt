@@ -71,7 +71,6 @@ module _ {F : Limits} (S : Sensible F) {s : List ℕ} (b : Bytes s) {parts : dec
   placed-in =
       record {
         count = w .actions;
-        few = w .few;
         task = λ steps k. record { width = refl; few = w .most; facts = w .facts; stands = task-stands steps (each-below steps k) };
       }
 

@@ -4,7 +4,6 @@ use mathlib.Core.List.{List}
 use Prim.Native.Nat.{ℕ, _+_, _≤_, _<_}
 use lib.ListN.{length, drop}
 use Rattle.model.specs.declared.Limits.{Limits}
-use Rattle.model.specs.Limits.{maxActions}
 use Rattle.model.specs.Answer.{answered}
 use Rattle.model.specs.Case.{Task}
 use Rattle.model.specs.Read.{headBytes}
@@ -33,7 +32,6 @@ TaskIn F problem steps parts T = VersionTask F problem steps (parts .action) (pa
 -- the problem p stands where `parts` says: so does the task that any of its plans makes
 pub record ProblemIn (F : Limits) (problem : List ℕ) (parts : Problem) (p : bytes.Problem) : Type 0 where
   pub count : parts .actions ≡ length (p .actions)
-  pub few : length (p .actions) ≤ maxActions
   pub task : (steps : List ℕ) → Each (λ b. b < length (p .actions)) steps → TaskIn F problem steps parts (taskOf F p steps)
 
 -- a problem and a plan that were found are read as some task, by the numbers F of a version; it is of the version whose numbers were

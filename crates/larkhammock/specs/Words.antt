@@ -65,11 +65,11 @@ abbrev pub planWords : ℕ → ℕ → List ℕ → List ℕ
 planWords tag visits p = tag ∷ visits ∷ length p ∷ getD p 0 0 ∷ getD p 1 0 ∷ getD p 2 0 ∷ getD p 3 0 ∷ 0 ∷ []
 
 -- "1 found, 2 none, 3 undecided"; "none: length and steps are 0"
-abbrev pub foundWords : Search → List ℕ
-foundWords (firstRight p visits) = planWords 1 visits p
-foundWords (noneRight visits) = words 2 visits 0 0 0
-foundWords (undecidedAt p visits) = planWords 3 visits p
+abbrev pub searchedWords : Search → List ℕ
+searchedWords (firstRight p visits) = planWords 1 visits p
+searchedWords (noneRight visits) = words 2 visits 0 0 0
+searchedWords (undecidedAt p visits) = planWords 3 visits p
 
 abbrev pub searchWords : Answer Search → List ℕ
 searchWords (refused n q) = refusalWords n q
-searchWords (answered r) = foundWords r
+searchWords (answered r) = searchedWords r

@@ -1,8 +1,10 @@
--- The answer enums of src/lib.rt: the paper's number and values for each of their cases. The contracts of the operations are
+-- The answer types of src/lib.rt: the paper's number and values for each of their cases. The contracts of the operations are
 -- equations between these and the definitions of Operations.
+use mathlib.Core.Path.{_≡_}
 use mathlib.Core.List.{List}
-use Prim.Native.Nat.{ℕ}
-use lib.ListN.{take}
+use Prim.Native.Nat.{ℕ, _+_, _≤_}
+use lib.ListN.{length, take}
+use Rattle.model.specs.Limits.{maxLength}
 use Rattle.model.specs.Answer.{Answer, refused, answered}
 use Rattle.model.specs.Run as Run
 use Rattle.model.specs.Walk.{Verdict, right, wrong, undecided}
@@ -93,6 +95,11 @@ relevantAnswer (Facts m) = answered m
 -- a plan of a search
 abbrev pub shortSteps : ShortPlan → List ℕ
 shortSteps p = take (p .length) (p .steps)
+
+-- the plan has room for so many more steps
+pub record Room (plan : ShortPlan) (more : ℕ) : Type 0 where
+  pub size : length (plan .steps) ≡ maxLength
+  pub fits : plan .length + more ≤ maxLength
 
 -- "the first right plan, or that none is right, or undecided .., each with the visits used in all" (W-205)
 abbrev pub searchEnds : SearchEnd → List ℕ → ℕ → Answer Search

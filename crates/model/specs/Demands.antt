@@ -16,12 +16,12 @@ use Rattle.model.specs.Case.{stateOf, Task, runOf, IsState, IsStart, Rig
 use Rattle.model.specs.Belief.{Solution, initialBelief, OutcomeMeans}
 use Rattle.model.specs.Walk.{Line, covered, Verdict, right, wrong, undecided, visits, lookAt, walked}
 use Rattle.model.specs.Relevance.{relevantTo, workBytes, runRows, AgreeOn}
-use Rattle.model.specs.Search.{Search, firstRight, noneRight, undecidedAt, plansUpTo, search, visitsOf, IsShort, Earlier, Enumerates}
+use Rattle.model.specs.Search.{Search, firstRight, noneRight, undecidedAt, visitsOf, IsShort, Earlier, Enumerates}
 use Rattle.model.specs.Read.{headBytes}
 use Rattle.model.specs.ProblemBytes.{Problem, problemOf, planOf, encodeProblem, encodePlan}
 use Rattle.model.specs.ListBytes.{listOf, encodeList}
 use Rattle.model.specs.WellFormed.{Bytes, Each, ProblemOk, PlanOk, ListOk, LineHolds, Joined}
-use Rattle.model.specs.Operations.{taskOf, readTask, runState, judge, listBytes, writeList, followList, relevantFacts, searchPlans}
+use Rattle.model.specs.Operations.{taskOf, readTask, runState, judge, listBytes, writeList, followList, relevantFacts, plansIn, searchPlans}
 
 -- Demand 1, "All input": ".. refuses malformed blocks by number and place in the stated order, calls nothing else malformed, and a
 -- refused call changes no byte." The order is the text of the readers (FormulaBytes, ProblemBytes, ListBytes).
@@ -190,16 +190,17 @@ pub record Relevance (F : Limits) (problem plan : List ℕ) (T : Task) : Type 0 
       (take (workBytes T) (relevantFacts F problem plan s work .buffer) ≡ runRows T s) ×
       (drop (workBytes T) (relevantFacts F problem plan s work .buffer) ≡ drop (workBytes T) work)
 
--- what an answer of a search says, of any list of plans, each of which makes a task
-module _ (task : List ℕ → Task) (plans : List (List ℕ)) (grant : ℕ) where
-  abbrev pub NotRight : List ℕ → Type 0
-  NotRight p = Right (task p) → ⊥
+-- the plan p, which makes a task, is not right
+abbrev pub NotRight : (List ℕ → Task) → List ℕ → Type 0
+NotRight task p = Right (task p) → ⊥
 
+-- what an answer of a search says, of any list of plans
+module _ (task : List ℕ → Task) (plans : List (List ℕ)) (grant : ℕ) where
   -- the plan p stands in the list after those of `before`, and none of them is right; all of their walks are within the grant
   pub record ComesTo (before : List (List ℕ)) (p : List ℕ) : Type 0 where
     pub after : List (List ℕ)
     pub stands : plans ≡ before ++ (p ∷ after)
-    pub none-before : Each NotRight before
+    pub none-before : Each (NotRight task) before
     pub within : visitsOf task before ≤ grant
 
   -- "the first right plan", with "the visits used in all"
@@ -212,7 +213,7 @@ module _ (task : List ℕ → Task) (plans : List (List ℕ)) (grant : ℕ) wher
 
   -- "that none is right"
   pub record SaysNoneRight (used : ℕ) : Type 0 where
-    pub none : Each NotRight plans
+    pub none : Each (NotRight task) plans
     pub is-used : used ≡ visitsOf task plans
     pub granted : used ≤ grant
 
@@ -231,25 +232,25 @@ module _ (task : List ℕ → Task) (plans : List (List ℕ)) (grant : ℕ) wher
 -- W-205, for a problem that is read as p: "Try every short plan, in order"
 pub record Searching (F : Limits) (problem : List ℕ) (p : Problem) : Type 0 where
   -- "every plan up to that length, by length and then by step numbers from the first step on, each exactly once"
-  pub enumerates : (longest : ℕ) → Enumerates (length (p .actions)) longest (plansUpTo (length (p .actions)) longest)
+  pub enumerates : (longest : ℕ) → Enumerates (length (p .actions)) longest (plansIn p longest)
   -- "43 for a length over 4 and 44 if there are more than 1,000,000 plans of those lengths"; otherwise it answers
   pub over-length : (longest grant : ℕ) → maxLength < longest → searchPlans F problem longest grant ≡ refused 43 0
   pub too-many :
-      (longest grant : ℕ) → longest ≤ maxLength → maxPlans < length (plansUpTo (length (p .actions)) longest) →
+      (longest grant : ℕ) → longest ≤ maxLength → maxPlans < length (plansIn p longest) →
       searchPlans F problem longest grant ≡ refused 44 0
   -- each answer exactly if it is so
   pub says :
-      (longest grant : ℕ) → longest ≤ maxLength → length (plansUpTo (length (p .actions)) longest) ≤ maxPlans → (r : Search) →
-      (searchPlans F problem longest grant ≡ answered r) ↔ SearchSays (taskOf F p) (plansUpTo (length (p .actions)) longest) grant r
+      (longest grant : ℕ) → longest ≤ maxLength → length (plansIn p longest) ≤ maxPlans → (r : Search) →
+      (searchPlans F problem longest grant ≡ answered r) ↔ SearchSays (taskOf F p) (plansIn p longest) grant r
   -- the plan found is right, and every plan before it is not
   pub found-first :
       (longest grant : ℕ) (q : List ℕ) (used : ℕ) → searchPlans F problem longest grant ≡ answered (firstRight q used) →
       IsShort (length (p .actions)) longest q × Right (taskOf F p q) ×
-      ((b : List ℕ) → IsShort (length (p .actions)) longest b → Earlier b q → Right (taskOf F p b) → ⊥)
+      ((b : List ℕ) → IsShort (length (p .actions)) longest b → Earlier b q → NotRight (taskOf F p) b)
   -- where none is right, no plan up to that length is
   pub none-right :
       (longest grant used : ℕ) → searchPlans F problem longest grant ≡ answered (noneRight used) →
-      (b : List ℕ) → IsShort (length (p .actions)) longest b → Right (taskOf F p b) → ⊥
+      (b : List ℕ) → IsShort (length (p .actions)) longest b → NotRight (taskOf F p) b
   -- a found or none answer stays the same under every larger grant
   pub larger-grant :
       (longest g g′ : ℕ) → g ≤ g′ → ((q : List ℕ) (used : ℕ) → searchPlans F problem longest g ≢ answered (undecidedAt q used)) →

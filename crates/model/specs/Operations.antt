@@ -51,6 +51,10 @@ tracedBack s work (answered T) = record { answer = answered (relevantTo T s); bu
 abbrev pub whenFew : {A : Type 0} → ℕ → ℕ → Answer A → Answer A
 whenFew m longest x = cond (ltb maxLength longest) (refused 43 0) (cond (ltb maxPlans (planCount m longest)) (refused 44 0) x)
 
+-- "every plan up to that length"
+abbrev pub plansIn : Problem → ℕ → List (List ℕ)
+plansIn p longest = plansUpTo (length (p .actions)) longest
+
 abbrev pub lineCount : Verdict (List Line) → Verdict ℕ
 lineCount (right ls a) = right (length ls) a
 lineCount (wrong s o a) = wrong s o a
@@ -157,4 +161,4 @@ module _ (F : Limits) where
   unfoldable pub searchPlans : List ℕ → ℕ → ℕ → Answer Search
   searchPlans problem longest grant = do
     p ← problemOf F problem
-    whenFew (length (p .actions)) longest (answered (search (taskOf p) grant (plansUpTo (length (p .actions)) longest) 0))
+    whenFew (length (p .actions)) longest (answered (search (taskOf p) grant (plansIn p longest) 0))

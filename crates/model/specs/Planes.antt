@@ -12,6 +12,10 @@ use Rattle.model.specs.FormulaBytes.{literalOf}
 unfoldable pub laneBit : ℕ → ℕ → ℕ
 laneBit j x = x / 2 ^ j % 2
 
+-- every lane's bit
+abbrev pub ones : ℕ
+ones = 0xffffffffffffffff
+
 abbrev pub someBit : Kleene → ℕ
 someBit No = 0
 someBit Unknown = 1

@@ -461,14 +461,16 @@ findsNone used = searched (answered (noneRight used))
 abbrev pub stopsAt : List ℕ → ℕ → Reply
 stopsAt plan used = searched (answered (undecidedAt plan used))
 
--- every short plan (document 02, W-205): P, whose plans of the steps 0, 1 and 1, 0 are right, up to each length, and with grants that suffice, fall one
--- short, and are used up before and at a plan; a problem whose empty plan is right, and one without start states; no plan right, with 0, 1 and
+-- every short plan (document 02, W-205): P, whose plans of the steps 0, 1 and 1, 0 are right, up to each length, and with grants that suffice,
+-- fall one short, and are used up before and at a plan; a problem whose empty plan is right, and one without start states; no plan right, with 0, 1 and
 -- more actions; 31, 32 and 64 actions; and what is refused, the problem's refusals first, then 43, then 44.
 abbrev pub searches : List Row
 searches =
     (search-plans P 0 grant ⇒ findsNone 5)
     ∷ (search-plans P 1 grant ⇒ findsNone 17)
     ∷ (search-plans P 2 grant ⇒ finds (0 ∷ 1 ∷ []) 27)
+    ∷ (search-plans P 3 grant ⇒ finds (0 ∷ 1 ∷ []) 27)
+    ∷ (search-plans P 4 28 ⇒ finds (0 ∷ 1 ∷ []) 27)
     ∷ (search-plans P 4 27 ⇒ finds (0 ∷ 1 ∷ []) 27)
     ∷ (search-plans P 4 26 ⇒ stopsAt (0 ∷ 1 ∷ []) 26)
     ∷ (search-plans P 4 22 ⇒ stopsAt (0 ∷ 1 ∷ []) 22)

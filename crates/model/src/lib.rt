@@ -214,7 +214,7 @@ pub enum SearchEnd {
     Undecided,
 }
 
-// The answer of a search: a plan is found, or undecided; the visits are those used in all.
+// The answer of a search, with the visits used in all; `plan` is the one found or undecided, and says nothing where it ends otherwise.
 pub struct SearchAnswer {
     pub end: SearchEnd,
     pub visits: u64,

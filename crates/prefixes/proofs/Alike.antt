@@ -2,7 +2,7 @@
 use mathlib.Core.Path.{_≡_, refl, sym, ap, _∙_, subst}
 use mathlib.Core.Bool.{Bool, true, false}
 use mathlib.Core.List.{List, [], _∷_, _++_, map, append-nil, map-id}
-use Prim.Native.Nat.{ℕ, zero, suc, _+_, _-_, _≤_, _<_}
+use Prim.Native.Nat.{ℕ, suc, _+_, _-_, _≤_, _<_}
 use native.Mathlib.Omega.{arith}
 use native.Mathlib.Numerals.{add-one}
 use lib.ListN.{length}
@@ -11,23 +11,24 @@ use Rattle.model.specs.declared.ShortPlan.{ShortPlan}
 use Rattle.model.specs.ProblemBytes.{Problem}
 use Rattle.model.specs.Operations.{taskOf}
 use Rattle.model.specs.WellFormed.{Each}
-use Rattle.model.specs.Answers.{shortSteps}
+use Rattle.model.specs.Answers.{shortSteps, Room}
 use Rattle.model.specs.Search.{Search, eachStep, plansOf, plansFrom, plansUpTo, search}
+use Rattle.model.proofs.Laws.Plans.{each-append}
 use Rattle.prefixes.specs.declared.plan.Root.{Root}
 use Rattle.prefixes.specs.declared.plan.Progress.{Progress}
-use Rattle.prefixes.specs.Trying.{RootAt, Room, Begun, ReachedLanes, Extends, goesOn, TriesPlan, Tries, TriesBelow, TriesStep, TriesLengths}
+use Rattle.prefixes.specs.Trying.{RootAt, Begun, ReachedLanes, Extends, resumes, TriesPlan, Tries, TriesBelow, TriesStep, TriesLengths}
 use Rattle.prefixes.proofs.Beginning.{begun-root}
-use Rattle.prefixes.proofs.Trying.{steps-next, step-moves, each-snoc}
+use Rattle.prefixes.proofs.Trying.{steps-next, step-moves}
 
 -- a search that has ended does not go on
-ended-is : (r : Progress) → r .ended ≡ true → (rest rest′ : ℕ → Search) → goesOn r rest ≡ goesOn r rest′
+ended-is : (r : Progress) → r .ended ≡ true → (rest rest′ : ℕ → Search) → resumes r rest ≡ resumes r rest′
 ended-is r e rest rest′ = rw e (by-right (r .right))
   where
-    by-right : (b : Bool) → goesOn (record { ended = true; right = b; used = r .used; plan = r .plan }) rest ≡ goesOn (record { ended = true; right = b; used = r .used; plan = r .plan }) rest′
+    by-right : (b : Bool) → resumes (record { ended = true; right = b; used = r .used; plan = r .plan }) rest ≡ resumes (record { ended = true; right = b; used = r .used; plan = r .plan }) rest′
     by-right true = refl
     by-right false = refl
 
-going-is : (r : Progress) → r .ended ≡ false → (rest : ℕ → Search) → goesOn r rest ≡ rest (r .used)
+going-is : (r : Progress) → r .ended ≡ false → (rest : ℕ → Search) → resumes r rest ≡ rest (r .used)
 going-is r e rest = rw e
 
 module _ (problem actions : List ℕ) (root : Root) (c first : List ℕ) (alive : ℕ) (d : List ℕ) (more k : ℕ) (e : more ≡ suc k) (used grant : ℕ) where
@@ -65,7 +66,7 @@ module _ (problem actions : List ℕ) (root : Root) (c first : List ℕ) (alive 
         (F : Limits) (P : Problem) → RootAt F problem actions root c P → Each (λ b. b < length (P .actions)) first →
         Begun problem actions (root .at .goal) (root .starts) c first alive d → (ps : List (List ℕ)) →
         search (taskOf F P) grant (map (λ q. first ++ q) (plansOf (length (P .actions)) more) ++ ps) used ≡
-        goesOn r (search (taskOf F P) grant (map (λ q. first ++ q) (eachStep (length (P .actions) - suc step) (suc step) (plansOf (length (P .actions)) k)) ++ ps))
+        resumes r (search (taskOf F P) grant (map (λ q. first ++ q) (eachStep (length (P .actions) - suc step) (suc step) (plansOf (length (P .actions)) k)) ++ ps))
     one-step F P A b B ps =
         let m = length (P .actions) in
         let i : m - step ≡ suc (m - suc step) = omega (arith, A .count) in
@@ -124,8 +125,8 @@ step-tried problem actions root c plan next step alive d alive′ d′ more used
           let m = length (P .actions) in
           let first = shortSteps plan in
           ap (λ (l : List (List ℕ)). search (taskOf F P) grant (l ++ ps) used) (sym (step-moves first step (plansOf m more))) ∙
-          subst (λ (f : List ℕ). search (taskOf F P) grant (map (λ q. f ++ q) (plansOf m more) ++ ps) used ≡ goesOn r (search (taskOf F P) grant ps)) (x .steps-are)
-          (t .is F P A (rw (x .steps-are) (each-snoc m step first b (omega (arith, A .count)))) (rw (x .steps-are) (begun (root .starts) B)) ps);
+          subst (λ (f : List ℕ). search (taskOf F P) grant (map (λ q. f ++ q) (plansOf m more) ++ ps) used ≡ resumes r (search (taskOf F P) grant ps)) (x .steps-are)
+          (t .is F P A (rw (x .steps-are) (each-append (λ x. x < m) first (step ∷ []) b (omega (arith, A .count), tt))) (rw (x .steps-are) (begun (root .starts) B)) ps);
     }
 
 -- ---- the lengths
@@ -153,7 +154,7 @@ module _ (problem actions : List ℕ) (root : Root) (c : List ℕ) (w : length c
     one-length :
         (F : Limits) (P : Problem) → RootAt F problem actions root c P →
         search (taskOf F P) grant (plansUpTo (length (P .actions)) longest) 0 ≡
-        goesOn r (search (taskOf F P) grant (plansFrom (length (P .actions)) (suc l) (suc longest - suc l)))
+        resumes r (search (taskOf F P) grant (plansFrom (length (P .actions)) (suc l) (suc longest - suc l)))
     unfolding plansFrom
     one-length F P A =
         let m = length (P .actions) in

@@ -1,8 +1,8 @@
 -- A plan judged with the visits left, and plans one after another. Assumes nothing.
-use mathlib.Core.Path.{_≡_, refl, sym, ap, ap₂, _∙_, subst}
-use mathlib.Core.Bool.{Bool, true, false}
-use mathlib.Core.List.{List, [], _∷_, _++_, map, append-assoc, map-append, map-map}
-use Prim.Native.Nat.{ℕ, suc, _+_, _-_, _*_, _^_, _≤_, _<_}
+use mathlib.Core.Path.{_≡_, refl, ap, ap₂, _∙_, subst}
+use mathlib.Core.Bool.{true, false}
+use mathlib.Core.List.{List, [], _∷_, _++_, map, append-assoc, map-append}
+use Prim.Native.Nat.{ℕ, suc, _+_, _-_, _^_, _≤_, _<_}
 use native.Mathlib.Omega.{arith}
 use native.Mathlib.Nat.{zero-mod}
 use lib.ListN.{length}
@@ -11,22 +11,22 @@ use lib.Seq.{append-snoc}
 use Rattle.model.specs.declared.Limits.{Limits}
 use Rattle.model.specs.declared.ShortPlan.{ShortPlan}
 use Rattle.model.specs.Case.{Task}
-use Rattle.model.specs.Walk.{covered, failed, visits, walk, walked, Verdict, right, wrong, undecided, judged}
+use Rattle.model.specs.Walk.{covered, failed, visits, walk, walked}
 use Rattle.model.specs.ProblemBytes.{Problem}
 use Rattle.model.specs.Operations.{taskOf}
 use Rattle.model.specs.WellFormed.{Each}
-use Rattle.model.specs.Answers.{shortSteps}
-use Rattle.model.specs.Search.{Search, firstRight, undecidedAt, eachStep, plansOf, plansFrom, search}
+use Rattle.model.specs.Answers.{shortSteps, Room}
+use Rattle.model.specs.Planes.{ones}
+use Rattle.model.specs.Search.{Search, firstRight, undecidedAt, eachStep, search}
 use Rattle.model.proofs.Laws.Judging.{judged-in, judged-out}
 use Rattle.look.specs.Cases.{RunsCases, LooksAtCases}
 use Rattle.look.proofs.Lanes.{looks-at}
 use Rattle.walk.specs.declared.cases.Ending.{Ending}
 use Rattle.walk.specs.declared.cases.Ending.the-variants.{Out, Failed, Closed}
-use Rattle.walk.specs.Walks.{Ended, Counted, walkOf, WalksNode}
-use Rattle.walk.proofs.Walking.{block-walks}
+use Rattle.walk.specs.Walks.{Ended, Counted, walkOf}
 use Rattle.prefixes.specs.declared.plan.Root.{Root}
 use Rattle.prefixes.specs.declared.plan.Progress.{Progress}
-use Rattle.prefixes.specs.Trying.{RootAt, Room, WalksPlan, Extends, TriesPlan}
+use Rattle.prefixes.specs.Trying.{RootAt, WalksPlan, Extends, TriesPlan}
 
 -- ---- one plan
 
@@ -39,10 +39,10 @@ module _ (problem steps actions : List ℕ) (root : Root) (c : List ℕ) (carrie
   abbrev T : Task
   T = taskOf F P steps
 
-  looks : LooksAtCases problem steps actions (root .at .initial) (root .at .goal) c (record { empty = bitXor 0xffffffffffffffff (root .starts); carries = carries })
+  looks : LooksAtCases problem steps actions (root .at .initial) (root .at .goal) c (record { empty = bitXor ones (root .starts); carries = carries })
   looks =
       looks-at problem steps actions (root .at .initial) (root .at .goal) c (A .planes) carries (A .initial)
-      (subst (λ (x : ℕ). RunsCases problem steps actions (root .at .goal) x c carries) (A .starts) R) _ (ap (bitXor 0xffffffffffffffff) (A .starts)) refl
+      (subst (λ (x : ℕ). RunsCases problem steps actions (root .at .goal) x c carries) (A .starts) R) _ (ap (bitXor ones) (A .starts)) refl
 
   plan-fits : T .facts ≤ T .width
   unfolding taskOf
@@ -91,13 +91,13 @@ module _ (problem steps actions : List ℕ) (root : Root) (c : List ℕ) (carrie
 
 module _ (problem : List ℕ) (plan : ShortPlan) (actions : List ℕ) (root : Root) (c : List ℕ) (carries used grant : ℕ) (e : Ending)
     (steps : List ℕ) (own : steps ≡ shortSteps plan) (m : Room plan 0) (u : used ≤ grant) (W : WalksPlan problem steps actions root c carries (grant - used) e) where
-  abbrev Tried : Progress → Type 0
-  Tried r = TriesPlan problem plan actions root c carries used grant r
+  abbrev Tried-plan : Progress → Type 0
+  Tried-plan r = TriesPlan problem plan actions root c carries used grant r
 
   own-walk : WalksPlan problem (shortSteps plan) actions root c carries (grant - used) e
   own-walk = subst (λ (s : List ℕ). WalksPlan problem s actions root c carries (grant - used) e) own W
 
-  pub tried-out : e ≡ Out → Tried (record { ended = true; right = false; used = grant; plan = plan })
+  pub tried-out : e ≡ Out → Tried-plan (record { ended = true; right = false; used = grant; plan = plan })
   tried-out i =
       record {
         within = omega arith;
@@ -105,7 +105,7 @@ module _ (problem : List ℕ) (plan : ShortPlan) (actions : List ℕ) (root : Ro
         is = λ F P A b R ps. search-out problem (shortSteps plan) actions root c carries (grant - used) e own-walk F P A b R i ps grant used refl;
       }
 
-  pub tried-failed : (s a : ℕ) → e ≡ Failed s a → used + a ≤ grant → Tried (record { ended = false; right = false; used = used + a; plan = plan })
+  pub tried-failed : (s a : ℕ) → e ≡ Failed s a → used + a ≤ grant → Tried-plan (record { ended = false; right = false; used = used + a; plan = plan })
   tried-failed s a i l =
       record {
         within = l;
@@ -113,7 +113,7 @@ module _ (problem : List ℕ) (plan : ShortPlan) (actions : List ℕ) (root : Ro
         is = λ F P A b R ps. search-failed problem (shortSteps plan) actions root c carries (grant - used) e own-walk F P A b R s a i ps grant used refl;
       }
 
-  pub tried-closed : (n a next : ℕ) → e ≡ Closed n a next → used + a ≤ grant → Tried (record { ended = true; right = true; used = used + a; plan = plan })
+  pub tried-closed : (n a next : ℕ) → e ≡ Closed n a next → used + a ≤ grant → Tried-plan (record { ended = true; right = true; used = used + a; plan = plan })
   tried-closed n a next i l =
       record {
         within = l;
@@ -142,10 +142,6 @@ steps-next first n a qs ps =
 pub step-moves : (first : List ℕ) (a : ℕ) (qs : List (List ℕ)) → map (λ q. first ++ (a ∷ []) ++ q) qs ≡ map (λ q. first ++ q) (map (λ q. a ∷ q) qs)
 step-moves first a [] = refl
 step-moves first a (q ∷ qs) = ap₂ (λ (x : List ℕ) (l : List (List ℕ)). x ∷ l) (append-snoc first a q) (step-moves first a qs)
-
-pub each-snoc : (m a : ℕ) (first : List ℕ) → Each (λ b. b < m) first → a < m → Each (λ b. b < m) (first ++ (a ∷ []))
-each-snoc m a [] e h = (h, tt)
-each-snoc m a (b ∷ first) (k, e) h = (k, each-snoc m a first e h)
 
 -- ---- room for steps
 

@@ -2,20 +2,20 @@
 use mathlib.Core.Path.{_≡_}
 use mathlib.Core.Bool.{Bool, true, false}
 use mathlib.Core.List.{List, [], _∷_, _++_, map}
-use Prim.Native.Nat.{ℕ, suc, _+_, _≤_, _<_}
+use Prim.Native.Nat.{ℕ, _+_, _≤_, _<_}
 use lib.ListN.{length}
 use lib.Bits.{bitXor}
 use Rattle.model.specs.declared.Limits.{Limits}
 use Rattle.model.specs.declared.ShortPlan.{ShortPlan}
-use Rattle.model.specs.Limits.{maxActions, maxLength}
+use Rattle.model.specs.Limits.{maxActions}
 use Rattle.model.specs.Case.{caseOf}
 use Rattle.model.specs.ProblemBytes.{Problem}
 use Rattle.model.specs.Operations.{taskOf}
 use Rattle.model.specs.WellFormed.{Each}
-use Rattle.model.specs.Planes.{Table}
+use Rattle.model.specs.Planes.{ones, Table}
 use Rattle.model.specs.Stands.{TaskStands}
-use Rattle.model.specs.Answers.{shortSteps}
-use Rattle.model.specs.Search.{Search, firstRight, undecidedAt, plansOf, plansFrom, plansUpTo, search}
+use Rattle.model.specs.Answers.{shortSteps, Room}
+use Rattle.model.specs.Search.{Search, firstRight, undecidedAt, plansOf, plansUpTo, search}
 use Rattle.evaluate.specs.declared.Planes.{Planes}
 use Rattle.evaluate.specs.Planes.{FormulaPlanes}
 use Rattle.table.specs.Blocks.{blockCase}
@@ -54,15 +54,6 @@ pub record RootAt (F : Limits) (problem actions : List ℕ) (root : Root) (c : L
 
 -- ---- one plan
 
--- every lane of a word
-abbrev ones : ℕ
-ones = 0xffffffffffffffff
-
--- the plan has room for so many more steps
-pub record Room (plan : ShortPlan) (more : ℕ) : Type 0 where
-  pub size : length (plan .steps) ≡ maxLength
-  pub fits : plan .length + more ≤ maxLength
-
 -- the walk of a plan whose first block looks so
 pub record WalksPlan (problem steps actions : List ℕ) (root : Root) (c : List ℕ) (carries g : ℕ) (r : Ending) : Type 0 where
   pub counted : Counted g r
@@ -76,8 +67,8 @@ cameTo false right p used rest = rest used
 cameTo true true p used rest = firstRight p used
 cameTo true false p used rest = undecidedAt p used
 
-abbrev pub goesOn : Progress → (ℕ → Search) → Search
-goesOn r rest = cameTo (r .ended) (r .right) (shortSteps (r .plan)) (r .used) rest
+abbrev pub resumes : Progress → (ℕ → Search) → Search
+resumes r rest = cameTo (r .ended) (r .right) (shortSteps (r .plan)) (r .used) rest
 
 pub record TriesPlan (problem : List ℕ) (plan : ShortPlan) (actions : List ℕ) (root : Root) (c : List ℕ) (carries used grant : ℕ) (r : Progress) : Type 0 where
   pub within : r .used ≤ grant
@@ -85,7 +76,7 @@ pub record TriesPlan (problem : List ℕ) (plan : ShortPlan) (actions : List ℕ
   pub is :
       (F : Limits) (P : Problem) → RootAt F problem actions root c P → Each (λ b. b < length (P .actions)) (shortSteps plan) →
       RunsCases problem (shortSteps plan) actions (root .at .goal) (root .starts) c carries → (ps : List (List ℕ)) →
-      search (taskOf F P) grant (shortSteps plan ∷ ps) used ≡ goesOn r (search (taskOf F P) grant ps)
+      search (taskOf F P) grant (shortSteps plan ∷ ps) used ≡ resumes r (search (taskOf F P) grant ps)
 
 -- ---- the plans that begin alike
 
@@ -113,7 +104,7 @@ pub record Tries (problem actions : List ℕ) (root : Root) (c first : List ℕ)
   pub is :
       (F : Limits) (P : Problem) → RootAt F problem actions root c P → Each (λ b. b < length (P .actions)) first →
       Begun problem actions (root .at .goal) (root .starts) c first alive d → (ps : List (List ℕ)) →
-      search (taskOf F P) grant (map (λ q. first ++ q) (qs (length (P .actions))) ++ ps) used ≡ goesOn r (search (taskOf F P) grant ps)
+      search (taskOf F P) grant (map (λ q. first ++ q) (qs (length (P .actions))) ++ ps) used ≡ resumes r (search (taskOf F P) grant ps)
 
 abbrev pub TriesBelow : List ℕ → List ℕ → Root → List ℕ → List ℕ → ℕ → ShortPlan → ℕ → ℕ → ℕ → Progress → Type 0
 TriesBelow problem actions root c d alive plan more used grant r =
@@ -130,4 +121,4 @@ pub record TriesLengths (problem actions : List ℕ) (root : Root) (c : List ℕ
   pub room : Room (r .plan) 0
   pub is :
       (F : Limits) (P : Problem) → RootAt F problem actions root c P →
-      search (taskOf F P) grant (plansUpTo (length (P .actions)) longest) 0 ≡ goesOn r (search (taskOf F P) grant [])
+      search (taskOf F P) grant (plansUpTo (length (P .actions)) longest) 0 ≡ resumes r (search (taskOf F P) grant [])

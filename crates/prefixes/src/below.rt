@@ -3,8 +3,9 @@
 ghost use mathlib.Core.Path.{_≡_};
 ghost use Prim.Native.Nat.{_+_, _≤_, _<_};
 ghost use lib.ListN.{length};
+ghost use Rattle.model.specs.Answers.{Room};
 ghost use Rattle.model.specs.Limits.{maxLength};
-ghost use Rattle.prefixes.specs.Trying.{RootFits, Room, TriesBelow, TriesStep, TriesLengths};
+ghost use Rattle.prefixes.specs.Trying.{RootFits, TriesBelow, TriesStep, TriesLengths};
 use crate::plan::Progress;
 use crate::plan::Root;
 use crate::plan::extended;

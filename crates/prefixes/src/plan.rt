@@ -2,7 +2,8 @@
 ghost use mathlib.Core.Path.{_≡_};
 ghost use Prim.Native.Nat.{_≤_};
 ghost use lib.ListN.{length};
-ghost use Rattle.prefixes.specs.Trying.{RootFits, Room, WalksPlan, TriesPlan, ReachedLanes, Extends};
+ghost use Rattle.model.specs.Answers.{Room};
+ghost use Rattle.prefixes.specs.Trying.{RootFits, WalksPlan, TriesPlan, ReachedLanes, Extends};
 use blocks::Places;
 use evaluate::formula_planes;
 use model::ShortPlan;

@@ -4,21 +4,20 @@ use mathlib.Core.Bool.{Bool, true, false}
 use mathlib.Core.List.{List, []}
 use Prim.Native.Nat.{ℕ, _≤_, _<_}
 use native.Mathlib.Omega.{arith}
-use lib.ListN.{length, replicate, length-replicate}
+use lib.ListN.{length}
 use Rattle.model.specs.declared.Limits.{Limits}
 use Rattle.model.specs.declared.Problem as parts
 use Rattle.model.specs.declared.SearchEnd.{SearchEnd}
 use Rattle.model.specs.Limits.{version1, maxActions, maxLength, maxPlans}
 use Rattle.model.specs.Answer.{refused, answered}
 use Rattle.model.specs.Answers.{refusal, shortSteps, searchEnds, searchAnswer}
-use Rattle.model.specs.Kleene.{Kleene, Unknown}
+use Rattle.model.specs.Case.{caseOf}
 use Rattle.model.specs.ProblemBytes.{Problem, problem}
 use Rattle.model.specs.Search.{noneRight, plansUpTo, planCount, search}
 use Rattle.model.specs.Operations.{taskOf, searchPlans}
 use Rattle.model.specs.WellFormed.{Bytes, Sensible}
 use Rattle.model.specs.Planes.{Table}
 use Rattle.model.proofs.Demands.{version1-sensible, version1-holds}
-use Rattle.model.proofs.Laws.Splitting.{case-first}
 use Rattle.model.proofs.Laws.Plans.{enumerates}
 use Rattle.model.proofs.Laws.Searching.{answers}
 use Rattle.evaluate.specs.declared.Planes.{Planes}
@@ -31,7 +30,7 @@ use Rattle.blocks.proofs.Tasks.{problem-refused, problem-found}
 use Rattle.table.specs.Tables.{NoneFixed}
 use Rattle.table.specs.Blocks.{blockCase, FixesLevels}
 use Rattle.walk.specs.Walks.{LevelsOf}
-use Rattle.prefixes.specs.declared.plan.Root.{Root}
+use Rattle.walk.proofs.Whole.{first-table}
 use Rattle.prefixes.specs.declared.plan.Progress.{Progress}
 use Rattle.prefixes.specs.Trying.{RootAt, cameTo}
 use Rattle.search.specs.Problems.{TriesProblem, ends, Ends}
@@ -51,9 +50,7 @@ root-at F S problem parts n levels e L c₀ c N X i I P p =
       fits = omega (arith, t .few, S .width);
       count = p .count;
       stands = λ steps b. p .task steps b .stands;
-      table =
-          subst (λ (v : List Kleene). Table c (λ j. blockCase v 0 levels j)) (ap (λ (m : ℕ). replicate m Unknown) f ∙ sym (case-first (F .width) (P .facts)))
-          (X .is (replicate n Unknown) (omega (arith, L .inside, length-replicate n Unknown)) (N .is));
+      table = subst (λ (m : ℕ). Table c (λ j. blockCase (caseOf (F .width) m 0 0) 0 levels j)) f (first-table (F .width) n levels L c₀ c N X);
       planes = i;
       initial = I;
       starts = refl;

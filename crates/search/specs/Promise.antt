@@ -7,13 +7,9 @@ use lib.ListN.{length}
 use Rattle.model.specs.Limits.{version1, maxLength, maxPlans}
 use Rattle.model.specs.Answer.{Answer, refused, answered}
 use Rattle.model.specs.ProblemBytes.{Problem, problemOf}
-use Rattle.model.specs.Search.{Search, plansUpTo}
-use Rattle.model.specs.Operations.{taskOf}
+use Rattle.model.specs.Search.{Search}
+use Rattle.model.specs.Operations.{taskOf, plansIn}
 use Rattle.model.specs.Demands.{SearchSays}
-
--- the plans of a problem up to a length
-abbrev pub plansIn : Problem → ℕ → List (List ℕ)
-plansIn p longest = plansUpTo (length (p .actions)) longest
 
 -- what a refusal is of: the problem's own, 43 or 44
 abbrev pub RefusedFor : List ℕ → ℕ → ℕ → ℕ → Type 0
@@ -27,4 +23,5 @@ RefusedFor problem longest n q =
 abbrev pub SearchPromised : List ℕ → ℕ → ℕ → Answer Search → Type 0
 SearchPromised problem longest grant (refused n q) = RefusedFor problem longest n q
 SearchPromised problem longest grant (answered r) =
-    (p : Problem) × (problemOf version1 problem ≡ answered p) × (longest ≤ maxLength) × SearchSays (taskOf version1 p) (plansIn p longest) grant r
+    (p : Problem) × (problemOf version1 problem ≡ answered p) × (longest ≤ maxLength) × (length (plansIn p longest) ≤ maxPlans) ×
+    SearchSays (taskOf version1 p) (plansIn p longest) grant r

@@ -9,6 +9,7 @@ use Rattle.model.specs.declared.Limits.{Limits}
 use Rattle.model.specs.declared.Problem.{Problem}
 use Rattle.model.specs.WellFormed.{Sensible}
 use Rattle.model.specs.Kleene.{Kleene, Unknown}
+use Rattle.model.specs.Case.{caseOf}
 use Rattle.model.specs.Walk.{walkFrom, walk, lookAt, walked}
 use Rattle.model.specs.Planes.{Table}
 use Rattle.model.proofs.Laws.Splitting.{case-first}
@@ -28,6 +29,13 @@ whole-fits F n levels S h L =
     let e : widthOf (F .line) - 0 ≡ widthOf (F .line) = omega arith in
     record { fits = record { least = S .line; most = omega (arith, S .word, S .bits); slots = omega (arith, S .width, S .bits); numbers = omega (arith, ap (λ (x : ℕ). 2 ^ x) e) }; levels-of = L }
 
+-- the table of the first block
+pub first-table :
+    (w n levels : ℕ) → LevelsOf n levels → (c₀ c : List ℕ) → NoneFixed n c₀ → FixesLevels c₀ 0 levels c → Table c (λ j. blockCase (caseOf w n 0 0) 0 levels j)
+first-table w n levels L c₀ c N X =
+    subst (λ (v : List Kleene). Table c (λ j. blockCase v 0 levels j)) (sym (case-first w n))
+    (X .is (replicate n Unknown) (omega (arith, L .inside, length-replicate n Unknown)) (N .is))
+
 pub walks-task :
     (F : Limits) → Sensible F → (problem steps : List ℕ) (parts : Problem) (g n levels : ℕ) → n ≡ parts .facts → LevelsOf n levels → (c₀ c : List ℕ) → NoneFixed n c₀ → FixesLevels c₀ 0 levels c →
     (r : Ending) (before : List ℕ) (to : ℕ) (after : List ℕ) → WalksBlock (F .line) problem steps (parts .action) (placesOf parts) c (wholeCase n) levels g r before to after →
@@ -46,7 +54,6 @@ walks-task F S problem steps parts g n levels e L c₀ c N X r before to after W
             stands = p .stands;
             case-at = record { width = p .width ∙ S .bits; left-facts = omega arith; begins = zero-mod (2 ^ (T .width - 0)) };
             table =
-                subst (λ (v : List Kleene). Table c (λ j. blockCase v 0 levels j)) (ap (λ (m : ℕ). replicate m Unknown) i ∙ sym (case-first (T .width) (T .facts)))
-                (X .is (replicate n Unknown) (omega (arith, L .inside, length-replicate n Unknown)) (N .is));
+                subst (λ (m : ℕ). Table c (λ j. blockCase (caseOf (T .width) m 0 0) 0 levels j)) i (first-table (T .width) n levels L c₀ c N X);
           }));
     }

@@ -66,7 +66,7 @@ pub fn search_plans(result: &Result<Search, Refusal>) -> Answer {
 }
 
 /// The tag, the visits, and a plan's length and steps.
-fn plan_words(tag: u64, visits: u64, plan: &[u8]) -> Vec<u64> {
+pub fn plan_words(tag: u64, visits: u64, plan: &[u8]) -> Vec<u64> {
     let steps = plan.iter().copied().map(u64::from);
     [tag, visits, plan.len() as u64]
         .into_iter()

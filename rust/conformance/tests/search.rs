@@ -6,7 +6,7 @@ mod support;
 
 use std::collections::BTreeSet;
 
-use conformance::answer::{self, words, Answer};
+use conformance::answer::{self, plan_words, words, Answer};
 use conformance::encode;
 use conformance::examples;
 use conformance::gen::{ordered_problem, right_task, task, Rng};
@@ -21,20 +21,15 @@ use support::Library;
 
 /// The answer with this grant, from the visits of each plan.
 fn by_hand(row: &Searched, grant: u64) -> Vec<u64> {
-    let with_plan = |tag, visits, plan: &[u8]| {
-        let steps = plan.iter().copied().map(u64::from);
-        let length = plan.len() as u64;
-        [tag, visits, length].into_iter().chain(steps).collect()
-    };
     let mut used = 0;
     for (plan, visits) in row.walks {
         used += visits;
         if used > grant {
-            return with_plan(3, grant, plan);
+            return plan_words(3, grant, plan);
         }
     }
     match row.walks.last() {
-        Some((plan, _)) if row.last_is_right => with_plan(1, used, plan),
+        Some((plan, _)) if row.last_is_right => plan_words(1, used, plan),
         _ => vec![2, used],
     }
 }
@@ -213,6 +208,16 @@ fn place(answer: &Answer) -> [u64; 5] {
     answer[2..7].try_into().expect("a length and four steps")
 }
 
+/// That of the last plan of all: the highest step throughout, or the empty plan.
+fn last_place(actions: u64, longest: u64) -> [u64; 5] {
+    let mut place = [0; 5];
+    if actions > 0 {
+        place[0] = longest;
+        place[1..=longest as usize].fill(actions - 1);
+    }
+    place
+}
+
 /// An answer that is not undecided is the same with every larger grant. With a
 /// smaller one it is undecided: a plan is named that comes no earlier where more is
 /// granted, and none after the right one.
@@ -221,7 +226,8 @@ fn only_the_grant_leaves_it_undecided() {
     let mut rng = Rng::new(0x5ea9);
     let mut kinds = Met::new();
     for round in 0..600 {
-        let problem = encode::problem(&small_problem(&mut rng, round));
+        let tree = small_problem(&mut rng, round);
+        let problem = encode::problem(&tree);
         let longest = rng.below(5) as u64;
         let search = |grant| raw::search_plans(&problem, longest, grant).word;
         let answer = search(u64::MAX);
@@ -244,9 +250,11 @@ fn only_the_grant_leaves_it_undecided() {
             met(&mut kinds, &short);
         }
         // What is named last is the right plan, or the last of all.
-        if answer[0] == 1 {
-            assert_eq!(before, place(&answer));
-        }
+        let last = match answer[0] {
+            1 => place(&answer),
+            _ => last_place(tree.actions.len() as u64, longest),
+        };
+        assert_eq!(before, last);
     }
     assert_eq!(kinds, of_every_kind());
 }

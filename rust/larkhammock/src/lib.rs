@@ -336,7 +336,7 @@ pub fn search_plans(problem: &[u8], longest: u64, grant: u64) -> Result<Search, 
     let plan = ShortPlan::of_words(&word[2..7]).unwrap_or_else(|| broken(&word));
     Ok(match word[0] {
         1 => Search::Found { plan, visits },
-        2 => Search::NoneRight { visits },
+        2 if plan.steps().is_empty() => Search::NoneRight { visits },
         3 => Search::Undecided { plan, visits },
         _ => broken(&word),
     })

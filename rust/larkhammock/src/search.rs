@@ -52,12 +52,11 @@ impl ShortPlan {
     }
 }
 
-/// The numbers of the steps, each with a space before it.
+/// The numbers of the steps, with spaces between.
 impl fmt::Display for ShortPlan {
     fn fmt(&self, f: &mut fmt::Formatter<'_>) -> fmt::Result {
-        self.steps()
-            .iter()
-            .try_for_each(|step| write!(f, " {step}"))
+        let numbers: Vec<String> = self.steps().iter().map(u8::to_string).collect();
+        f.write_str(&numbers.join(" "))
     }
 }
 
@@ -99,11 +98,13 @@ pub enum Search {
 
 impl fmt::Display for Search {
     fn fmt(&self, f: &mut fmt::Formatter<'_>) -> fmt::Result {
-        match self {
-            Search::Found { plan, visits } => write!(f, "found{plan} visited {visits}"),
-            Search::NoneRight { visits } => write!(f, "none visited {visits}"),
-            Search::Undecided { plan, visits } => write!(f, "undecided{plan} visited {visits}"),
-        }
+        let (what, visits) = match self {
+            Search::Found { plan, visits } => (format!("found {plan}"), visits),
+            Search::NoneRight { visits } => ("none".to_string(), visits),
+            Search::Undecided { plan, visits } => (format!("undecided {plan}"), visits),
+        };
+        // The empty plan leaves nothing after the word.
+        write!(f, "{} visited {visits}", what.trim_end())
     }
 }
 

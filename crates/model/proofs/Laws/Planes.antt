@@ -14,6 +14,7 @@ use borrow.Author.Tests.{lt-ltb, le-ltb}
 use Rattle.model.specs.Kleene.{Kleene, No, Unknown, Yes, both, either, denied, isYes, three}
 use Rattle.model.specs.Formula.{fact, denial, valueOf}
 use Rattle.model.specs.FormulaBytes.{literalOf}
+pub use Rattle.model.specs.Planes.{ones}
 use Rattle.model.specs.Planes.{laneBit, someBit, sureBit, InLane, InLanes, Table}
 use Rattle.model.proofs.Laws.Agreement.{by-row, by-table}
 
@@ -34,10 +35,6 @@ bit-and j a b = rw (and-shr a b j, and-step (a / 2 ^ j) (b / 2 ^ j)) (omega arit
 pub bit-or : (j a b : ℕ) → laneBit j (bitOr a b) ≡ max (laneBit j a) (laneBit j b)
 unfolding laneBit
 bit-or j a b = rw (or-shr a b j, or-step (a / 2 ^ j) (b / 2 ^ j)) (omega arith)
-
--- every lane's bit
-abbrev pub ones : ℕ
-ones = 0xffffffffffffffff
 
 pub bit-ones : (j : ℕ) → j < 64 → laneBit j ones ≡ 1
 unfolding laneBit

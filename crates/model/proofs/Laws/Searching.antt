@@ -13,10 +13,10 @@ use Rattle.model.specs.Answer as Answer
 use Rattle.model.specs.Answer.{refused, answered}
 use Rattle.model.specs.Case.{Task, Right}
 use Rattle.model.specs.Walk.{covered, failed, visits, walked}
-use Rattle.model.specs.Search.{Search, firstRight, noneRight, undecidedAt, plansUpTo, planCount, search, visitsOf, IsShort, Earlier}
+use Rattle.model.specs.Search.{Search, firstRight, noneRight, undecidedAt, planCount, search, visitsOf, IsShort, Earlier}
 use Rattle.model.specs.ProblemBytes.{Problem, problemOf}
 use Rattle.model.specs.WellFormed.{Each, Sensible}
-use Rattle.model.specs.Operations.{taskOf, whenFew, searchPlans}
+use Rattle.model.specs.Operations.{taskOf, whenFew, plansIn, searchPlans}
 use Rattle.model.specs.Demands.{NotRight, ComesTo, SaysFirstRight, SearchSays, Searching}
 use Rattle.model.proofs.Laws.Verdicts.{judged-in, judged-out, right-closes, walk-closes-right, walk-ends}
 use Rattle.model.proofs.Laws.Tasks.{problem-fits}
@@ -66,7 +66,7 @@ module _ (task : List ℕ → Task) (fits : (p : List ℕ) → task p .facts ≤
 
     -- plans that are not right are passed by, with their visits
     passes-by :
-        (before rest : List (List ℕ)) (used now : ℕ) → Each (NotRight task plans grant) before → now ≡ used + visitsOf task before →
+        (before rest : List (List ℕ)) (used now : ℕ) → Each (NotRight task) before → now ≡ used + visitsOf task before →
         now ≤ grant → search task grant (before ++ rest) used ≡ search task grant rest now
     unfolding visitsOf
     passes-by [] rest used now x e h = ap (search task grant rest) (omega arith)
@@ -81,7 +81,7 @@ module _ (task : List ℕ → Task) (fits : (p : List ℕ) → task p .facts ≤
         ap (λ (l : List (List ℕ)). search task grant l 0) (c .stands) ∙
         passes-by before (p ∷ c .after) 0 (visitsOf task before) (c .none-before) (omega arith) (c .within)
 
-    pub is-answered : (r : Search) → SearchSays task plans grant r → search task grant plans 0 ≡ r
+    is-answered : (r : Search) → SearchSays task plans grant r → search task grant plans 0 ≡ r
     unfolding search
     is-answered (firstRight p used) s =
         comes (s .before) p (s .comes-to) ∙
@@ -99,12 +99,12 @@ module _ (task : List ℕ → Task) (fits : (p : List ℕ) → task p .facts ≤
 
     -- from the plans `before` on, none of which is right
     says-after :
-        (ps before : List (List ℕ)) → plans ≡ before ++ ps → Each (NotRight task plans grant) before → visitsOf task before ≤ grant →
+        (ps before : List (List ℕ)) → plans ≡ before ++ ps → Each (NotRight task) before → visitsOf task before ≤ grant →
         SearchSays task plans grant (search task grant ps (visitsOf task before))
     unfolding search visitsOf
     says-after [] before e x h =
         let k = e ∙ append-nil before in
-        record { none = subst (Each (NotRight task plans grant)) (sym k) x; is-used = ap (visitsOf task) (sym k); granted = h }
+        record { none = subst (Each (NotRight task)) (sym k) x; is-used = ap (visitsOf task) (sym k); granted = h }
     says-after (p ∷ ps) before e x h =
         let c : ComesTo task plans grant before p = record { after = ps; stands = e; none-before = x; within = h } in
         let next = before ++ (p ∷ []) in
@@ -118,14 +118,14 @@ module _ (task : List ℕ → Task) (fits : (p : List ℕ) → task p .facts ≤
                 | inr w ↦
                     rw (tries-wrong grant p ps (visitsOf task before) l w, v)
                     (says-after ps next (e ∙ sym (append-assoc before (p ∷ []) ps))
-                    (each-append (NotRight task plans grant) before (p ∷ []) x (w, tt)) (rw v at l))
+                    (each-append (NotRight task) before (p ∷ []) x (w, tt)) (rw v at l))
               ]
           | no l ↦
               rw (tries-out grant p ps (visitsOf task before) h (omega arith))
               (record { before = before; comes-to = c; needs-more = omega arith; all-used = refl })
         ]
 
-    pub search-says : SearchSays task plans grant (search task grant plans 0)
+    search-says : SearchSays task plans grant (search task grant plans 0)
     unfolding visitsOf
     search-says = says-after plans [] refl tt (omega arith)
 
@@ -145,7 +145,7 @@ module _ (task : List ℕ → Task) (fits : (p : List ℕ) → task p .facts ≤
     stays-so (noneRight used) d s = record { none = s .none; is-used = s .is-used; granted = omega (arith, s .granted) }
     stays-so (undecidedAt p used) d s = absurd (d p used refl)
 
-    pub larger-grant :
+    larger-grant :
         ((q : List ℕ) (used : ℕ) → search task g plans 0 ≢ undecidedAt q used) → search task g′ plans 0 ≡ search task g plans 0
     larger-grant d = is-answered plans g′ _ (stays-so (search task g plans 0) d (search-says plans g))
 
@@ -158,13 +158,9 @@ pub problem-first :
 unfolding searchPlans Answer._>>=_
 problem-first F problem longest grant n q e = rw e
 
--- the plans of a problem up to a length
-abbrev plansTo : Problem → ℕ → List (List ℕ)
-plansTo p longest = plansUpTo (length (p .actions)) longest
-
--- the search over them
+-- the search over the plans of a problem
 abbrev searched : Limits → Problem → ℕ → ℕ → Search
-searched F p longest grant = search (taskOf F p) grant (plansTo p longest) 0
+searched F p longest grant = search (taskOf F p) grant (plansIn p longest) 0
 
 module _ (F : Limits) (S : Sensible F) (problem : List ℕ) (p : Problem) (given : problemOf F problem ≡ answered p) where
   task-fits : (steps : List ℕ) → taskOf F p steps .facts ≤ taskOf F p steps .width
@@ -172,7 +168,7 @@ module _ (F : Limits) (S : Sensible F) (problem : List ℕ) (p : Problem) (given
   task-fits steps = omega (arith, problem-fits F problem p given, S .width)
 
   module _ (longest : ℕ) where
-    counted : length (plansTo p longest) ≡ planCount (length (p .actions)) longest
+    counted : length (plansIn p longest) ≡ planCount (length (p .actions)) longest
     counted = enumerates (length (p .actions)) longest .counted
 
     search-is :
@@ -184,43 +180,46 @@ module _ (F : Limits) (S : Sensible F) (problem : List ℕ) (p : Problem) (given
     over-length grant h = rw (search-is grant, lt-ltb maxLength longest h)
 
     too-many :
-        (grant : ℕ) → longest ≤ maxLength → maxPlans < length (plansTo p longest) → searchPlans F problem longest grant ≡ refused 44 0
+        (grant : ℕ) → longest ≤ maxLength → maxPlans < length (plansIn p longest) → searchPlans F problem longest grant ≡ refused 44 0
     too-many grant h l =
         rw (search-is grant, le-ltb maxLength longest h, lt-ltb maxPlans (planCount (length (p .actions)) longest) (rw counted at l))
 
     pub answers :
-        (grant : ℕ) → longest ≤ maxLength → length (plansTo p longest) ≤ maxPlans →
+        (grant : ℕ) → longest ≤ maxLength → length (plansIn p longest) ≤ maxPlans →
         searchPlans F problem longest grant ≡ answered (searched F p longest grant)
     answers grant h l =
         rw (search-is grant, le-ltb maxLength longest h, le-ltb maxPlans (planCount (length (p .actions)) longest) (rw counted at l))
 
-    -- whatever the grant: the search is answered, or it is refused
-    answers-or-refuses :
-        ((grant : ℕ) → searchPlans F problem longest grant ≡ answered (searched F p longest grant)) ⊎
-        ((n : ℕ) × ((grant : ℕ) → searchPlans F problem longest grant ≡ refused n 0))
+    -- whatever the grant: the search is answered, or it is refused for its length or its plans
+    pub answers-or-refuses :
+        ((longest ≤ maxLength) × (length (plansIn p longest) ≤ maxPlans) ×
+        ((grant : ℕ) → searchPlans F problem longest grant ≡ answered (searched F p longest grant))) ⊎
+        (((maxLength < longest) × ((grant : ℕ) → searchPlans F problem longest grant ≡ refused 43 0)) ⊎
+        ((longest ≤ maxLength) × (maxPlans < length (plansIn p longest)) × ((grant : ℕ) → searchPlans F problem longest grant ≡ refused 44 0)))
     answers-or-refuses =
         elim (decLe longest maxLength) [
           | yes h ↦
-              elim (decLe (length (plansTo p longest)) maxPlans) [
-                | yes l ↦ inl λ grant. answers grant h l
-                | no l ↦ inr (44, λ grant. too-many grant h (omega arith))
+              elim (decLe (length (plansIn p longest)) maxPlans) [
+                | yes l ↦ inl (h, l, λ grant. answers grant h l)
+                | no l ↦ let m : maxPlans < length (plansIn p longest) = omega arith in inr (inr (h, m, λ grant. too-many grant h m))
               ]
-          | no h ↦ inr (43, λ grant. over-length grant (omega arith))
+          | no h ↦ let m : maxLength < longest = omega arith in inr (inl (m, λ grant. over-length grant m))
         ]
 
     says :
-        (grant : ℕ) (r : Search) → searchPlans F problem longest grant ≡ answered r → SearchSays (taskOf F p) (plansTo p longest) grant r
+        (grant : ℕ) (r : Search) → searchPlans F problem longest grant ≡ answered r → SearchSays (taskOf F p) (plansIn p longest) grant r
     says grant r e =
         elim answers-or-refuses [
-          | inl a ↦
+          | inl (_, _, a) ↦
               let k = a grant in
               let z : searched F p longest grant ≡ r = cc in
-              subst (SearchSays (taskOf F p) (plansTo p longest) grant) z (search-says (taskOf F p) task-fits (plansTo p longest) grant)
-          | inr (n, a) ↦ let k = a grant in let z : _≡_ {A = ℕ} 0 1 = cc in absurd (omega arith)
+              subst (SearchSays (taskOf F p) (plansIn p longest) grant) z (search-says (taskOf F p) task-fits (plansIn p longest) grant)
+          | inr (inl (_, a)) ↦ let k = a grant in let z : _≡_ {A = ℕ} 0 1 = cc in absurd (omega arith)
+          | inr (inr (_, _, a)) ↦ let k = a grant in let z : _≡_ {A = ℕ} 0 1 = cc in absurd (omega arith)
         ]
 
     found-first :
-        (grant : ℕ) (q : List ℕ) (used : ℕ) → SaysFirstRight (taskOf F p) (plansTo p longest) grant q used →
+        (grant : ℕ) (q : List ℕ) (used : ℕ) → SaysFirstRight (taskOf F p) (plansIn p longest) grant q used →
         IsShort (length (p .actions)) longest q × Right (taskOf F p q) ×
         ((b : List ℕ) → IsShort (length (p .actions)) longest b → Earlier b q → Right (taskOf F p b) → ⊥)
     found-first grant q used s =
@@ -230,7 +229,7 @@ module _ (F : Limits) (S : Sensible F) (problem : List ℕ) (p : Problem) (given
           each-of (IsShort (length (p .actions)) longest) (Memᴰ·append-right (s .before) (List·Memᴰ·head refl)) (rw e at (all .short)),
           s .is-right,
           λ b h k.
-              each-of (NotRight (taskOf F p) (plansTo p longest) grant)
+              each-of (NotRight (taskOf F p))
               (stands-before b q (s .before) (c .after) (rw e at (all .sorted)) (rw e at (stands (length (p .actions)) longest b h)) k)
               (c .none-before),
         )
@@ -240,12 +239,13 @@ module _ (F : Limits) (S : Sensible F) (problem : List ℕ) (p : Problem) (given
         searchPlans F problem longest g′ ≡ searchPlans F problem longest g
     stays g g′ h d =
         elim answers-or-refuses [
-          | inl a ↦
+          | inl (_, _, a) ↦
               a g′ ∙
               ap answered
-              (larger-grant (taskOf F p) task-fits (plansTo p longest) g g′ h λ q used e. d q used (a g ∙ ap answered e)) ∙
+              (larger-grant (taskOf F p) task-fits (plansIn p longest) g g′ h λ q used e. d q used (a g ∙ ap answered e)) ∙
               sym (a g)
-          | inr (n, a) ↦ a g′ ∙ sym (a g)
+          | inr (inl (_, a)) ↦ a g′ ∙ sym (a g)
+          | inr (inr (_, _, a)) ↦ a g′ ∙ sym (a g)
         ]
 
   pub searching : Searching F problem p
@@ -257,12 +257,12 @@ module _ (F : Limits) (S : Sensible F) (problem : List ℕ) (p : Problem) (given
         says =
             λ longest grant h l r. (
               says longest grant r,
-              λ s. answers longest grant h l ∙ ap answered (is-answered (taskOf F p) task-fits (plansTo p longest) grant r s),
+              λ s. answers longest grant h l ∙ ap answered (is-answered (taskOf F p) task-fits (plansIn p longest) grant r s),
             );
         found-first = λ longest grant q used e. found-first longest grant q used (says longest grant (firstRight q used) e);
         none-right =
             λ longest grant used e b h.
-            each-of (NotRight (taskOf F p) (plansTo p longest) grant) (stands (length (p .actions)) longest b h)
+            each-of (NotRight (taskOf F p)) (stands (length (p .actions)) longest b h)
             (says longest grant (noneRight used) e .none);
         larger-grant = stays;
       }

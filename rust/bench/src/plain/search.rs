@@ -69,8 +69,7 @@ fn search(task: &Task, longest: usize, grant: u64) -> Search {
     for length in 0..=longest {
         let mut plan = Plan::first(length);
         loop {
-            let steps = plan.steps();
-            let (right, visits) = is_right(&Task { steps, ..*task }, left, &mut room);
+            let (right, visits) = is_right(task, plan.steps(), left, &mut room);
             left -= visits;
             let visits = grant - left;
             match right {

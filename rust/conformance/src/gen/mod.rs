@@ -21,8 +21,8 @@ pub use rng::Rng;
 /// No generated call lets the walk look at more cases than this.
 const PATIENCE: u64 = 1_500;
 
-/// The same of a search, which looks at each of them for another plan: what its
-/// answer is takes fewer to tell.
+/// The same of a search, whose plans share them: fewer are enough to meet every
+/// answer.
 const SEARCH_PATIENCE: u64 = 100;
 
 /// Arguments for all eight operations, all of them sound.

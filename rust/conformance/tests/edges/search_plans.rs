@@ -1,15 +1,16 @@
 //! Trying every short plan.
 
-use conformance::answer::words;
+use conformance::answer::{plan_words, words};
 use conformance::encode;
-use conformance::harness::Case;
 use conformance::harness::Operation::SearchPlans;
+use conformance::harness::{check, Case};
 use conformance::model::{Effect, Formula, Problem};
 use conformance::trial;
 use conformance::version::{LONGEST_SEARCHED, MOST_SEARCHED};
 use larkhammock::raw;
 
 use crate::problems::{last_of_48, longest, plain, right_after_31, wrong_after_6};
+use crate::support::Library;
 use crate::{case_of, expect};
 
 #[track_caller]
@@ -29,27 +30,23 @@ fn needs(problem: &Problem, longest: u64, visits: u64, named: &[u64]) {
     for grant in [visits, visits + 1, u64::MAX - 1, u64::MAX] {
         searches(problem, longest, grant, named);
     }
-    let case = case_of(problem, &[]);
-    let short = raw::search_plans(&case.problem, longest, visits - 1).word;
-    assert_eq!(short[..2], [3, visits - 1]);
+    // Which plan that is, the oracle says.
+    let short = Case {
+        longest,
+        shared_grant: visits - 1,
+        ..case_of(problem, &[])
+    };
+    let answer = check(&Library, SearchPlans, &short).expect("both say the same");
+    assert_eq!(answer[..2], [3, visits - 1]);
     searches(problem, longest, 0, &[3, 0]);
 }
 
-/// The tag and the visits, then a plan's length and steps.
-fn with_plan(tag: u64, visits: u64, plan: &[u8]) -> Vec<u64> {
-    let steps = plan.iter().copied().map(u64::from);
-    [tag, visits, plan.len() as u64]
-        .into_iter()
-        .chain(steps)
-        .collect()
-}
-
 fn found(visits: u64, plan: &[u8]) -> Vec<u64> {
-    with_plan(1, visits, plan)
+    plan_words(1, visits, plan)
 }
 
 fn undecided(grant: u64, plan: &[u8]) -> Vec<u64> {
-    with_plan(3, grant, plan)
+    plan_words(3, grant, plan)
 }
 
 /// So many actions, none of which does anything, and a goal that no plan reaches:

@@ -1,6 +1,6 @@
 -- `walk_plan` meets its contract. Assumes nothing.
 use borrow.Author.Needs.{needs}
-use Rattle.walk.proofs.Walking.{block-fits, block-walks}
+use Rattle.walk.proofs.Walking.{block-walks}
 use Rattle.prefixes.proofs.plan.walk_plan.Statement.{statement}
 use Rattle.prefixes.proofs.plan.walk_plan.Tie as tie
 

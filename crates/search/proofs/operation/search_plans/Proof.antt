@@ -1,7 +1,7 @@
 -- `search_plans` meets its contract. Assumes nothing.
 use borrow.Author.Needs.{needs}
 use native.Mathlib.Omega.{arith}
-use mathlib.Core.Path.{_∙_, subst}
+use mathlib.Core.Path.{_∙_}
 use Rattle.model.proofs.Demands.{version1-sensible}
 use Rattle.blocks.proofs.Promise.{of-slice}
 use Rattle.search.proofs.Whole.{search-refused, search-over, search-many, search-came, few-found}

@@ -20,9 +20,11 @@ impl Room {
     pub const NEW: Room = Room([(0, Planes::NO); MOST_EFFECTS]);
 }
 
-/// What looks: the task, and room for the effects of an action.
+/// What looks: the task, the steps of its plan or of another one, and room for the
+/// effects of an action.
 pub struct Look<'a> {
     task: &'a Task<'a>,
+    steps: &'a [u8],
     found: &'a mut [Found; MOST_EFFECTS],
 }
 
@@ -33,9 +35,10 @@ enum Stop {
 }
 
 impl<'a> Look<'a> {
-    pub fn new(task: &'a Task<'a>, room: &'a mut Room) -> Look<'a> {
+    pub fn new(task: &'a Task<'a>, steps: &'a [u8], room: &'a mut Room) -> Look<'a> {
         Look {
             task,
+            steps,
             found: &mut room.0,
         }
     }
@@ -51,12 +54,12 @@ impl<'a> Look<'a> {
         let mut table = Table::of_state(state);
         match self.run(&mut table, !0) {
             Err(Stop::Unmet(step)) => {
-                let (precondition, _) = action(self.task, self.task.steps[step]);
+                let (precondition, _) = action(self.task, self.steps[step]);
                 let part = Part::Member(unmet(precondition, &table));
                 Outcome::Blocked { step, part }
             }
             Err(Stop::Conflict(step)) => {
-                let (_, effects) = action(self.task, self.task.steps[step]);
+                let (_, effects) = action(self.task, self.steps[step]);
                 let (found, _) = find(effects, &table, self.found);
                 let part = Part::Fact(lowest_conflict(found));
                 Outcome::Blocked { step, part }
@@ -70,7 +73,7 @@ impl<'a> Look<'a> {
     /// them goes on, with the values before that step left in the table.
     fn run(&mut self, table: &mut Table, mut alive: Lanes) -> Result<Lanes, Stop> {
         let task = self.task;
-        for (step, number) in task.steps.iter().enumerate() {
+        for (step, number) in self.steps.iter().enumerate() {
             let (precondition, effects) = action(task, *number);
             alive &= value(precondition, table).sure;
             if alive == 0 {

@@ -40,7 +40,7 @@ struct Walk<'a> {
 
 pub fn verdict(task: &Task, grant: u64) -> Verdict {
     let mut room = Room::NEW;
-    let mut walk = Walk::new(task, grant, &mut room);
+    let mut walk = Walk::new(task, task.steps, grant, &mut room);
     let end = walk.block(Block::first(task.facts));
     let visits = walk.visits;
     match end {
@@ -57,10 +57,10 @@ pub fn verdict(task: &Task, grant: u64) -> Verdict {
     }
 }
 
-/// Whether the plan is right, unless the grant was too small to know; and the
+/// Whether the plan of these steps is right, unless the grant was too small to know; and the
 /// visits.
-pub fn is_right(task: &Task, grant: u64, room: &mut Room) -> (Option<bool>, u64) {
-    let mut walk = Walk::new(task, grant, room);
+pub fn is_right(task: &Task, steps: &[u8], grant: u64, room: &mut Room) -> (Option<bool>, u64) {
+    let mut walk = Walk::new(task, steps, grant, room);
     let right = match walk.block(Block::first(task.facts)) {
         Err(Stop::Spent) => None,
         Err(Stop::Failing(_)) => Some(false),
@@ -70,9 +70,9 @@ pub fn is_right(task: &Task, grant: u64, room: &mut Room) -> (Option<bool>, u64)
 }
 
 impl<'a> Walk<'a> {
-    fn new(task: &'a Task<'a>, grant: u64, room: &'a mut Room) -> Walk<'a> {
+    fn new(task: &'a Task<'a>, steps: &'a [u8], grant: u64, room: &'a mut Room) -> Walk<'a> {
         Walk {
-            look: Look::new(task, room),
+            look: Look::new(task, steps, room),
             facts: task.facts,
             case: Table::UNKNOWN,
             grant,
