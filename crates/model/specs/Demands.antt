@@ -247,6 +247,11 @@ pub record Searching (F : Limits) (problem : List ℕ) (p : Problem) : Type 0 wh
       (longest grant : ℕ) (q : List ℕ) (used : ℕ) → searchPlans F problem longest grant ≡ answered (firstRight q used) →
       IsShort (length (p .actions)) longest q × Right (taskOf F p q) ×
       ((b : List ℕ) → IsShort (length (p .actions)) longest b → Earlier b q → NotRight (taskOf F p) b)
+  -- where it is undecided, every plan before that one is not right
+  pub undecided-first :
+      (longest grant : ℕ) (q : List ℕ) (used : ℕ) → searchPlans F problem longest grant ≡ answered (undecidedAt q used) →
+      IsShort (length (p .actions)) longest q ×
+      ((b : List ℕ) → IsShort (length (p .actions)) longest b → Earlier b q → NotRight (taskOf F p) b)
   -- where none is right, no plan up to that length is
   pub none-right :
       (longest grant used : ℕ) → searchPlans F problem longest grant ≡ answered (noneRight used) →

@@ -9,7 +9,7 @@ use lib.ListN.{length}
 use Rattle.model.specs.declared.Limits.{Limits}
 use Rattle.model.specs.declared.ShortPlan.{ShortPlan}
 use Rattle.model.specs.ProblemBytes.{Problem}
-use Rattle.model.specs.Operations.{taskOf}
+use Rattle.model.specs.Operations.{taskOf, plansIn}
 use Rattle.model.specs.WellFormed.{Each}
 use Rattle.model.specs.Answers.{shortSteps, Room}
 use Rattle.model.specs.Search.{Search, eachStep, plansOf, plansFrom, plansUpTo, search}
@@ -137,7 +137,7 @@ module _ (problem actions : List ℕ) (root : Root) (c : List ℕ) (w : length c
     pub within : used ≤ grant
     pub is :
         (F : Limits) (P : Problem) → RootAt F problem actions root c P →
-        search (taskOf F P) grant (plansUpTo (length (P .actions)) longest) 0 ≡ search (taskOf F P) grant (plansFrom (length (P .actions)) l (suc longest - l)) used
+        search (taskOf F P) grant (plansIn P longest) 0 ≡ search (taskOf F P) grant (plansFrom (length (P .actions)) l (suc longest - l)) used
 
   pub shorter-none : Shorter 0 0
   unfolding plansUpTo
@@ -153,7 +153,7 @@ module _ (problem actions : List ℕ) (root : Root) (c : List ℕ) (w : length c
   module _ (used l : ℕ) (s : Shorter used l) (r : Progress) (t : Tries problem actions root c [] (root .starts) c (λ m. plansOf m l) used grant r) (h : l ≤ longest) where
     one-length :
         (F : Limits) (P : Problem) → RootAt F problem actions root c P →
-        search (taskOf F P) grant (plansUpTo (length (P .actions)) longest) 0 ≡
+        search (taskOf F P) grant (plansIn P longest) 0 ≡
         resumes r (search (taskOf F P) grant (plansFrom (length (P .actions)) (suc l) (suc longest - suc l)))
     unfolding plansFrom
     one-length F P A =

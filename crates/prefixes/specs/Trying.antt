@@ -10,12 +10,12 @@ use Rattle.model.specs.declared.ShortPlan.{ShortPlan}
 use Rattle.model.specs.Limits.{maxActions}
 use Rattle.model.specs.Case.{caseOf}
 use Rattle.model.specs.ProblemBytes.{Problem}
-use Rattle.model.specs.Operations.{taskOf}
+use Rattle.model.specs.Operations.{taskOf, plansIn}
 use Rattle.model.specs.WellFormed.{Each}
 use Rattle.model.specs.Planes.{ones, Table}
 use Rattle.model.specs.Stands.{TaskStands}
 use Rattle.model.specs.Answers.{shortSteps, Room}
-use Rattle.model.specs.Search.{Search, firstRight, undecidedAt, plansOf, plansUpTo, search}
+use Rattle.model.specs.Search.{Search, firstRight, undecidedAt, plansOf, search}
 use Rattle.evaluate.specs.declared.Planes.{Planes}
 use Rattle.evaluate.specs.Planes.{FormulaPlanes}
 use Rattle.table.specs.Blocks.{blockCase}
@@ -121,4 +121,4 @@ pub record TriesLengths (problem actions : List ℕ) (root : Root) (c : List ℕ
   pub room : Room (r .plan) 0
   pub is :
       (F : Limits) (P : Problem) → RootAt F problem actions root c P →
-      search (taskOf F P) grant (plansUpTo (length (P .actions)) longest) 0 ≡ resumes r (search (taskOf F P) grant [])
+      search (taskOf F P) grant (plansIn P longest) 0 ≡ resumes r (search (taskOf F P) grant [])

@@ -15,9 +15,9 @@ count-bound m (suc l) h =
     let i : planCount m (suc l) ≡ m * planCount m l + 1 = refl in
     rw (e, pow-add 2 7 (7 * l), i) (omega (arith, mul-le-mul h (count-bound m l h), pow-pos (7 * l)))
 
-module _ (m l longest count : ℕ) (e : count ≡ planCount m l) where
-  pub count-room : m ≤ 64 → l < longest → longest ≤ 4 → m * count + 1 < 2 ^ 64
-  count-room h k o =
+module _ (m l count : ℕ) (e : count ≡ planCount m l) where
+  pub count-room : (longest : ℕ) → m ≤ 64 → l < longest → longest ≤ 4 → m * count + 1 < 2 ^ 64
+  count-room longest h k o =
       let b : 2 ^ (7 * l) ≤ 2 ^ 21 = pow-mono {j = 21} (omega arith) in
       rw e (omega (arith, mul-le-mul h (count-bound m l h)))
 
@@ -25,5 +25,5 @@ module _ (m l longest count : ℕ) (e : count ≡ planCount m l) where
   unfolding planCount
   count-next = rw (e, add-one l) refl
 
-  pub count-all : l ≤ longest → longest ≤ l → count ≡ planCount m longest
-  count-all h k = let i : l ≡ longest = omega arith in e ∙ ap (planCount m) i
+  pub count-all : (longest : ℕ) → l ≤ longest → longest ≤ l → count ≡ planCount m longest
+  count-all longest h k = let i : l ≡ longest = omega arith in e ∙ ap (planCount m) i

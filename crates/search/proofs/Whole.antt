@@ -13,8 +13,8 @@ use Rattle.model.specs.Answer.{refused, answered}
 use Rattle.model.specs.Answers.{refusal, shortSteps, searchEnds, searchAnswer}
 use Rattle.model.specs.Case.{caseOf}
 use Rattle.model.specs.ProblemBytes.{Problem, problem}
-use Rattle.model.specs.Search.{noneRight, plansUpTo, planCount, search}
-use Rattle.model.specs.Operations.{taskOf, searchPlans}
+use Rattle.model.specs.Search.{noneRight, planCount, search}
+use Rattle.model.specs.Operations.{taskOf, plansIn, searchPlans}
 use Rattle.model.specs.WellFormed.{Bytes, Sensible}
 use Rattle.model.specs.Planes.{Table}
 use Rattle.model.proofs.Demands.{version1-sensible, version1-holds}
@@ -74,7 +74,7 @@ module _ (s : List ℕ) (r : Found) (f : Finds version1 s (problem version1 s 0)
     search-over l = let (P, e, w) = problem-found f h in sym (version1-holds .searching s P e .over-length longest grant l)
 
     module _ (l : longest ≤ maxLength) (count : ℕ) (c : count ≡ planCount (r .problem .actions) longest) where
-      counts : (P : Problem) → r .problem .actions ≡ length (P .actions) → count ≡ length (plansUpTo (length (P .actions)) longest)
+      counts : (P : Problem) → r .problem .actions ≡ length (P .actions) → count ≡ length (plansIn P longest)
       counts P i = c ∙ ap (λ (m : ℕ). planCount m longest) i ∙ sym (enumerates (length (P .actions)) longest .counted)
 
       pub search-many : maxPlans < count → refused 44 0 ≡ searchPlans version1 s longest grant

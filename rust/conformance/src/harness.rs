@@ -119,17 +119,13 @@ impl fmt::Debug for Difference {
         writeln!(f, "  problem {}", hex(&case.problem))?;
         writeln!(f, "  plan {}", hex(&case.plan))?;
         writeln!(f, "  list {}", hex(&case.list))?;
-        let Case {
-            state,
-            grant,
-            room,
-            work,
-            longest,
-            shared_grant,
-            ..
-        } = case;
-        writeln!(f, "  state {state:x} grant {grant} room {room} work {work}")?;
-        write!(f, "  longest {longest} shared grant {shared_grant}")
+        write!(f, "  state {:x} grant {}", case.state, case.grant)?;
+        writeln!(f, " room {} work {}", case.room, case.work)?;
+        write!(
+            f,
+            "  longest {} shared grant {}",
+            case.longest, case.shared_grant
+        )
     }
 }
 

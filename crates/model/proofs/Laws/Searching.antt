@@ -17,7 +17,7 @@ use Rattle.model.specs.Search.{Search, firstRight, noneRight, undecidedA
 use Rattle.model.specs.ProblemBytes.{Problem, problemOf}
 use Rattle.model.specs.WellFormed.{Each, Sensible}
 use Rattle.model.specs.Operations.{taskOf, whenFew, plansIn, searchPlans}
-use Rattle.model.specs.Demands.{NotRight, ComesTo, SaysFirstRight, SearchSays, Searching}
+use Rattle.model.specs.Demands.{NotRight, ComesTo, SearchSays, Searching}
 use Rattle.model.proofs.Laws.Verdicts.{judged-in, judged-out, right-closes, walk-closes-right, walk-ends}
 use Rattle.model.proofs.Laws.Tasks.{problem-fits}
 use Rattle.model.proofs.Laws.Plans.{each-append, each-of, stands, stands-before, enumerates}
@@ -218,19 +218,18 @@ module _ (F : Limits) (S : Sensible F) (problem : List ℕ) (p : Problem) (given
           | inr (inr (_, _, a)) ↦ let k = a grant in let z : _≡_ {A = ℕ} 0 1 = cc in absurd (omega arith)
         ]
 
-    found-first :
-        (grant : ℕ) (q : List ℕ) (used : ℕ) → SaysFirstRight (taskOf F p) (plansIn p longest) grant q used →
-        IsShort (length (p .actions)) longest q × Right (taskOf F p q) ×
-        ((b : List ℕ) → IsShort (length (p .actions)) longest b → Earlier b q → Right (taskOf F p b) → ⊥)
-    found-first grant q used s =
-        let c = s .comes-to in
+    -- a plan that the search comes to is short, and none before it in the order is right
+    comes-first :
+        (grant : ℕ) (before : List (List ℕ)) (q : List ℕ) → ComesTo (taskOf F p) (plansIn p longest) grant before q →
+        IsShort (length (p .actions)) longest q ×
+        ((b : List ℕ) → IsShort (length (p .actions)) longest b → Earlier b q → NotRight (taskOf F p) b)
+    comes-first grant before q c =
         let e = c .stands in
         let all = enumerates (length (p .actions)) longest in (
-          each-of (IsShort (length (p .actions)) longest) (Memᴰ·append-right (s .before) (List·Memᴰ·head refl)) (rw e at (all .short)),
-          s .is-right,
+          each-of (IsShort (length (p .actions)) longest) (Memᴰ·append-right before (List·Memᴰ·head refl)) (rw e at (all .short)),
           λ b h k.
               each-of (NotRight (taskOf F p))
-              (stands-before b q (s .before) (c .after) (rw e at (all .sorted)) (rw e at (stands (length (p .actions)) longest b h)) k)
+              (stands-before b q before (c .after) (rw e at (all .sorted)) (rw e at (stands (length (p .actions)) longest b h)) k)
               (c .none-before),
         )
 
@@ -259,7 +258,15 @@ module _ (F : Limits) (S : Sensible F) (problem : List ℕ) (p : Problem) (given
               says longest grant r,
               λ s. answers longest grant h l ∙ ap answered (is-answered (taskOf F p) task-fits (plansIn p longest) grant r s),
             );
-        found-first = λ longest grant q used e. found-first longest grant q used (says longest grant (firstRight q used) e);
+        found-first =
+            λ longest grant q used e.
+            let s = says longest grant (firstRight q used) e in
+            let (short, first) = comes-first longest grant (s .before) q (s .comes-to) in
+            (short, s .is-right, first);
+        undecided-first =
+            λ longest grant q used e.
+            let s = says longest grant (undecidedAt q used) e in
+            comes-first longest grant (s .before) q (s .comes-to);
         none-right =
             λ longest grant used e b h.
             each-of (NotRight (taskOf F p)) (stands (length (p .actions)) longest b h)

@@ -24,9 +24,9 @@ plan-count-spec =
     Inv-loop
     μ-loop
     loop-holds
-    (λ c. let p = c .before .before .pre in omega (arith, count-room _ _ _ _ (c .before .loop .inv .0) (p .0) (c .loop-test .taken) (p .1)))
-    (λ c. let p = c .before .before .pre in omega (arith, count-room _ _ _ _ (c .before .loop .inv .0) (p .0) (c .loop-test .taken) (p .1)))
+    (λ c. let p = c .before .before .pre in omega (arith, count-room _ _ _ (c .before .loop .inv .0) _ (p .0) (c .loop-test .taken) (p .1)))
+    (λ c. let p = c .before .before .pre in omega (arith, count-room _ _ _ (c .before .loop .inv .0) _ (p .0) (c .loop-test .taken) (p .1)))
     (λ c. omega arith)
     (λ c. omega arith)
-    (λ c. (count-next _ _ 0 _ (c .before .loop .inv .0), omega arith))
-    (λ c. count-all _ _ _ _ (c .before .loop .inv .0) (c .before .loop .inv .1) (c .loop-test .left)))
+    (λ c. (count-next _ _ _ (c .before .loop .inv .0), omega arith))
+    (λ c. count-all _ _ _ (c .before .loop .inv .0) _ (c .before .loop .inv .1) (c .loop-test .left)))
