@@ -1,54 +1,50 @@
 -- The three demands hold of every version whose numbers are sensible, and so of version 1. Assumes nothing.
 use mathlib.Core.Path.{refl}
-use Prim.Native.Nat.{ℕ}
 use native.Mathlib.Omega.{arith}
 use lib.ListN.{length}
 use Rattle.model.specs.declared.Limits.{Limits}
 use Rattle.model.specs.Limits.{version1}
 use Rattle.model.specs.Answer as Answer
-use Rattle.model.specs.ProblemBytes.{problem, problemOf, plan, plan_of, encodeProblem, encodePlan}
-use Rattle.model.specs.ListBytes.{encodeList}
-use Rattle.model.specs.Operations.{readTask, listFor, writeList}
-use Rattle.model.specs.Kleene.{two, three}
-use Rattle.model.specs.Walk.{Look}
-use Rattle.model.specs.Cover.{RunningEnd}
-use Rattle.model.specs.Action.{OrderFree}
+use Rattle.model.specs.ProblemBytes.{problem, problem_of, plan, plan_of, encode_problem, encode_plan}
+use Rattle.model.specs.ListBytes.{encode_list}
+use Rattle.model.specs.Operations.{read_task, list_for, write_list}
 use Rattle.model.specs.WellFormed.{Sensible}
 use Rattle.model.specs.Demands.{Demand1, Demands}
+use Rattle.model.specs.Theorems.{Theorems}
 use Rattle.model.proofs.Laws.Conflicts.{order-free-two, order-free-three}
 use Rattle.model.proofs.Laws.Reading.{answer-got}
 use Rattle.model.proofs.Laws.ProblemCodec.{problem-gives, problem-ok, plan-gives, plan-ok}
-use Rattle.model.proofs.Laws.ListCodec.{list-sound, list-ok}
+use Rattle.model.proofs.Laws.ListCodec.{list_sound, list-ok}
 use Rattle.model.proofs.Laws.Tasks.{answer-then, task-fits}
 use Rattle.model.proofs.Laws.Tracing.{relevances, work-unchanged, run-first}
 use Rattle.model.proofs.Laws.Judging.{verdicts}
 use Rattle.model.proofs.Laws.RunningEnd.{running-end}
 use Rattle.model.proofs.Laws.Searching.{problem-first, searching}
-use Rattle.model.proofs.Laws.Lists.{written-answered, refused-unchanged, wrote, lists, n≤w}
+use Rattle.model.proofs.Laws.Lists.{written-answered, refused_unchanged, wrote, lists, n≤w}
 
 module _ (F : Limits) (S : Sensible F) where
   reading : Demand1 F
-  unfolding problemOf plan_of writeList listFor readTask Answer.◌>>=◌
+  unfolding problem_of plan_of write_list list_for read_task Answer.◌>>=◌
   reading =
       record {
-        problem-sound = λ s b p e. let (q, h) = answer-got (problem F s 0) e in (problem-gives F S s b).of p q h;
-        plan-sound = λ s b m steps e. let (q, h) = answer-got (plan s m 0) e in let (k, z, _) = (plan-gives s m b).of steps q h in (k, z);
-        list-sound = list-sound F S;
-        problem-accepted = λ p k. problem-ok F S (encodeProblem F p) p k refl;
-        plan-accepted = λ m steps k. plan-ok (encodePlan steps) m steps k refl;
-        list-accepted = λ ls k. list-ok F S (encodeList F ls) ls k refl;
-        task-accepted =
+        problem_sound = λ s b p e. let (q, h) = answer-got (problem F s 0) e in (problem-gives F S s b).of p q h;
+        plan_sound = λ s b m steps e. let (q, h) = answer-got (plan s m 0) e in let (k, z, _) = (plan-gives s m b).of steps q h in (k, z);
+        list_sound = list_sound F S;
+        problem_accepted = λ p k. problem-ok F S (encode_problem F p) p k refl;
+        plan_accepted = λ m steps k. plan-ok (encode_plan steps) m steps k refl;
+        list_accepted = λ ls k. list-ok F S (encode_list F ls) ls k refl;
+        task_accepted =
             λ p steps k l.
-            let plan = plan-ok (encodePlan steps) (length p.actions) steps l refl in
-            rw (problem-ok F S (encodeProblem F p) p k refl, Answer.◌>>=◌, plan);
-        refused-unchanged =
-            λ problem plan grant out n q e. refused-unchanged F out n q (listFor F problem plan grant (length out)) e;
-        refused-work-unchanged = work-unchanged F;
-        run-refuses-first = run-first F;
-        problem-refuses-first = problem-first F;
-        rest-unchanged =
+            let plan = plan-ok (encode_plan steps) (length p.actions) steps l refl in
+            rw (problem-ok F S (encode_problem F p) p k refl, Answer.◌>>=◌, plan);
+        refused_unchanged =
+            λ problem plan grant out n q e. refused_unchanged F out n q (list_for F problem plan grant (length out)) e;
+        refused_work_unchanged = work-unchanged F;
+        run_refuses_first = run-first F;
+        problem_refuses_first = problem-first F;
+        rest_unchanged =
             λ problem plan grant out n e.
-            answer-then (written-answered F out n (listFor F problem plan grant (length out)) e).1 λ T given _.
+            answer-then (written-answered F out n (list_for F problem plan grant (length out)) e).1 λ T given _.
             let (_, _, _, _, size, _, rest) = wrote F S T (task-fits F problem plan T given) problem plan given grant out n e in
             (size, rest);
       }
@@ -69,10 +65,11 @@ version1-sensible = omega arith
 pub version1-holds : Demands version1
 version1-holds = demands-hold version1 version1-sensible
 
--- W-203, for every width, fact count and look
-pub running-end-holds : (w : ℕ) (look : ℕ → ℕ → Look) (n : ℕ) → RunningEnd w look n
-running-end-holds = running-end
-
--- document 004's assumption, in states and in cases
-pub order-free : OrderFree two × OrderFree three
-order-free = (order-free-two, order-free-three)
+pub theorems-hold : Theorems
+theorems-hold =
+    record {
+      demands = demands-hold;
+      running_ends = running-end;
+      free_in_states = order-free-two;
+      free_in_cases = order-free-three;
+    }

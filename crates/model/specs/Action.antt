@@ -12,21 +12,21 @@ pub record Action : Type 0 where
   pub precondition : Formula
   pub effects : List Effect
 
-abbrev pub sameLiteral : Literal → Literal → Bool
-sameLiteral (fact f) (fact g) = eqb f g
-sameLiteral (fact f) (denial g) = false
-sameLiteral (denial f) (fact g) = false
-sameLiteral (denial f) (denial g) = eqb f g
+abbrev pub same_literal : Literal → Literal → Bool
+same_literal (fact f) (fact g) = eqb f g
+same_literal (fact f) (denial g) = false
+same_literal (denial f) (fact g) = false
+same_literal (denial f) (denial g) = eqb f g
 
 -- the condition that a literal's entry gives it, or `found` where it has none. Literals rise strictly, so there is one entry at
 -- most; the last one decides, as in a loop that stores each entry's condition.
-unfoldable pub conditionIn : Formula → Literal → List Effect → Formula
-conditionIn found l [] = found
-conditionIn found l (e ∷ es) = conditionIn (cond (sameLiteral l e.literal) e.condition found) l es
+unfoldable pub condition_in : Formula → Literal → List Effect → Formula
+condition_in found l [] = found
+condition_in found l (e ∷ es) = condition_in (cond (same_literal l e.literal) e.condition found) l es
 
 -- "A literal without an entry has a condition that never holds."
-abbrev pub conditionOf : Literal → List Effect → Formula
-conditionOf l es = conditionIn (any none) l es
+abbrev pub condition_of : Literal → List Effect → Formula
+condition_of l es = condition_in (any none) l es
 
 -- f 0, f 1, .. f (n - 1)
 abbrev pub tabulate : {X : Type 0} → ℕ → (ℕ → X) → List X
@@ -41,10 +41,10 @@ every (suc n) f = f zero && every n (λ i. f (suc i))
 module _ {X : Type 0} (L : Logic X) where
   -- a fact's two conditions, in the values c
   abbrev pub sets : Action → List X → ℕ → X
-  sets a c f = eval L c (conditionOf (fact f) a.effects)
+  sets a c f = eval L c (condition_of (fact f) a.effects)
 
   abbrev pub clears : Action → List X → ℕ → X
-  clears a c f = eval L c (conditionOf (denial f) a.effects)
+  clears a c f = eval L c (condition_of (denial f) a.effects)
 
   -- "the "all" of each fact's two conditions must also read no" (document 02, W-202): its denial reads yes
   unfoldable pub exclusive : Action → List X → ℕ → Bool
@@ -61,8 +61,8 @@ module _ {X : Type 0} (L : Logic X) where
   next a c f = L.either (sets a c f) (L.both (get_or c f L.never) (L.denied (clears a c f)))
 
   -- the same with the clear condition asked first
-  abbrev pub nextClearing : Action → List X → ℕ → X
-  nextClearing a c f = L.both (L.either (sets a c f) (get_or c f L.never)) (L.denied (clears a c f))
+  abbrev pub next_clearing : Action → List X → ℕ → X
+  next_clearing a c f = L.both (L.either (sets a c f) (get_or c f L.never)) (L.denied (clears a c f))
 
   -- the values of all n facts after the action
   unfoldable pub step : ℕ → Action → List X → List X
@@ -71,4 +71,4 @@ module _ {X : Type 0} (L : Logic X) where
   -- Document 004 assumes that a fact's two conditions exclude each other. So they do at every step that is obeyed (W-202): it is the
   -- same which of them is asked first.
   abbrev pub OrderFree : Type 0
-  OrderFree = (n : ℕ) (a : Action) (c : List X) → applicable n a c ≡ true → (f : ℕ) → f < n → next a c f ≡ nextClearing a c f
+  OrderFree = (n : ℕ) (a : Action) (c : List X) → applicable n a c ≡ true → (f : ℕ) → f < n → next a c f ≡ next_clearing a c f

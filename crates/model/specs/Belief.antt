@@ -3,7 +3,7 @@ use Rattle.std.specs.Prelude.{◌≡◌, Bool, true, false, List, [], ◌∷◌,
 use Rattle.model.specs.Kleene.{two}
 use Rattle.model.specs.Formula.{Formula, eval}
 use Rattle.model.specs.Action.{Action, sets, clears, next}
-use Rattle.model.specs.Run.{unmet, holdsIn, Part, atMember, atFact, Stop, Outcome, reached, missed, blocked}
+use Rattle.model.specs.Run.{unmet, holds_in, Part, at_member, at_fact, Stop, Outcome, reached, missed, blocked}
 
 abbrev pub Belief : Type 1
 Belief = List Bool → Type 0
@@ -48,14 +48,14 @@ module _ (n : ℕ) where
   Solution B goal plan = Applicable B plan × Entails (after B plan) goal
 
   -- ΦI as a belief state: "the Boolean assignments of the facts that satisfy the initial formula"
-  abbrev pub initialBelief : Formula → Belief
-  initialBelief initial s = (length s ≡ n) × (eval two s initial ≡ true)
+  abbrev pub initial_belief : Formula → Belief
+  initial_belief initial s = (length s ≡ n) × (eval two s initial ≡ true)
 
   -- the part that keeps an action from being applicable in the state t: a member of the precondition, which is false; or, where it is
   -- true, the lowest fact in conflict
   abbrev pub IsPart : List Bool → Action → Part → Type 0
-  IsPart t a (atMember m) = (eval two t a.precondition ≡ false) × (unmet (holdsIn two t) a.precondition ≡ m)
-  IsPart t a (atFact f) =
+  IsPart t a (at_member m) = (eval two t a.precondition ≡ false) × (unmet (holds_in two t) a.precondition ≡ m)
+  IsPart t a (at_fact f) =
       (eval two t a.precondition ≡ true) × (f < n) × InConflict t a f × ((g : ℕ) → g < f → InConflict t a g → ⊥)
 
   -- the first actions of the plan, as many as the stop's step says, are applicable from B, and the next one is not, by the stop's part
@@ -66,7 +66,7 @@ module _ (n : ℕ) where
     pub parts : plan ≡ before ++ (action ∷ rest)
     pub at : length before ≡ p.step
     pub applicable : Applicable B before
-    pub not-applicable : ApplicableIn (after B before) action → ⊥
+    pub not_applicable : ApplicableIn (after B before) action → ⊥
     pub part : (t : List Bool) → after B before t → IsPart t action p.part
 
   -- "The run of one given state answers by that same section": what each outcome says of the plan, from the belief that holds the

@@ -41,7 +41,7 @@ module _ (T : Task) where
 
   -- s is the number of a state: no bit past the declared facts
   pub record IsState (s : ℕ) : Type 0 where
-    pub in-width : s < 2 ^ T.width
+    pub in_width : s < 2 ^ T.width
     pub no_bits : s % 2 ^ (T.width - T.facts) ≡ 0
 
   -- "A start state is a state in which the initial formula is true."

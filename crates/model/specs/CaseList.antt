@@ -1,11 +1,11 @@
 -- Following the lines of a case list (document 01, "Follow a list", refusals 65 to 70).
 use Rattle.std.specs.Prelude.{Bool, true, false, not, List, [], ◌∷◌, ℕ, zero, suc, ◌+◌, ◌-◌, ◌%◌, ◌^◌, eqb, ltb}
-use Rattle.model.specs.Walk.{kindNumber, Look, closed, opened, Line}
+use Rattle.model.specs.Walk.{kind_number, Look, closed, opened, Line}
 use Rattle.model.specs.Answer.{Answer, refused, answered}
 
 -- whether a case that looks so is of the kind claimed
 abbrev pub claims : ℕ → Look → Bool
-claims d (closed κ) = eqb d (kindNumber κ)
+claims d (closed κ) = eqb d (kind_number κ)
 claims d opened = false
 
 -- the first number whose test says so, and 0 for none
@@ -14,9 +14,9 @@ first true number rest = number
 first false number rest = rest
 
 -- a refusal by that number at line i, or what follows
-unfoldable pub refuseAt : ℕ → ℕ → Answer ℕ → Answer ℕ
-refuseAt zero i rest = rest
-refuseAt (suc number) i rest = refused (suc number) i
+unfoldable pub refuse_at : ℕ → ℕ → Answer ℕ → Answer ℕ
+refuse_at zero i rest = rest
+refuse_at (suc number) i rest = refused (suc number) i
 
 -- "70 the end isn't at 2^48 (place the line count). Otherwise it passes, with the line count."
 unfoldable pub ends : Bool → ℕ → Answer ℕ
@@ -38,4 +38,4 @@ module _ (w : ℕ) (look : ℕ → ℕ → Look) (n : ℕ) where
   -- "line by line, place being the line number from 0": lines from number i on, the cover so far ending at x
   unfoldable pub follow : List Line → ℕ → ℕ → Answer ℕ
   follow [] i x = ends (eqb x (2 ^ w)) i
-  follow (l ∷ ls) i x = let rest = follow ls (suc i) (x + 2 ^ (w - l.k)) in refuseAt (fault l x) i rest
+  follow (l ∷ ls) i x = let rest = follow ls (suc i) (x + 2 ^ (w - l.k)) in refuse_at (fault l x) i rest

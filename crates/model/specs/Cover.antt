@@ -3,7 +3,7 @@
 use Rattle.std.specs.Prelude.{◌≡◌, ◌↔◌, ◌⊎◌, List, [], ◌∷◌, ℕ, suc, ◌+◌, ◌-◌, ◌^◌, ◌≤◌, ◌<◌, length, take, drop, eqb}
 use Rattle.model.specs.Answer.{Answer, refused, answered, ◌>>=◌}
 use Rattle.model.specs.Walk.{Look, Line}
-use Rattle.model.specs.CaseList.{refuseAt, ends, fault, follow}
+use Rattle.model.specs.CaseList.{refuse_at, ends, fault, follow}
 
 -- the end of a set of numbers: each of them is below it, and it is the least number of which that is so; the end of no numbers is 0
 pub record IsEnd (S : ℕ → Type 0) (e : ℕ) : Type 0 where
@@ -14,7 +14,7 @@ module _ (w : ℕ) where
   -- "It begins at its value number and covers 2 to the power (48 - k) numbers.": the line covers the number x
   pub record Covers (l : Line) (x : ℕ) : Type 0 where
     pub begun : l.value ≤ x
-    pub not-past : x < l.value + 2 ^ (w - l.k)
+    pub not_past : x < l.value + 2 ^ (w - l.k)
 
   -- "what all lines so far cover together" (W-203): the set of the numbers that one of the lines covers
   abbrev pub CoveredBy : List Line → ℕ → Type 0
@@ -28,16 +28,16 @@ module _ (w : ℕ) where
 
   -- e is the end of what the lines cover together; and that is every number below it, each once
   pub record CoversTo (ls : List Line) (e : ℕ) : Type 0 where
-    pub is-end : IsEnd (CoveredBy ls) e
+    pub is_end : IsEnd (CoveredBy ls) e
     pub exactly : (x : ℕ) → (x < e) ↔ CoveredBy ls x
     pub once : CoveredOnce ls
 
 module _ (w : ℕ) (look : ℕ → ℕ → Look) (n : ℕ) where
   -- "keep the end of the cover as a running value" (W-203): lines from number i on, before which it is x: the first fault at its line, or
   -- the value after the last of them
-  unfoldable pub coverEnd : List Line → ℕ → ℕ → Answer ℕ
-  coverEnd [] i x = answered x
-  coverEnd (l ∷ ls) i x = let rest = coverEnd ls (suc i) (x + 2 ^ (w - l.k)) in refuseAt (fault w look n l x) i rest
+  unfoldable pub cover_end : List Line → ℕ → ℕ → Answer ℕ
+  cover_end [] i x = answered x
+  cover_end (l ∷ ls) i x = let rest = cover_end ls (suc i) (x + 2 ^ (w - l.k)) in refuse_at (fault w look n l x) i rest
 
   -- the first i of these lines are without a fault: following them all is refused at none of these
   abbrev pub WithoutFault : List Line → ℕ → Type 0
@@ -46,14 +46,14 @@ module _ (w : ℕ) (look : ℕ → ℕ → Look) (n : ℕ) where
   -- after the first i lines: the running value, from which what is left is followed, is the end of what they cover together
   pub record EndAfter (ls : List Line) (i : ℕ) : Type 0 where
     pub end : ℕ
-    pub running : coverEnd (take i ls) 0 0 ≡ answered end
-    pub goes_on : i ≤ length ls → follow w look n ls 0 0 ≡ follow w look n (drop i ls) i end
+    pub running : cover_end (take i ls) 0 0 ≡ answered end
+    pub continues : i ≤ length ls → follow w look n ls 0 0 ≡ follow w look n (drop i ls) i end
     pub covers : CoversTo w (take i ls) end
 
   -- the fault f of line i, the first: the lines before have none, and it should begin at the running value after them
   pub record FaultAt (ls : List Line) (f i : ℕ) : Type 0 where
     pub end : ℕ
-    pub before : coverEnd (take i ls) 0 0 ≡ answered end
+    pub before : cover_end (take i ls) 0 0 ≡ answered end
     pub line : Line
     pub after : List Line
     pub stands : drop i ls ≡ line ∷ after
@@ -62,9 +62,9 @@ module _ (w : ℕ) (look : ℕ → ℕ → Look) (n : ℕ) where
   -- W-203, of any lines whatever
   pub record RunningEnd : Type 0 where
     -- "after each line without a fault it is the end of what all lines so far cover together"
-    pub is-end : (ls : List Line) (i : ℕ) → WithoutFault ls i → EndAfter ls i
-    pub at-fault : (ls : List Line) (f i : ℕ) → coverEnd ls 0 0 ≡ refused f i → FaultAt ls f i
+    pub is_end : (ls : List Line) (i : ℕ) → WithoutFault ls i → EndAfter ls i
+    pub at_fault : (ls : List Line) (f i : ℕ) → cover_end ls 0 0 ≡ refused f i → FaultAt ls f i
     -- "Every answer, number and place is the same.": following is the running value, and one test of it after the last line
-    pub same-answers : (ls : List Line) → follow w look n ls 0 0 ≡ coverEnd ls 0 0 >>= λ e. ends (eqb e (2 ^ w)) (length ls)
+    pub same_answers : (ls : List Line) → follow w look n ls 0 0 ≡ cover_end ls 0 0 >>= λ e. ends (eqb e (2 ^ w)) (length ls)
     -- so a list that passes covers every number of the width, each once
-    pub passes-whole : (ls : List Line) (m : ℕ) → follow w look n ls 0 0 ≡ answered m → CoversTo w ls (2 ^ w)
+    pub passes_whole : (ls : List Line) (m : ℕ) → follow w look n ls 0 0 ≡ answered m → CoversTo w ls (2 ^ w)

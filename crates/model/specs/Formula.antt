@@ -26,13 +26,13 @@ module _ {X : Type 0} (L : Logic X) (c : List X) where
   unfoldable mutual
     pub eval : Formula → X
     eval (lit l) = value_of l
-    eval (all ms) = evalAll ms
-    eval (any ms) = evalAny ms
+    eval (all ms) = eval_all ms
+    eval (any ms) = eval_any ms
 
-    pub evalAll : Formulas → X
-    evalAll none = L.always
-    evalAll (more m ms) = L.both (eval m) (evalAll ms)
+    pub eval_all : Formulas → X
+    eval_all none = L.always
+    eval_all (more m ms) = L.both (eval m) (eval_all ms)
 
-    pub evalAny : Formulas → X
-    evalAny none = L.never
-    evalAny (more m ms) = L.either (eval m) (evalAny ms)
+    pub eval_any : Formulas → X
+    eval_any none = L.never
+    eval_any (more m ms) = L.either (eval m) (eval_any ms)

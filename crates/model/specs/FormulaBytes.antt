@@ -1,19 +1,19 @@
 -- Formulas in bytes (document 01, "Blocks" and "Read a problem", refusals 14 and 17 to 21).
 use Rattle.std.specs.Prelude.{Bool, cond, ◌&&◌, ◌||◌, not, List, [], ◌∷◌, ◌++◌, ℕ, zero, suc, ◌+◌, ◌-◌, ◌*◌, length, eqb, ltb, leb}
-use Rattle.model.specs.Limits.{maxFormulaBytes, maxDepth}
+use Rattle.model.specs.Limits.{max_formula_bytes, max_depth}
 use Rattle.model.specs.Formula.{Literal, fact, denial, Formula, Formulas, lit, all, any, none, more}
 use Rattle.model.specs.Read.{reject, Reader, ◌>>=◌, ◌>>◌, done, position, require, byte, bytes_of}
 
 -- "A byte 0 to 47 is a fact; 64 to 111 is the denial of fact (byte less 64)": the bytes of the literals of the declared facts
-unfoldable pub isLiteral : ℕ → ℕ → Bool
-isLiteral facts b = ltb b facts || (leb 64 b && ltb b (64 + facts))
+unfoldable pub is_literal : ℕ → ℕ → Bool
+is_literal facts b = ltb b facts || (leb 64 b && ltb b (64 + facts))
 
-unfoldable pub literalOf : ℕ → Literal
-literalOf b = cond (ltb b 64) (fact b) (denial (b - 64))
+unfoldable pub literal_of : ℕ → Literal
+literal_of b = cond (ltb b 64) (fact b) (denial (b - 64))
 
-abbrev pub literalByte : Literal → ℕ
-literalByte (fact f) = f
-literalByte (denial f) = f + 64
+abbrev pub literal_byte : Literal → ℕ
+literal_byte (fact f) = f
+literal_byte (denial f) = f + 64
 
 -- "Hex 80 or 81 and a count byte begin a group"
 pub data Group : Type 0 where
@@ -35,8 +35,8 @@ pub data Head : Type 0 where
 module _ (s : List ℕ) (end facts : ℕ) where
   -- "at a group mark 18, 19, then its count": the mark b at p, in a group whose mark is `parent` (0: in none), where `left` more
   -- groups may nest
-  unfoldable pub groupHead : ℕ → ℕ → ℕ → ℕ → Reader Head
-  groupHead left parent p b = do
+  unfoldable pub group_head : ℕ → ℕ → ℕ → ℕ → Reader Head
+  group_head left parent p b = do
     require ((eqb b 0x80 || eqb b 0x81) && not (eqb b parent)) 18 p
     require (ltb 0 left) 19 p
     m ← byte s end 20
@@ -44,14 +44,14 @@ module _ (s : List ℕ) (end facts : ℕ) where
 
   -- "18 byte not allowed there, undeclared fact or repeated group kind included; 19 group too deep (its mark); 20 formula's stated
   -- bytes end too soon (first byte after them)"
-  unfoldable pub headFrom : ℕ → ℕ → ℕ → ℕ → Reader Head
-  headFrom left parent p b = cond (isLiteral facts b) (done (leaf (literalOf b))) (groupHead left parent p b)
+  unfoldable pub head_from : ℕ → ℕ → ℕ → ℕ → Reader Head
+  head_from left parent p b = cond (is_literal facts b) (done (leaf (literal_of b))) (group_head left parent p b)
 
   unfoldable pub head : ℕ → ℕ → Reader Head
   head left parent = do
     p ← position
     b ← byte s end 20
-    headFrom left parent p b
+    head_from left parent p b
 
   -- so many members, one after the other
   unfoldable pub members : Reader Formula → ℕ → Reader Formulas
@@ -81,7 +81,7 @@ module _ (s : List ℕ) where
     start ← position
     high ← byte s (length s) 14
     low ← byte s (length s) 14
-    require (leb 1 (high * 256 + low) && leb (high * 256 + low) maxFormulaBytes) 17 start
+    require (leb 1 (high * 256 + low) && leb (high * 256 + low) max_formula_bytes) 17 start
     begin ← position
     require (leb (begin + (high * 256 + low)) (length s)) 14 (length s)
     done (begin + (high * 256 + low))
@@ -91,25 +91,25 @@ module _ (s : List ℕ) where
   unfoldable pub formula : ℕ → Reader Formula
   formula facts = do
     end ← stated
-    f ← item s end facts maxDepth 0
+    f ← item s end facts max_depth 0
     stop ← position
     require (leb end stop) 21 stop
     done f
 
 -- The same layout, written.
-abbrev pub memberCount : Formulas → ℕ
-memberCount none = 0
-memberCount (more m ms) = suc (memberCount ms)
+abbrev pub member_count : Formulas → ℕ
+member_count none = 0
+member_count (more m ms) = suc (member_count ms)
 
 unfoldable mutual
-  pub formulaBytes : Formula → List ℕ
-  formulaBytes (lit l) = literalByte l ∷ []
-  formulaBytes (all ms) = 0x80 ∷ memberCount ms ∷ memberBytes ms
-  formulaBytes (any ms) = 0x81 ∷ memberCount ms ∷ memberBytes ms
+  pub formula_bytes : Formula → List ℕ
+  formula_bytes (lit l) = literal_byte l ∷ []
+  formula_bytes (all ms) = 0x80 ∷ member_count ms ∷ member_bytes ms
+  formula_bytes (any ms) = 0x81 ∷ member_count ms ∷ member_bytes ms
 
-  pub memberBytes : Formulas → List ℕ
-  memberBytes none = []
-  memberBytes (more m ms) = formulaBytes m ++ memberBytes ms
+  pub member_bytes : Formulas → List ℕ
+  member_bytes none = []
+  member_bytes (more m ms) = formula_bytes m ++ member_bytes ms
 
-unfoldable pub encodeFormula : Formula → List ℕ
-encodeFormula f = bytes_of 2 (length (formulaBytes f)) ++ formulaBytes f
+unfoldable pub encode_formula : Formula → List ℕ
+encode_formula f = bytes_of 2 (length (formula_bytes f)) ++ formula_bytes f

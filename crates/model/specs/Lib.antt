@@ -26,3 +26,4 @@ pub mod WellFormed
 pub mod Stands
 pub mod Demands
 pub mod Trials
+pub mod Theorems

@@ -5,34 +5,34 @@ use Rattle.model.specs.declared.Limits.{Limits}
 
 -- what no version changes: "64 actions", "256 steps", a problem of "at most 32,768 bytes in all", formulas of "1 to 1,024" bytes whose
 -- groups "nest at most 8 deep"
-abbrev pub maxActions : ℕ
-maxActions = 64
+abbrev pub max_actions : ℕ
+max_actions = 64
 
-abbrev pub maxSteps : ℕ
-maxSteps = 256
+abbrev pub max_steps : ℕ
+max_steps = 256
 
-abbrev pub maxProblemBytes : ℕ
-maxProblemBytes = 32768
+abbrev pub max_problem_bytes : ℕ
+max_problem_bytes = 32768
 
-abbrev pub maxFormulaBytes : ℕ
-maxFormulaBytes = 1024
+abbrev pub max_formula_bytes : ℕ
+max_formula_bytes = 1024
 
-abbrev pub maxDepth : ℕ
-maxDepth = 8
+abbrev pub max_depth : ℕ
+max_depth = 8
 
 -- "a longest length of 0 to 4", and at most "1,000,000 plans of those lengths" (W-205)
-abbrev pub maxLength : ℕ
-maxLength = 4
+abbrev pub max_length : ℕ
+max_length = 4
 
-abbrev pub maxPlans : ℕ
-maxPlans = 1000000
+abbrev pub max_plans : ℕ
+max_plans = 1000000
 
 -- what every version keeps to: a denial's byte is its fact's and 64 more, and a fact has two literals
-abbrev pub maxFacts : ℕ
-maxFacts = 64
+abbrev pub max_facts : ℕ
+max_facts = 64
 
-abbrev pub maxEffects : ℕ
-maxEffects = 128
+abbrev pub max_effects : ℕ
+max_effects = 128
 
 abbrev pub version1 : Limits
 version1 =

@@ -3,12 +3,12 @@ use Rattle.std.specs.Prelude.{List, [], ◌∷◌, ◌++◌, ℕ, zero, suc, ◌
 use Rattle.model.specs.declared.Limits.{Limits}
 use Rattle.model.specs.Answer.{Answer}
 use Rattle.model.specs.Walk.{Line}
-use Rattle.model.specs.Read.{Reader, ◌>>=◌, ◌>>◌, done, require, answer_of, headBytes, header, bigEndian, bytes_of, block}
+use Rattle.model.specs.Read.{Reader, ◌>>◌, done, require, answer_of, head_bytes, header, big_endian, bytes_of, block}
 
 module _ (F : Limits) (s : List ℕ) where
   -- "lines of 8 bytes: kind, k, six bytes of values": the line whose first byte is at p
   unfoldable pub line_at : ℕ → Line
-  line_at p = record { kind = get_or s p 0; k = get_or s (p + 1) 0; value = bigEndian (take (F.line - 2) (drop (p + 2) s)) }
+  line_at p = record { kind = get_or s p 0; k = get_or s (p + 1) 0; value = big_endian (take (F.line - 2) (drop (p + 2) s)) }
 
   unfoldable pub lines_from : ℕ → ℕ → List Line
   lines_from zero p = []
@@ -17,20 +17,20 @@ module _ (F : Limits) (s : List ℕ) where
   -- "60 over 65,533 bytes (65,533); 61, 62, 63 as 11, 12, 13; 64 body no multiple of 8 (block length)"
   unfoldable pub case_list : Reader (List Line)
   case_list = do
-    header s 60 (headBytes + F.line * F.lines) F.version
-    require (eqb ((length s - headBytes) % F.line) 0) 64 (length s)
-    done (lines_from ((length s - headBytes) / F.line) headBytes)
+    header s 60 (head_bytes + F.line * F.lines) F.version
+    require (eqb ((length s - head_bytes) % F.line) 0) 64 (length s)
+    done (lines_from ((length s - head_bytes) / F.line) head_bytes)
 
   unfoldable pub list_of : Answer (List Line)
   list_of = answer_of (case_list 0)
 
 -- The same layout, written.
-unfoldable pub lineBytes : Limits → Line → List ℕ
-lineBytes F l = l.kind ∷ l.k ∷ bytes_of (F.line - 2) l.value
+unfoldable pub line_bytes : Limits → Line → List ℕ
+line_bytes F l = l.kind ∷ l.k ∷ bytes_of (F.line - 2) l.value
 
-unfoldable pub linesBytes : Limits → List Line → List ℕ
-linesBytes F [] = []
-linesBytes F (l ∷ ls) = lineBytes F l ++ linesBytes F ls
+unfoldable pub lines_bytes : Limits → List Line → List ℕ
+lines_bytes F [] = []
+lines_bytes F (l ∷ ls) = line_bytes F l ++ lines_bytes F ls
 
-unfoldable pub encodeList : Limits → List Line → List ℕ
-encodeList F ls = block F.version (linesBytes F ls)
+unfoldable pub encode_list : Limits → List Line → List ℕ
+encode_list F ls = block F.version (lines_bytes F ls)

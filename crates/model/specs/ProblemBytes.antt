@@ -1,12 +1,12 @@
 -- Problem and plan blocks (document 01, "Blocks", "Read a problem" and "Read a plan").
 use Rattle.std.specs.Prelude.{List, [], ◌∷◌, ◌++◌, ℕ, zero, suc, ◌+◌, ◌-◌, length, get_or, ltb, leb}
 use Rattle.model.specs.declared.Limits.{Limits}
-use Rattle.model.specs.Limits.{maxActions, maxSteps, maxProblemBytes}
+use Rattle.model.specs.Limits.{max_actions, max_steps, max_problem_bytes}
 use Rattle.model.specs.Answer.{Answer}
 use Rattle.model.specs.Formula.{Formula, all, none}
 use Rattle.model.specs.Action.{Effect, Action}
-use Rattle.model.specs.Read.{Reader, ◌>>=◌, ◌>>◌, done, position, require, answer_of, headBytes, byte, counted, header, count, block}
-use Rattle.model.specs.FormulaBytes.{isLiteral, literalOf, literalByte, formula, encodeFormula}
+use Rattle.model.specs.Read.{Reader, ◌>>=◌, ◌>>◌, done, position, require, answer_of, head_bytes, byte, counted, header, count, block}
+use Rattle.model.specs.FormulaBytes.{is_literal, literal_of, literal_byte, formula, encode_formula}
 
 -- "A problem has facts numbered from 0, actions numbered from 0, an initial formula and a goal formula."
 pub record Problem : Type 0 where
@@ -22,24 +22,24 @@ module _ (s : List ℕ) (facts : ℕ) where
   effect least = do
     p ← position
     b ← byte s (length s) 14
-    require (isLiteral facts b) 23 p
+    require (is_literal facts b) 23 p
     require (leb least b) 24 p
     condition ← formula s facts
-    done (record { literal = literalOf b; condition = condition })
+    done (record { literal = literal_of b; condition = condition })
 
   -- "Literals rise strictly."
   unfoldable pub effects : ℕ → ℕ → Reader (List Effect)
   effects zero least = done []
   effects (suc n) least = do
     e ← effect least
-    es ← effects n (literalByte e.literal + 1)
+    es ← effects n (literal_byte e.literal + 1)
     done (e ∷ es)
 
 module _ (F : Limits) (s : List ℕ) where
   module _ (facts : ℕ) where
     -- "an effect count (1 byte, 0 to 96), and for each effect a literal byte and a condition"; "22 effect count over 96"
-    unfoldable pub effectList : Reader (List Effect)
-    effectList = do
+    unfoldable pub effect_list : Reader (List Effect)
+    effect_list = do
       n ← count s 22 0 F.effects
       effects s facts n 0
 
@@ -47,7 +47,7 @@ module _ (F : Limits) (s : List ℕ) where
     unfoldable pub action : Reader Action
     action = do
       precondition ← formula s facts
-      es ← effectList
+      es ← effect_list
       done (record { precondition = precondition; effects = es })
 
     unfoldable pub actions : ℕ → Reader (List Action)
@@ -76,16 +76,16 @@ module _ (F : Limits) (s : List ℕ) where
   unfoldable pub body : Reader Problem
   body = do
     facts ← count s 15 1 F.facts
-    m ← count s 16 0 maxActions
+    m ← count s 16 0 max_actions
     parts facts m
 
   unfoldable pub problem : Reader Problem
   problem = do
-    header s 10 maxProblemBytes F.version
+    header s 10 max_problem_bytes F.version
     body
 
-  unfoldable pub problemOf : Answer Problem
-  problemOf = answer_of (problem 0)
+  unfoldable pub problem_of : Answer Problem
+  problem_of = answer_of (problem 0)
 
 module _ (s : List ℕ) where
   -- "34 step naming no action (its byte)": so many steps, which the block's length counts
@@ -102,32 +102,32 @@ module _ (s : List ℕ) where
   -- A plan's version is 1.
   unfoldable pub plan : ℕ → Reader (List ℕ)
   plan m = do
-    header s 30 (headBytes + maxSteps) 1
-    steps m (length s - headBytes)
+    header s 30 (head_bytes + max_steps) 1
+    steps m (length s - head_bytes)
 
   unfoldable pub plan_of : ℕ → Answer (List ℕ)
   plan_of m = answer_of (plan m 0)
 
 -- the action that a step names
-unfoldable pub actionAt : List Action → ℕ → Action
-actionAt as' i = get_or as' i (record { precondition = all none; effects = [] })
+unfoldable pub action_at : List Action → ℕ → Action
+action_at as' i = get_or as' i (record { precondition = all none; effects = [] })
 
 -- The same layouts, written.
-unfoldable pub effectsBytes : List Effect → List ℕ
-effectsBytes [] = []
-effectsBytes (e ∷ es) = literalByte e.literal ∷ (encodeFormula e.condition ++ effectsBytes es)
+unfoldable pub effects_bytes : List Effect → List ℕ
+effects_bytes [] = []
+effects_bytes (e ∷ es) = literal_byte e.literal ∷ (encode_formula e.condition ++ effects_bytes es)
 
-unfoldable pub actionBytes : Action → List ℕ
-actionBytes a = encodeFormula a.precondition ++ (length a.effects ∷ effectsBytes a.effects)
+unfoldable pub action_bytes : Action → List ℕ
+action_bytes a = encode_formula a.precondition ++ (length a.effects ∷ effects_bytes a.effects)
 
-unfoldable pub actionsBytes : List Action → List ℕ
-actionsBytes [] = []
-actionsBytes (a ∷ as') = actionBytes a ++ actionsBytes as'
+unfoldable pub actions_bytes : List Action → List ℕ
+actions_bytes [] = []
+actions_bytes (a ∷ as') = action_bytes a ++ actions_bytes as'
 
-unfoldable pub encodeProblem : Limits → Problem → List ℕ
-encodeProblem F p =
+unfoldable pub encode_problem : Limits → Problem → List ℕ
+encode_problem F p =
     block F.version
-    (p.facts ∷ length p.actions ∷ (encodeFormula p.initial ++ (encodeFormula p.goal ++ actionsBytes p.actions)))
+    (p.facts ∷ length p.actions ∷ (encode_formula p.initial ++ (encode_formula p.goal ++ actions_bytes p.actions)))
 
-unfoldable pub encodePlan : List ℕ → List ℕ
-encodePlan steps = block 1 steps
+unfoldable pub encode_plan : List ℕ → List ℕ
+encode_plan steps = block 1 steps

@@ -37,12 +37,12 @@ answer_of (reject n q) = refused n q
 answer_of (got a p) = answered a
 
 -- "four-byte big-endian length", "two-byte length", "six bytes taken as one big-endian number"
-unfoldable pub bigEndianFrom : ℕ → List ℕ → ℕ
-bigEndianFrom n [] = n
-bigEndianFrom n (b ∷ bs) = bigEndianFrom (n * 256 + b) bs
+unfoldable pub big_endian_from : ℕ → List ℕ → ℕ
+big_endian_from n [] = n
+big_endian_from n (b ∷ bs) = big_endian_from (n * 256 + b) bs
 
-abbrev pub bigEndian : List ℕ → ℕ
-bigEndian bs = bigEndianFrom 0 bs
+abbrev pub big_endian : List ℕ → ℕ
+big_endian bs = big_endian_from 0 bs
 
 -- a number as so many bytes, the highest first
 unfoldable pub bytes_of : ℕ → ℕ → List ℕ
@@ -50,8 +50,8 @@ bytes_of zero n = []
 bytes_of (suc k) n = (n / 256 ^ k) % 256 ∷ bytes_of k n
 
 -- "Every block: version byte 1, then a four-byte big-endian length of all that follows."
-abbrev pub headBytes : ℕ
-headBytes = 5
+abbrev pub head_bytes : ℕ
+head_bytes = 5
 
 unfoldable pub block : ℕ → List ℕ → List ℕ
 block version body = version ∷ (bytes_of 4 (length body) ++ body)
@@ -71,10 +71,10 @@ module _ (s : List ℕ) where
   unfoldable pub header : ℕ → ℕ → ℕ → Reader (Unit {0})
   header number most version = do
     require (leb (length s) most) number most
-    require (leb headBytes (length s)) (number + 1) (length s)
+    require (leb head_bytes (length s)) (number + 1) (length s)
     require (eqb (get_or s 0 0) version) (number + 2) 0
-    require (eqb (bigEndian (take 4 (drop 1 s))) (length s - headBytes)) (number + 3) 1
-    λ p. got tt headBytes
+    require (eqb (big_endian (take 4 (drop 1 s))) (length s - head_bytes)) (number + 3) 1
+    λ p. got tt head_bytes
 
   -- a count of one byte, refused with `number` at its place where it is not from `low` to `high`; "14 block ends inside a field
   -- .. (place the block's length)"

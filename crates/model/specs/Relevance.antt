@@ -3,7 +3,7 @@
 use Rattle.std.specs.Prelude.{◌≡◌, Bool, true, false, cond, ◌&&◌, ◌||◌, List, [], ◌∷◌, ◌++◌, map, ℕ, zero, suc, ◌+◌, ◌-◌, ◌*◌, ◌^◌, ◌<◌, length, get_or, eqb}
 use Rattle.model.specs.Kleene.{two}
 use Rattle.model.specs.Formula.{Literal, fact, denial, Formula, Formulas, lit, all, any, none, more}
-use Rattle.model.specs.Action.{Effect, Action, sameLiteral, conditionOf, tabulate, sets, step}
+use Rattle.model.specs.Action.{Effect, Action, same_literal, condition_of, tabulate, sets, step}
 use Rattle.model.specs.Run.{reached}
 use Rattle.model.specs.Case.{bit, flag, state_of, Task, run_of, IsState}
 
@@ -15,12 +15,12 @@ fact_of (denial f) = f
 unfoldable mutual
   pub names : Formula → ℕ → Bool
   names (lit l) f = eqb (fact_of l) f
-  names (all ms) f = memberNames ms f
-  names (any ms) f = memberNames ms f
+  names (all ms) f = member_names ms f
+  names (any ms) f = member_names ms f
 
-  pub memberNames : Formulas → ℕ → Bool
-  memberNames none f = false
-  memberNames (more m ms) f = names m f || memberNames ms f
+  pub member_names : Formulas → ℕ → Bool
+  member_names none f = false
+  member_names (more m ms) f = names m f || member_names ms f
 
 -- whether one of p 0, p 1, .. p (n - 1) is true
 unfoldable pub some : ℕ → (ℕ → Bool) → Bool
@@ -28,45 +28,45 @@ some zero p = false
 some (suc n) p = p zero || some n (λ i. p (suc i))
 
 -- whether a literal has an entry
-unfoldable pub hasEntry : Literal → List Effect → Bool
-hasEntry l [] = false
-hasEntry l (e ∷ es) = sameLiteral l e.literal || hasEntry l es
+unfoldable pub has_entry : Literal → List Effect → Bool
+has_entry l [] = false
+has_entry l (e ∷ es) = same_literal l e.literal || has_entry l es
 
 module _ (a : Action) where
   -- "a fact that has set and clear entries"
-  abbrev pub setAndCleared : ℕ → Bool
-  setAndCleared g = hasEntry (fact g) a.effects && hasEntry (denial g) a.effects
+  abbrev pub set_and_cleared : ℕ → Bool
+  set_and_cleared g = has_entry (fact g) a.effects && has_entry (denial g) a.effects
 
   -- "the facts of its set condition", and those of its clear condition, of fact g's: a literal without an entry names none
-  abbrev pub setNames : ℕ → ℕ → Bool
-  setNames g = names (conditionOf (fact g) a.effects)
+  abbrev pub set_names : ℕ → ℕ → Bool
+  set_names g = names (condition_of (fact g) a.effects)
 
-  abbrev pub clearNames : ℕ → ℕ → Bool
-  clearNames g = names (conditionOf (denial g) a.effects)
+  abbrev pub clear_names : ℕ → ℕ → Bool
+  clear_names g = names (condition_of (denial g) a.effects)
 
   -- fact g, which mattered after the step, rests on these, in the state c before it: "the facts of its set condition if that was true,
   -- otherwise the fact itself and the facts of both its conditions"
-  abbrev pub restsOn : List Bool → ℕ → ℕ → Bool
-  restsOn c g f = cond (sets two a c g) (setNames g f) (eqb g f || (setNames g f || clearNames g f))
+  abbrev pub rests_on : List Bool → ℕ → ℕ → Bool
+  rests_on c g f = cond (sets two a c g) (set_names g f) (eqb g f || (set_names g f || clear_names g f))
 
   -- "all named in both conditions of a fact that has set and clear entries", over n facts: whether f is one of them
-  abbrev pub exclusionNames : ℕ → ℕ → Bool
-  exclusionNames n f = some n (λ g. setAndCleared g && (setNames g f || clearNames g f))
+  abbrev pub exclusion_names : ℕ → ℕ → Bool
+  exclusion_names n f = some n (λ g. set_and_cleared g && (set_names g f || clear_names g f))
 
   -- "for each fact that mattered after the step": whether one of these rests on f
-  abbrev pub effectNames : ℕ → List Bool → List Bool → ℕ → Bool
-  effectNames n c after f = some n (λ g. get_or after g false && restsOn c g f)
+  abbrev pub effect_names : ℕ → List Bool → List Bool → ℕ → Bool
+  effect_names n c after f = some n (λ g. get_or after g false && rests_on c g f)
 
   -- "Before a step, these matter: all facts named in its precondition; all named in both conditions ..; and for each fact that mattered
   -- after the step .."
-  unfoldable pub mattersBefore : ℕ → List Bool → List Bool → ℕ → Bool
-  mattersBefore n c after f = names a.precondition f || (exclusionNames n f || effectNames n c after f)
+  unfoldable pub matters_before : ℕ → List Bool → List Bool → ℕ → Bool
+  matters_before n c after f = names a.precondition f || (exclusion_names n f || effect_names n c after f)
 
 module _ (n : ℕ) where
   -- the facts that matter before what is left of a plan, from the state c: "After the last step the facts named in the goal matter."
   unfoldable pub relevant : Formula → List Action → List Bool → List Bool
   relevant goal [] c = tabulate n (names goal)
-  relevant goal (a ∷ plan) c = let after = relevant goal plan (step two n a c) in tabulate n (mattersBefore a n c after)
+  relevant goal (a ∷ plan) c = let after = relevant goal plan (step two n a c) in tabulate n (matters_before a n c after)
 
   -- "the states of the run, in order": that before each step, and the last
   unfoldable pub states : List Action → List Bool → List (List Bool)
@@ -85,15 +85,15 @@ rows (c ∷ cs) = map flag c ++ rows cs
 
 module _ (T : Task) where
   -- "The answer is a set of start facts", those that matter before the run of the state numbered s
-  unfoldable pub relevantTo : ℕ → ℕ
-  relevantTo s = number_of T.width (relevant T.facts T.goal T.plan (state_of T.width T.facts s))
+  unfoldable pub relevant_to : ℕ → ℕ
+  relevant_to s = number_of T.width (relevant T.facts T.goal T.plan (state_of T.width T.facts s))
 
   -- "The work area has steps plus one rows"; "afterwards they hold the states of the run, in order"
-  abbrev pub workBytes : ℕ
-  workBytes = suc (length T.plan) * T.facts
+  abbrev pub work_bytes : ℕ
+  work_bytes = suc (length T.plan) * T.facts
 
-  unfoldable pub runRows : ℕ → List ℕ
-  runRows s = rows (states T.facts T.plan (state_of T.width T.facts s))
+  unfoldable pub run_rows : ℕ → List ℕ
+  run_rows s = rows (states T.facts T.plan (state_of T.width T.facts s))
 
   -- the states numbered s and t agree on the set numbered m
   abbrev pub AgreeOn : ℕ → ℕ → ℕ → Type 0
@@ -102,6 +102,6 @@ module _ (T : Task) where
   -- W-204
   pub record RestsOnRelevant : Type 0 where
     -- the set is one of declared facts only
-    pub is_state : (s : ℕ) → IsState T (relevantTo s)
+    pub is_state : (s : ℕ) → IsState T (relevant_to s)
     -- "Prove that any other state which agrees on that set is also reached."
-    pub reached-too : (s : ℕ) → run_of T s ≡ reached → (t : ℕ) → AgreeOn (relevantTo s) s t → run_of T t ≡ reached
+    pub reached_too : (s : ℕ) → run_of T s ≡ reached → (t : ℕ) → AgreeOn (relevant_to s) s t → run_of T t ≡ reached

@@ -7,56 +7,56 @@ use Rattle.model.specs.WellFormed.{Each}
 -- ---- the plans
 
 -- each of n steps from a on, in turn, before each of the plans
-unfoldable pub eachStep : ℕ → ℕ → List (List ℕ) → List (List ℕ)
-eachStep zero a ps = []
-eachStep (suc n) a ps = map (λ p. a ∷ p) ps ++ eachStep n (suc a) ps
+unfoldable pub each_step : ℕ → ℕ → List (List ℕ) → List (List ℕ)
+each_step zero a ps = []
+each_step (suc n) a ps = map (λ p. a ∷ p) ps ++ each_step n (suc a) ps
 
 -- ".. then by step numbers from the first step on": the plans of one length over m actions
-unfoldable pub plansOf : ℕ → ℕ → List (List ℕ)
-plansOf m zero = [] ∷ []
-plansOf m (suc l) = eachStep m 0 (plansOf m l)
+unfoldable pub plans_of : ℕ → ℕ → List (List ℕ)
+plans_of m zero = [] ∷ []
+plans_of m (suc l) = each_step m 0 (plans_of m l)
 
 -- "by length ..": those of n lengths from l on
-unfoldable pub plansFrom : ℕ → ℕ → ℕ → List (List ℕ)
-plansFrom m l zero = []
-plansFrom m l (suc n) = plansOf m l ++ plansFrom m (suc l) n
+unfoldable pub plans_from : ℕ → ℕ → ℕ → List (List ℕ)
+plans_from m l zero = []
+plans_from m l (suc n) = plans_of m l ++ plans_from m (suc l) n
 
 -- "take every plan up to that length"
-unfoldable pub plansUpTo : ℕ → ℕ → List (List ℕ)
-plansUpTo m longest = plansFrom m 0 (suc longest)
+unfoldable pub plans_up_to : ℕ → ℕ → List (List ℕ)
+plans_up_to m longest = plans_from m 0 (suc longest)
 
 -- how many they are: the empty plan, and each of m steps before every plan that is a step shorter
-unfoldable pub planCount : ℕ → ℕ → ℕ
-planCount m zero = 1
-planCount m (suc l) = m * planCount m l + 1
+unfoldable pub plan_count : ℕ → ℕ → ℕ
+plan_count m zero = 1
+plan_count m (suc l) = m * plan_count m l + 1
 
 -- ---- the search
 
 -- "Report the first right plan, or that none is right, or undecided with the first plan whose walk needs more than the visits left, each
 -- with the visits used in all."
 pub data Search : Type 0 where
-  firstRight : List ℕ → ℕ → Search
-  noneRight : ℕ → Search
-  undecidedAt : List ℕ → ℕ → Search
+  first_right : List ℕ → ℕ → Search
+  none_right : ℕ → Search
+  undecided_at : List ℕ → ℕ → Search
 
 -- over any list of plans, each of which makes a task of the problem
 module _ (task : List ℕ → Task) where
   module _ (grant : ℕ) where
     -- what the verdict on the plan p makes of a search that had used so many visits, and would go on so
     abbrev pub tried : List ℕ → ℕ → (ℕ → Search) → Verdict (List Line) → Search
-    tried p used rest (right ls a) = firstRight p (used + a)
+    tried p used rest (right ls a) = first_right p (used + a)
     tried p used rest (wrong s o a) = rest (used + a)
-    tried p used rest (undecided a) = undecidedAt p grant
+    tried p used rest (undecided a) = undecided_at p grant
 
     -- "Judge them under one shared grant of visits.": each with the visits that are left
     unfoldable pub search : List (List ℕ) → ℕ → Search
-    search [] used = noneRight used
+    search [] used = none_right used
     search (p ∷ ps) used = tried p used (search ps) (judged (task p) (grant - used))
 
   -- the visits of the walks of these plans
-  unfoldable pub visitsOf : List (List ℕ) → ℕ
-  visitsOf [] = 0
-  visitsOf (p ∷ ps) = visits (walked (task p)) + visitsOf ps
+  unfoldable pub visits_of : List (List ℕ) → ℕ
+  visits_of [] = 0
+  visits_of (p ∷ ps) = visits (walked (task p)) + visits_of ps
 
 -- ---- what is to be proved of the plans
 
@@ -86,4 +86,4 @@ pub record Enumerates (m longest : ℕ) (plans : List (List ℕ)) : Type 0 where
       (p : List ℕ) → IsShort m longest p →
       (before after : List (List ℕ)) × (plans ≡ before ++ (p ∷ after)) × Each (λ q. q ≢ p) before × Each (λ q. q ≢ p) after
   pub sorted : Sorted plans
-  pub counted : length plans ≡ planCount m longest
+  pub counted : length plans ≡ plan_count m longest

@@ -1,32 +1,33 @@
 -- The trial cases of document 01 that are to be proved, on their bytes, each refusal at and inside its edge, and what the requests of
 -- document 02 add: a call and what it gives. What no row can say, for every plan or for walks of a million visits, is a statement beside the tables.
-use Rattle.std.specs.Prelude.{◌≡◌, List, [], ◌∷◌, ◌++◌, ℕ, zero, suc, ◌≤◌, ◌<◌, length, drop, replicate}
+use Rattle.std.specs.Prelude.{◌≡◌, List, [], ◌∷◌, ◌++◌, ℕ, zero, suc, ◌≤◌, ◌<◌, length, drop, replicate, map}
 use Rattle.model.specs.declared.Limits.{Limits}
 use Rattle.model.specs.Limits.{version1}
 use Rattle.model.specs.Formula.{eval}
-use Rattle.model.specs.Action.{conditionIn, every, exclusive, applicable, next, step}
-use Rattle.model.specs.Run.{firstFalse, unmet, lowestFalse, atMember, atFact, part_of, Outcome, reached, missed, blocked, goesOn, run}
+use Rattle.model.specs.Action.{condition_in, every, exclusive, applicable, next, step}
+use Rattle.model.specs.Run.{first_false, unmet, lowest_false, at_member, at_fact, part_of, Outcome, reached, missed, blocked, goes_on, run}
 use Rattle.model.specs.Case.{bit, state_of, case_of, Task, run_of}
-use Rattle.model.specs.Walk.{visits, Verdict, right, wrong, undecided, walkFrom, walk, lookAt, walked, found, judged}
+use Rattle.model.specs.Walk.{visits, Verdict, right, wrong, undecided, walk_from, walk, look_at, walked, found, judged}
 use Rattle.model.specs.Answer as Answer
 use Rattle.model.specs.Answer.{Answer, refused, answered}
-use Rattle.model.specs.CaseList.{first, refuseAt, ends, fault, follow}
-use Rattle.model.specs.Cover.{coverEnd}
-use Rattle.model.specs.Relevance.{names, some, hasEntry, mattersBefore, relevant, states, number_of, rows, relevantTo, runRows}
-use Rattle.model.specs.Search.{Search, firstRight, noneRight, undecidedAt, eachStep, plansOf, plansFrom, plansUpTo, planCount, search}
-use Rattle.model.specs.Read.{and_then, ◌>>=◌, ◌>>◌, done, position, require, answer_of, bigEndianFrom, bytes_of, block, byte, counted, header, count}
-use Rattle.model.specs.FormulaBytes.{isLiteral, literalOf, groupHead, headFrom, head, members, whole, item, stated, formula}
-use Rattle.model.specs.ProblemBytes.{effect, effects, effectList, action, actions, ending, parts, body, problem, problemOf, steps, plan, plan_of, actionAt}
-use Rattle.model.specs.ListBytes.{line_at, lines_from, case_list, list_of, lineBytes, linesBytes, encodeList}
+use Rattle.model.specs.CaseList.{first, refuse_at, ends, fault, follow}
+use Rattle.model.specs.Cover.{cover_end}
+use Rattle.model.specs.Relevance.{names, some, has_entry, matters_before, relevant, states, number_of, rows, relevant_to, run_rows}
+use Rattle.model.specs.Search.{Search, first_right, none_right, undecided_at, each_step, plans_of, plans_from, plans_up_to, plan_count, search}
+use Rattle.model.specs.Read.{and_then, ◌>>=◌, ◌>>◌, done, position, require, answer_of, big_endian_from, bytes_of, block, byte, counted, header, count}
+use Rattle.model.specs.FormulaBytes.{is_literal, literal_of, group_head, head_from, head, members, whole, item, stated, formula}
+use Rattle.model.specs.ProblemBytes.{effect, effects, effect_list, action, actions, ending, parts, body, problem, problem_of, steps, plan, plan_of, action_at}
+use Rattle.model.specs.ListBytes.{line_at, lines_from, case_list, list_of, line_bytes, lines_bytes, encode_list}
 use Rattle.model.specs.Text.{ascii, hex}
-use Rattle.model.specs.DeskText.{digits, decimal, sentence, marks, refusalLine, rightLine, wrongLine, undecidedLine, verdictLine, lineText, linesText, listText, verdictRest, answerLine, answerRest, firstLine, laterLines, deskText}
-use Rattle.model.specs.Operations.{Counts, Written, isState, lineCount, readProblem, readPlan, task_of, readTask, runState, judge, listBytes, linesFor, written, listFor, writeList, followList, coverAfter, reachedTask, relevantFacts, searchPlans}
+use Rattle.model.specs.DeskText.{digits, decimal, sentence, marks, refusal_line, right_line, wrong_line, undecided_line, verdict_line, line_text, lines_text, list_text, verdict_rest, answer_line, answer_rest, first_line, later_lines, desk_text}
+use Rattle.model.specs.declared.Counts.{Counts}
+use Rattle.model.specs.Operations.{Written, is_state_number, line_count, read_problem, read_plan, task_of, read_task, run_state, judge, list_bytes, lines_for, written, list_for, write_list, follow_list, cover_after, reached_task, relevant_facts, search_plans}
 
 pub data Call : Type 0 where
   read-problem : List ℕ → Call
   read-plan : List ℕ → List ℕ → Call
   run-state : List ℕ → List ℕ → ℕ → Call
-  judge-with : List ℕ → List ℕ → ℕ → Call
+  judge_with : List ℕ → List ℕ → ℕ → Call
   write-list : Limits → List ℕ → List ℕ → ℕ → List ℕ → Call
   follow-list : List ℕ → List ℕ → List ℕ → Call
   cover-after : List ℕ → List ℕ → List ℕ → ℕ → Call
@@ -45,17 +46,17 @@ pub data Reply : Type 0 where
 
 -- what the definitions give; a proof that unfolds this computes with all of them
 unfoldable pub reply : Call → Reply
-unfolding eval conditionIn every exclusive applicable next step firstFalse unmet lowestFalse part_of goesOn run bit state_of case_of run_of walkFrom walk lookAt walked judged Answer.◌>>=◌ first refuseAt ends fault follow coverEnd and_then ◌>>=◌ ◌>>◌ done position require answer_of bigEndianFrom bytes_of block byte counted header count isLiteral literalOf groupHead headFrom head members whole item stated formula effect effects effectList action actions ending parts body problem problemOf steps plan plan_of actionAt line_at lines_from case_list list_of lineBytes linesBytes encodeList isState readProblem readPlan task_of readTask runState judge listBytes linesFor written listFor writeList followList coverAfter names some hasEntry mattersBefore relevant states number_of rows relevantTo runRows reachedTask relevantFacts eachStep plansOf plansFrom plansUpTo planCount search searchPlans ascii hex digits decimal sentence marks refusalLine rightLine wrongLine undecidedLine verdictLine lineText linesText listText verdictRest answerLine answerRest firstLine laterLines deskText
-reply (read-problem p) = counts (readProblem version1 p)
-reply (read-plan p q) = number (readPlan version1 p q)
-reply (run-state p q s) = outcome (runState version1 p q s)
-reply (judge-with p q g) = verdict (judge version1 p q g)
-reply (write-list F p q g out) = writes (writeList F p q g out)
-reply (follow-list p q l) = number (followList version1 p q l)
-reply (cover-after p q l m) = number (coverAfter version1 p q l m)
-reply (relevant-facts p q s work) = writes (relevantFacts version1 p q s work)
-reply (search-plans p l g) = searched (searchPlans version1 p l g)
-reply (desk F p q) = text (deskText F p q)
+unfolding eval condition_in every exclusive applicable next step first_false unmet lowest_false part_of goes_on run bit state_of case_of run_of walk_from walk look_at walked judged Answer.◌>>=◌ first refuse_at ends fault follow cover_end and_then ◌>>=◌ ◌>>◌ done position require answer_of big_endian_from bytes_of block byte counted header count is_literal literal_of group_head head_from head members whole item stated formula effect effects effect_list action actions ending parts body problem problem_of steps plan plan_of action_at line_at lines_from case_list list_of line_bytes lines_bytes encode_list is_state_number read_problem read_plan task_of read_task run_state judge list_bytes lines_for written list_for write_list follow_list cover_after names some has_entry matters_before relevant states number_of rows relevant_to run_rows reached_task relevant_facts each_step plans_of plans_from plans_up_to plan_count search search_plans ascii hex digits decimal sentence marks refusal_line right_line wrong_line undecided_line verdict_line line_text lines_text list_text verdict_rest answer_line answer_rest first_line later_lines desk_text
+reply (read-problem p) = counts (read_problem version1 p)
+reply (read-plan p q) = number (read_plan version1 p q)
+reply (run-state p q s) = outcome (run_state version1 p q s)
+reply (judge_with p q g) = verdict (judge version1 p q g)
+reply (write-list F p q g out) = writes (write_list F p q g out)
+reply (follow-list p q l) = number (follow_list version1 p q l)
+reply (cover-after p q l m) = number (cover_after version1 p q l m)
+reply (relevant-facts p q s work) = writes (relevant_facts version1 p q s work)
+reply (search-plans p l g) = searched (search_plans version1 p l g)
+reply (desk F p q) = text (desk_text F p q)
 
 pub record Row : Type 0 where
   pub call : Call
@@ -72,24 +73,24 @@ P =
     "01 00000020 03 02 0007 80 02 81 02 00 01 42 0001 02 0002 80 00 01 02 0001 00 0002 80 00 01 02 0001 01"
 
 -- P with "Action 0 given precondition fact 0", "Goal the empty "all"" and "Initial the empty "any""
-abbrev P-guarded : List ℕ
-P-guarded =
+abbrev P_guarded : List ℕ
+P_guarded =
     hex
     "01 0000001f 03 02 0007 80 02 81 02 00 01 42 0001 02 0001 00 01 02 0001 00 0002 80 00 01 02 0001 01"
 
-abbrev P-goal : List ℕ
-P-goal =
+abbrev P_goal : List ℕ
+P_goal =
     hex
     "01 00000021 03 02 0007 80 02 81 02 00 01 42 0002 80 00 0002 80 00 01 02 0001 00 0002 80 00 01 02 0001 01"
 
-abbrev pub P-no-start : List ℕ
-P-no-start =
+abbrev pub P_no_start : List ℕ
+P_no_start =
     hex
     "01 0000001b 03 02 0002 81 00 0001 02 0002 80 00 01 02 0001 00 0002 80 00 01 02 0001 01"
 
 -- plans 0, 1; 0 alone; and the empty one
-abbrev both-steps : List ℕ
-both-steps = hex "01 00000002 00 01"
+abbrev both_steps : List ℕ
+both_steps = hex "01 00000002 00 01"
 
 abbrev pub step-0 : List ℕ
 step-0 = hex "01 00000001 00"
@@ -98,21 +99,21 @@ abbrev pub no_step : List ℕ
 no_step = hex "01 00000000"
 
 -- "Its list", "its last line split into 10 and 11", "Last line dropped", "Last two swapped", "First line with kind 1"
-abbrev the-list : List ℕ
-the-list = hex "01 00000018 00 02 000000000000 01 02 400000000000 01 01 800000000000"
+abbrev the_list : List ℕ
+the_list = hex "01 00000018 00 02 000000000000 01 02 400000000000 01 01 800000000000"
 
-abbrev split-list : List ℕ
-split-list =
+abbrev split_list : List ℕ
+split_list =
     hex "01 00000020 00 02 000000000000 01 02 400000000000 01 02 800000000000 01 02 c00000000000"
 
-abbrev short-list : List ℕ
-short-list = hex "01 00000010 00 02 000000000000 01 02 400000000000"
+abbrev short_list : List ℕ
+short_list = hex "01 00000010 00 02 000000000000 01 02 400000000000"
 
-abbrev swapped-list : List ℕ
-swapped-list = hex "01 00000018 00 02 000000000000 01 01 800000000000 01 02 400000000000"
+abbrev swapped_list : List ℕ
+swapped_list = hex "01 00000018 00 02 000000000000 01 01 800000000000 01 02 400000000000"
 
-abbrev other-kind : List ℕ
-other-kind = hex "01 00000018 01 02 000000000000 01 02 400000000000 01 01 800000000000"
+abbrev other_kind : List ℕ
+other_kind = hex "01 00000018 01 02 000000000000 01 02 400000000000 01 01 800000000000"
 
 abbrev pub grant : ℕ
 grant = 1000000
@@ -126,31 +127,31 @@ kept n q out = writes (record { answer = refused n q; buffer = out })
 -- the starred cases, in document 01's order
 abbrev pub starred : List Row
 starred =
-    (judge-with P both-steps grant ⇒ verdict (answered (right 3 5)))
-    ∷ (write-list version1 P both-steps grant (replicate 30 7) ⇒ wrote 29 (the-list ++ (7 ∷ [])))
-    ∷ (follow-list P both-steps the-list ⇒ number (answered 3))
-    ∷ (judge-with P step-0 grant ⇒ verdict (answered (wrong 0x400000000000 missed 5)))
-    ∷ (judge-with P no_step grant ⇒ verdict (answered (wrong 0x400000000000 missed 5)))
-    ∷ (judge-with P both-steps 4 ⇒ verdict (answered (undecided 4)))
-    ∷ (judge-with P both-steps 0 ⇒ verdict (answered (undecided 0)))
-    ∷ (judge-with P-guarded both-steps grant ⇒ verdict (answered (wrong 0x400000000000 (blocked (record { step = 0; part = atMember 0 })) 5)))
-    ∷ (judge-with P-goal no_step grant ⇒ verdict (answered (right 1 1)))
-    ∷ (judge-with P-no-start both-steps grant ⇒ verdict (answered (right 1 1)))
-    ∷ (write-list version1 P-no-start both-steps grant (replicate 13 0) ⇒ wrote 13 (hex "01 00000008 00 00 000000000000"))
-    ∷ (follow-list P both-steps split-list ⇒ number (answered 4))
-    ∷ (follow-list P both-steps short-list ⇒ number (refused 70 2))
-    ∷ (follow-list P both-steps swapped-list ⇒ number (refused 68 1))
-    ∷ (follow-list P both-steps other-kind ⇒ number (refused 69 0))
+    (judge_with P both_steps grant ⇒ verdict (answered (right 3 5)))
+    ∷ (write-list version1 P both_steps grant (replicate 30 7) ⇒ wrote 29 (the_list ++ (7 ∷ [])))
+    ∷ (follow-list P both_steps the_list ⇒ number (answered 3))
+    ∷ (judge_with P step-0 grant ⇒ verdict (answered (wrong 0x400000000000 missed 5)))
+    ∷ (judge_with P no_step grant ⇒ verdict (answered (wrong 0x400000000000 missed 5)))
+    ∷ (judge_with P both_steps 4 ⇒ verdict (answered (undecided 4)))
+    ∷ (judge_with P both_steps 0 ⇒ verdict (answered (undecided 0)))
+    ∷ (judge_with P_guarded both_steps grant ⇒ verdict (answered (wrong 0x400000000000 (blocked (record { step = 0; part = at_member 0 })) 5)))
+    ∷ (judge_with P_goal no_step grant ⇒ verdict (answered (right 1 1)))
+    ∷ (judge_with P_no_start both_steps grant ⇒ verdict (answered (right 1 1)))
+    ∷ (write-list version1 P_no_start both_steps grant (replicate 13 0) ⇒ wrote 13 (hex "01 00000008 00 00 000000000000"))
+    ∷ (follow-list P both_steps split_list ⇒ number (answered 4))
+    ∷ (follow-list P both_steps short_list ⇒ number (refused 70 2))
+    ∷ (follow-list P both_steps swapped_list ⇒ number (refused 68 1))
+    ∷ (follow-list P both_steps other_kind ⇒ number (refused 69 0))
     ∷ []
 
 -- "Initial the empty "any", any plan: right, one line of kind 0, 1 visit": every plan block that is read, every grant of 1 or more,
 -- and every buffer that the list fits
 abbrev pub NoStart : Type 0
 NoStart =
-    (plan : List ℕ) (m : ℕ) → readPlan version1 P-no-start plan ≡ answered m → (g : ℕ) → 1 ≤ g →
-    (judge version1 P-no-start plan g ≡ answered (right 1 1)) ×
+    (plan : List ℕ) (m : ℕ) → read_plan version1 P_no_start plan ≡ answered m → (g : ℕ) → 1 ≤ g →
+    (judge version1 P_no_start plan g ≡ answered (right 1 1)) ×
     ((out : List ℕ) → 13 ≤ length out →
-    writeList version1 P-no-start plan g out ≡ record { answer = answered 13; buffer = hex "01 00000008 00 00 000000000000" ++ drop 13 out })
+    write_list version1 P_no_start plan g out ≡ record { answer = answered 13; buffer = hex "01 00000008 00 00 000000000000" ++ drop 13 out })
 
 -- a block with this body
 abbrev pub block1 : List ℕ → List ℕ
@@ -171,8 +172,8 @@ abbrev acting : List ℕ → List ℕ
 acting e = block1 (hex "01 01 0001 00 0001 00 0001 00" ++ e)
 
 -- a version whose lists have two lines at most: 52 and "list too long" with few lines
-abbrev two-lines : Limits
-two-lines =
+abbrev two_lines : Limits
+two_lines =
     record {
       version = 1;
       width = 48;
@@ -259,41 +260,41 @@ edges =
     ∷ (read-plan P (hex "01 00000002 01 01") ⇒ number (answered 2))
     ∷ (read-plan [] [] ⇒ number (refused 11 0))
     -- 40
-    ∷ (run-state P both-steps 0x600000000000 ⇒ outcome (answered reached))
-    ∷ (run-state P both-steps 0x100000000000 ⇒ outcome (refused 40 0))
-    ∷ (run-state P both-steps 0x1000000000000 ⇒ outcome (refused 40 0))
-    ∷ (run-state P both-steps 0 ⇒ outcome (answered missed))
-    ∷ (run-state P-guarded both-steps 0 ⇒ outcome (answered (blocked (record { step = 0; part = atMember 0 }))))
+    ∷ (run-state P both_steps 0x600000000000 ⇒ outcome (answered reached))
+    ∷ (run-state P both_steps 0x100000000000 ⇒ outcome (refused 40 0))
+    ∷ (run-state P both_steps 0x1000000000000 ⇒ outcome (refused 40 0))
+    ∷ (run-state P both_steps 0 ⇒ outcome (answered missed))
+    ∷ (run-state P_guarded both_steps 0 ⇒ outcome (answered (blocked (record { step = 0; part = at_member 0 }))))
     ∷ (run-state P [] 0 ⇒ outcome (refused 31 0))
     -- 50 to 53: no byte of the buffer is changed
-    ∷ (write-list version1 P both-steps 4 (replicate 29 7) ⇒ kept 50 4 (replicate 29 7))
+    ∷ (write-list version1 P both_steps 4 (replicate 29 7) ⇒ kept 50 4 (replicate 29 7))
     ∷ (write-list version1 P step-0 grant (replicate 29 7) ⇒ kept 51 5 (replicate 29 7))
-    ∷ (write-list two-lines P both-steps grant (replicate 29 7) ⇒ kept 52 3 (replicate 29 7))
-    ∷ (write-list version1 P both-steps 5 (replicate 28 7) ⇒ kept 53 3 (replicate 28 7))
-    ∷ (write-list version1 P both-steps 5 (replicate 29 7) ⇒ wrote 29 the-list)
-    ∷ (write-list version1 [] both-steps 5 (replicate 3 7) ⇒ kept 11 0 (replicate 3 7))
+    ∷ (write-list two_lines P both_steps grant (replicate 29 7) ⇒ kept 52 3 (replicate 29 7))
+    ∷ (write-list version1 P both_steps 5 (replicate 28 7) ⇒ kept 53 3 (replicate 28 7))
+    ∷ (write-list version1 P both_steps 5 (replicate 29 7) ⇒ wrote 29 the_list)
+    ∷ (write-list version1 [] both_steps 5 (replicate 3 7) ⇒ kept 11 0 (replicate 3 7))
     -- 60 to 64
-    ∷ (follow-list P both-steps (replicate 65534 1) ⇒ number (refused 60 65533))
-    ∷ (follow-list P both-steps [] ⇒ number (refused 61 0))
-    ∷ (follow-list P both-steps (hex "02 00000000") ⇒ number (refused 62 0))
-    ∷ (follow-list P both-steps (hex "01 00000008") ⇒ number (refused 63 1))
-    ∷ (follow-list P both-steps (lines (replicate 9 0)) ⇒ number (refused 64 14))
+    ∷ (follow-list P both_steps (replicate 65534 1) ⇒ number (refused 60 65533))
+    ∷ (follow-list P both_steps [] ⇒ number (refused 61 0))
+    ∷ (follow-list P both_steps (hex "02 00000000") ⇒ number (refused 62 0))
+    ∷ (follow-list P both_steps (hex "01 00000008") ⇒ number (refused 63 1))
+    ∷ (follow-list P both_steps (lines (replicate 9 0)) ⇒ number (refused 64 14))
     ∷ (follow-list P [] [] ⇒ number (refused 31 0))
     -- 65 to 70
-    ∷ (follow-list P both-steps (lines (hex "02 04 000000000001")) ⇒ number (refused 65 0))
-    ∷ (follow-list P both-steps (lines (hex "01 04 000000000001")) ⇒ number (refused 66 0))
-    ∷ (follow-list P both-steps (lines (hex "01 03 300000000000")) ⇒ number (refused 67 0))
-    ∷ (follow-list P both-steps (lines (hex "01 03 200000000000")) ⇒ number (refused 68 0))
-    ∷ (follow-list P both-steps (lines (hex "01 03 000000000000")) ⇒ number (refused 69 0))
-    ∷ (follow-list P both-steps (lines (hex "00 00 000000000000")) ⇒ number (refused 69 0))
-    ∷ (follow-list P both-steps (lines []) ⇒ number (refused 70 0))
-    ∷ (follow-list P both-steps (lines (hex "00 03 000000000000 00 03 200000000000")) ⇒ number (refused 70 2))
-    ∷ (follow-list P both-steps (the-list ++ hex "00") ⇒ number (refused 63 1))
+    ∷ (follow-list P both_steps (lines (hex "02 04 000000000001")) ⇒ number (refused 65 0))
+    ∷ (follow-list P both_steps (lines (hex "01 04 000000000001")) ⇒ number (refused 66 0))
+    ∷ (follow-list P both_steps (lines (hex "01 03 300000000000")) ⇒ number (refused 67 0))
+    ∷ (follow-list P both_steps (lines (hex "01 03 200000000000")) ⇒ number (refused 68 0))
+    ∷ (follow-list P both_steps (lines (hex "01 03 000000000000")) ⇒ number (refused 69 0))
+    ∷ (follow-list P both_steps (lines (hex "00 00 000000000000")) ⇒ number (refused 69 0))
+    ∷ (follow-list P both_steps (lines []) ⇒ number (refused 70 0))
+    ∷ (follow-list P both_steps (lines (hex "00 03 000000000000 00 03 200000000000")) ⇒ number (refused 70 2))
+    ∷ (follow-list P both_steps (the_list ++ hex "00") ⇒ number (refused 63 1))
     -- the desk program
-    ∷ (desk version1 P both-steps ⇒ text (ascii "right lines 3 visited 5\nno-start 00?\ncarries 01?\ncarries 1??\n"))
+    ∷ (desk version1 P both_steps ⇒ text (ascii "right lines 3 visited 5\nno-start 00?\ncarries 01?\ncarries 1??\n"))
     ∷ (desk version1 P step-0 ⇒ text (ascii "wrong 010 at end visited 5\n"))
-    ∷ (desk version1 P-guarded both-steps ⇒ text (ascii "wrong 010 at step 0 member 0 visited 5\n"))
-    ∷ (desk version1 [] both-steps ⇒ text (ascii "refused problem 11 at 0\n"))
+    ∷ (desk version1 P_guarded both_steps ⇒ text (ascii "wrong 010 at step 0 member 0 visited 5\n"))
+    ∷ (desk version1 [] both_steps ⇒ text (ascii "refused problem 11 at 0\n"))
     ∷ (desk version1 P (hex "01 00000002 01 02") ⇒ text (ascii "refused plan 34 at 6\n"))
     -- its numbers of one, two and three digits
     ∷ (desk version1 P (hex "01 00000005 01 01 01 01 02") ⇒ text (ascii "refused plan 34 at 9\n"))
@@ -301,18 +302,18 @@ edges =
     -- the last refusal of a problem, the first of a plan, and a list that just fits or is too long
     ∷ (desk version1 (block1 (hex "01 00 0001 00 0001 00 00")) [] ⇒ text (ascii "refused problem 25 at 13\n"))
     ∷ (desk version1 P (replicate 262 0) ⇒ text (ascii "refused plan 30 at 261\n"))
-    ∷ (desk two-lines (initially (hex "0001 00")) no_step ⇒ text (ascii "right lines 2 visited 3\nno-start 0\ncarries 1\n"))
-    ∷ (desk two-lines P both-steps ⇒ text (ascii "right lines 3 visited 5\nlist too long\n"))
+    ∷ (desk two_lines (initially (hex "0001 00")) no_step ⇒ text (ascii "right lines 2 visited 3\nno-start 0\ncarries 1\n"))
+    ∷ (desk two_lines P both_steps ⇒ text (ascii "right lines 3 visited 5\nlist too long\n"))
     ∷ []
 
 -- "a grant fixed at 1,000,000"; "undecided is "undecided visited 1000000"": every problem and plan that are read
 abbrev pub DeskGrant : Type 0
 DeskGrant =
-    (problem plan : List ℕ) (T : Task) → readTask version1 problem plan ≡ answered T →
-    (1000000 < visits (walked T) → deskText version1 problem plan ≡ ascii "undecided visited 1000000\n") ×
+    (problem plan : List ℕ) (T : Task) → read_task version1 problem plan ≡ answered T →
+    (1000000 < visits (walked T) → desk_text version1 problem plan ≡ ascii "undecided visited 1000000\n") ×
     (visits (walked T) ≤ 1000000 →
     let v = found T (walked T) in
-    deskText version1 problem plan ≡ verdictLine version1 T.facts (lineCount v) ++ verdictRest version1 T.facts v)
+    desk_text version1 problem plan ≡ verdict_line version1 T.facts (line_count v) ++ verdict_rest version1 T.facts v)
 
 -- four facts, and actions whose preconditions are: all of 0, 1, 2; any of 0, 1; fact 3; the empty "any"; all of 0, any of 1, 2, and 3;
 -- and none, of the action that sets fact 0
@@ -323,12 +324,12 @@ guards =
     hex "0008 80 03 00 81 02 01 02 03 00 0002 80 00 01 00 0002 80 00")
 
 abbrev blocks_at : ℕ → ℕ → Reply
-blocks_at i m = outcome (answered (blocked (record { step = i; part = atMember m })))
+blocks_at i m = outcome (answered (blocked (record { step = i; part = at_member m })))
 
 -- a block's member (document 02, W-201): the second and the third of an "all", the first of several, none; an "any", a literal, an
 -- empty "any"; an "any" in an "all"; in the state before a later step; and what judge and desk program make of it
-abbrev pub unmet-members : List Row
-unmet-members =
+abbrev pub unmet_members : List Row
+unmet_members =
     (run-state guards (block1 (0 ∷ [])) 0x800000000000 ⇒ blocks_at 0 1)
     ∷ (run-state guards (block1 (0 ∷ [])) 0xc00000000000 ⇒ blocks_at 0 2)
     ∷ (run-state guards (block1 (0 ∷ [])) 0 ⇒ blocks_at 0 0)
@@ -338,13 +339,13 @@ unmet-members =
     ∷ (run-state guards (block1 (3 ∷ [])) 0xf00000000000 ⇒ blocks_at 0 0)
     ∷ (run-state guards (block1 (4 ∷ [])) 0x900000000000 ⇒ blocks_at 0 1)
     ∷ (run-state guards (block1 (5 ∷ 0 ∷ [])) 0x400000000000 ⇒ blocks_at 1 2)
-    ∷ (judge-with guards (block1 (5 ∷ 0 ∷ [])) grant ⇒ verdict (answered (wrong 0 (blocked (record { step = 1; part = atMember 1 })) 5)))
+    ∷ (judge_with guards (block1 (5 ∷ 0 ∷ [])) grant ⇒ verdict (answered (wrong 0 (blocked (record { step = 1; part = at_member 1 })) 5)))
     ∷ (desk version1 guards (block1 (5 ∷ 0 ∷ [])) ⇒ text (ascii "wrong 0000 at step 1 member 1 visited 5\n"))
     ∷ []
 
 -- "An action that always sets and always clears 2", in P
-abbrev P-both : List ℕ
-P-both = hex "01 0000001d 03 01 0007 80 02 81 02 00 01 42 0001 02 0002 80 00 02 02 0002 80 00 42 0002 80 00"
+abbrev P_both : List ℕ
+P_both = hex "01 0000001d 03 01 0007 80 02 81 02 00 01 42 0001 02 0002 80 00 02 02 0002 80 00 42 0002 80 00"
 
 -- three facts, of which 0 is false at the start, and no goal; actions: 0 sets and clears 1 and 2, 1 sets and clears 2 where 1 is true;
 -- 2 sets and clears 1 if 0 is true; 3 sets 0; 4 sets 2 if 1 is true and clears it if not; 5 clears 1
@@ -355,49 +356,49 @@ stalls =
     (hex "0001 01 02 02 0002 80 00 42 0002 80 00 0002 80 00 02 01 0001 00 41 0001 00" ++
     hex "0002 80 00 01 00 0002 80 00 0002 80 00 02 02 0001 01 42 0001 41 0002 80 00 01 41 0002 80 00"))
 
-abbrev pub stalls-at : ℕ → ℕ → Outcome
-stalls-at i f = blocked (record { step = i; part = atFact f })
+abbrev pub stalls_at : ℕ → ℕ → Outcome
+stalls_at i f = blocked (record { step = i; part = at_fact f })
 
 -- an action that sets and clears a fact (document 02, W-202): "The last trial problem becomes a block"; the lower of two facts;
 -- "an unmet precondition comes first"; a fact that is false, and one that is true already; conditions that are true in no start state, and
 -- after a step that makes them so; a case in which the pair reads unknown is open and its parts close; set or clear alone
 abbrev pub conflicts : List Row
 conflicts =
-    (run-state P-both step-0 0 ⇒ outcome (answered (stalls-at 0 2)))
-    ∷ (judge-with P-both step-0 grant ⇒ verdict (answered (wrong 0x400000000000 (stalls-at 0 2) 5)))
-    ∷ (desk version1 P-both step-0 ⇒ text (ascii "wrong 010 at step 0 fact 2 visited 5\n"))
-    ∷ (run-state stalls (block1 (0 ∷ [])) 0 ⇒ outcome (answered (stalls-at 0 1)))
+    (run-state P_both step-0 0 ⇒ outcome (answered (stalls_at 0 2)))
+    ∷ (judge_with P_both step-0 grant ⇒ verdict (answered (wrong 0x400000000000 (stalls_at 0 2) 5)))
+    ∷ (desk version1 P_both step-0 ⇒ text (ascii "wrong 010 at step 0 fact 2 visited 5\n"))
+    ∷ (run-state stalls (block1 (0 ∷ [])) 0 ⇒ outcome (answered (stalls_at 0 1)))
     ∷ (run-state stalls (block1 (1 ∷ [])) 0 ⇒ blocks_at 0 0)
-    ∷ (run-state stalls (block1 (1 ∷ [])) 0x400000000000 ⇒ outcome (answered (stalls-at 0 2)))
-    ∷ (run-state stalls (block1 (1 ∷ [])) 0x600000000000 ⇒ outcome (answered (stalls-at 0 2)))
-    ∷ (run-state stalls (block1 (2 ∷ [])) 0x800000000000 ⇒ outcome (answered (stalls-at 0 1)))
-    ∷ (judge-with stalls (block1 (2 ∷ [])) grant ⇒ verdict (answered (right 2 3)))
-    ∷ (run-state stalls (block1 (3 ∷ 2 ∷ [])) 0 ⇒ outcome (answered (stalls-at 1 1)))
-    ∷ (judge-with stalls (block1 (3 ∷ 2 ∷ [])) grant ⇒ verdict (answered (wrong 0 (stalls-at 1 1) 4)))
+    ∷ (run-state stalls (block1 (1 ∷ [])) 0x400000000000 ⇒ outcome (answered (stalls_at 0 2)))
+    ∷ (run-state stalls (block1 (1 ∷ [])) 0x600000000000 ⇒ outcome (answered (stalls_at 0 2)))
+    ∷ (run-state stalls (block1 (2 ∷ [])) 0x800000000000 ⇒ outcome (answered (stalls_at 0 1)))
+    ∷ (judge_with stalls (block1 (2 ∷ [])) grant ⇒ verdict (answered (right 2 3)))
+    ∷ (run-state stalls (block1 (3 ∷ 2 ∷ [])) 0 ⇒ outcome (answered (stalls_at 1 1)))
+    ∷ (judge_with stalls (block1 (3 ∷ 2 ∷ [])) grant ⇒ verdict (answered (wrong 0 (stalls_at 1 1) 4)))
     ∷ (desk version1 stalls (block1 (4 ∷ [])) ⇒ text (ascii "right lines 3 visited 5\ncarries 00?\ncarries 01?\nno-start 1??\n"))
     ∷ (follow-list stalls (block1 (4 ∷ [])) (lines (hex "01 02 000000000000 01 02 400000000000 00 01 800000000000")) ⇒ number (answered 3))
     ∷ (follow-list stalls (block1 (4 ∷ [])) (lines (hex "01 01 000000000000 00 01 800000000000")) ⇒ number (refused 69 0))
-    ∷ (judge-with stalls (block1 (3 ∷ 5 ∷ [])) grant ⇒ verdict (answered (right 1 1)))
+    ∷ (judge_with stalls (block1 (3 ∷ 5 ∷ [])) grant ⇒ verdict (answered (right 1 1)))
     ∷ []
 
 -- the running value (document 02, W-203): before the first line, after each, and past the last; where a list ends short, and where it has
 -- no line; before a line that begins elsewhere and at it; before a claim that is not so and at it; and the refusals that come first
-abbrev pub running-ends : List Row
-running-ends =
-    (cover-after P both-steps the-list 0 ⇒ number (answered 0))
-    ∷ (cover-after P both-steps the-list 1 ⇒ number (answered 0x400000000000))
-    ∷ (cover-after P both-steps the-list 2 ⇒ number (answered 0x800000000000))
-    ∷ (cover-after P both-steps the-list 3 ⇒ number (answered 0x1000000000000))
-    ∷ (cover-after P both-steps the-list 4 ⇒ number (answered 0x1000000000000))
-    ∷ (cover-after P both-steps short-list 3 ⇒ number (answered 0x800000000000))
-    ∷ (cover-after P both-steps (lines []) 1 ⇒ number (answered 0))
-    ∷ (cover-after P both-steps swapped-list 1 ⇒ number (answered 0x400000000000))
-    ∷ (cover-after P both-steps swapped-list 2 ⇒ number (refused 68 1))
-    ∷ (cover-after P both-steps swapped-list 3 ⇒ number (refused 68 1))
-    ∷ (cover-after P both-steps other-kind 0 ⇒ number (answered 0))
-    ∷ (cover-after P both-steps other-kind 1 ⇒ number (refused 69 0))
-    ∷ (cover-after P both-steps (lines (replicate 9 0)) 0 ⇒ number (refused 64 14))
-    ∷ (cover-after P both-steps [] 0 ⇒ number (refused 61 0))
+abbrev pub running_ends : List Row
+running_ends =
+    (cover-after P both_steps the_list 0 ⇒ number (answered 0))
+    ∷ (cover-after P both_steps the_list 1 ⇒ number (answered 0x400000000000))
+    ∷ (cover-after P both_steps the_list 2 ⇒ number (answered 0x800000000000))
+    ∷ (cover-after P both_steps the_list 3 ⇒ number (answered 0x1000000000000))
+    ∷ (cover-after P both_steps the_list 4 ⇒ number (answered 0x1000000000000))
+    ∷ (cover-after P both_steps short_list 3 ⇒ number (answered 0x800000000000))
+    ∷ (cover-after P both_steps (lines []) 1 ⇒ number (answered 0))
+    ∷ (cover-after P both_steps swapped_list 1 ⇒ number (answered 0x400000000000))
+    ∷ (cover-after P both_steps swapped_list 2 ⇒ number (refused 68 1))
+    ∷ (cover-after P both_steps swapped_list 3 ⇒ number (refused 68 1))
+    ∷ (cover-after P both_steps other_kind 0 ⇒ number (answered 0))
+    ∷ (cover-after P both_steps other_kind 1 ⇒ number (refused 69 0))
+    ∷ (cover-after P both_steps (lines (replicate 9 0)) 0 ⇒ number (refused 64 14))
+    ∷ (cover-after P both_steps [] 0 ⇒ number (refused 61 0))
     ∷ (cover-after P [] [] 0 ⇒ number (refused 31 0))
     ∷ []
 
@@ -416,9 +417,9 @@ resting =
 -- that is missed, blocked by a member and by a fact (41, before 42); and what comes first: no state (40), the plan's refusals, the problem's.
 abbrev pub relevances : List Row
 relevances =
-    (relevant-facts P both-steps 0x600000000000 (replicate 10 7) ⇒ wrote 0x400000000000 (hex "000101 000101 000101 07"))
-    ∷ (relevant-facts P both-steps 0x800000000000 (replicate 9 7) ⇒ wrote 0xc00000000000 (hex "010000 010001 010001"))
-    ∷ (relevant-facts P both-steps 0x200000000000 (replicate 9 7) ⇒ wrote 0xe00000000000 (hex "000001 000001 000001"))
+    (relevant-facts P both_steps 0x600000000000 (replicate 10 7) ⇒ wrote 0x400000000000 (hex "000101 000101 000101 07"))
+    ∷ (relevant-facts P both_steps 0x800000000000 (replicate 9 7) ⇒ wrote 0xc00000000000 (hex "010000 010001 010001"))
+    ∷ (relevant-facts P both_steps 0x200000000000 (replicate 9 7) ⇒ wrote 0xe00000000000 (hex "000001 000001 000001"))
     ∷ (relevant-facts resting (block1 (0 ∷ [])) 0x800000000000 (replicate 9 7) ⇒ wrote 0x800000000000 (hex "01000000 01010000 07"))
     ∷ (relevant-facts resting (block1 (0 ∷ [])) 0xc00000000000 (replicate 8 7) ⇒ wrote 0x800000000000 (hex "01010000 01010000"))
     ∷ (relevant-facts resting (block1 (0 ∷ [])) 0x400000000000 (replicate 8 7) ⇒ wrote 0xc00000000000 (hex "00010000 00010000"))
@@ -428,7 +429,7 @@ relevances =
     ∷ (relevant-facts resting (block1 (4 ∷ [])) 0 (replicate 8 7) ⇒ wrote 0xa00000000000 (hex "00000000 00010000"))
     ∷ (relevant-facts resting (block1 (4 ∷ 1 ∷ [])) 0 (replicate 12 7) ⇒ wrote 0xa00000000000 (hex "00000000 00010000 00010000"))
     ∷ (relevant-facts resting no_step 0x500000000000 (replicate 4 7) ⇒ wrote 0x400000000000 (hex "00010001"))
-    ∷ (relevant-facts P-goal no_step 0xa00000000000 (replicate 3 7) ⇒ wrote 0 (hex "010001"))
+    ∷ (relevant-facts P_goal no_step 0xa00000000000 (replicate 3 7) ⇒ wrote 0 (hex "010001"))
     ∷ (relevant-facts resting (block1 (0 ∷ [])) 0x800000000000 (replicate 7 7) ⇒ kept 42 0 (replicate 7 7))
     ∷ (relevant-facts resting no_step 0x400000000000 [] ⇒ kept 42 0 [])
     ∷ (relevant-facts resting (block1 (0 ∷ [])) 0 (replicate 8 7) ⇒ kept 41 0 (replicate 8 7))
@@ -450,47 +451,51 @@ abbrev pub idling : ℕ → List ℕ
 idling m = block1 (1 ∷ m ∷ (hex "0001 40 0001 00" ++ idle m))
 
 abbrev pub finds : List ℕ → ℕ → Reply
-finds plan used = searched (answered (firstRight plan used))
+finds plan used = searched (answered (first_right plan used))
 
-abbrev pub findsNone : ℕ → Reply
-findsNone used = searched (answered (noneRight used))
+abbrev pub finds_none : ℕ → Reply
+finds_none used = searched (answered (none_right used))
 
-abbrev pub stopsAt : List ℕ → ℕ → Reply
-stopsAt plan used = searched (answered (undecidedAt plan used))
+abbrev pub stops_at : List ℕ → ℕ → Reply
+stops_at plan used = searched (answered (undecided_at plan used))
 
 -- every short plan (document 02, W-205): P, whose plans of the steps 0, 1 and 1, 0 are right, up to each length, and with grants that suffice,
 -- fall one short, and are used up before and at a plan; a problem whose empty plan is right, and one without start states; no plan right, with 0, 1 and
 -- more actions; 31, 32 and 64 actions; and what is refused, the problem's refusals first, then 43, then 44.
 abbrev pub searches : List Row
 searches =
-    (search-plans P 0 grant ⇒ findsNone 5)
-    ∷ (search-plans P 1 grant ⇒ findsNone 17)
+    (search-plans P 0 grant ⇒ finds_none 5)
+    ∷ (search-plans P 1 grant ⇒ finds_none 17)
     ∷ (search-plans P 2 grant ⇒ finds (0 ∷ 1 ∷ []) 27)
     ∷ (search-plans P 3 grant ⇒ finds (0 ∷ 1 ∷ []) 27)
     ∷ (search-plans P 4 28 ⇒ finds (0 ∷ 1 ∷ []) 27)
     ∷ (search-plans P 4 27 ⇒ finds (0 ∷ 1 ∷ []) 27)
-    ∷ (search-plans P 4 26 ⇒ stopsAt (0 ∷ 1 ∷ []) 26)
-    ∷ (search-plans P 4 22 ⇒ stopsAt (0 ∷ 1 ∷ []) 22)
-    ∷ (search-plans P 4 21 ⇒ stopsAt (0 ∷ 0 ∷ []) 21)
-    ∷ (search-plans P 1 17 ⇒ findsNone 17)
-    ∷ (search-plans P 1 16 ⇒ stopsAt (1 ∷ []) 16)
-    ∷ (search-plans P 1 0 ⇒ stopsAt [] 0)
-    ∷ (search-plans P-goal 4 1 ⇒ finds [] 1)
-    ∷ (search-plans P-no-start 4 1 ⇒ finds [] 1)
-    ∷ (search-plans P-no-start 4 0 ⇒ stopsAt [] 0)
-    ∷ (search-plans (idling 0) 0 2 ⇒ findsNone 2)
-    ∷ (search-plans (idling 0) 4 2 ⇒ findsNone 2)
-    ∷ (search-plans (idling 1) 4 10 ⇒ findsNone 10)
-    ∷ (search-plans (idling 1) 4 9 ⇒ stopsAt (0 ∷ 0 ∷ 0 ∷ 0 ∷ []) 9)
-    ∷ (search-plans (idling 3) 2 26 ⇒ findsNone 26)
-    ∷ (search-plans (idling 3) 2 25 ⇒ stopsAt (2 ∷ 2 ∷ []) 25)
-    ∷ (search-plans (idling 31) 4 5 ⇒ stopsAt (1 ∷ []) 5)
+    ∷ (search-plans P 4 26 ⇒ stops_at (0 ∷ 1 ∷ []) 26)
+    ∷ (search-plans P 4 22 ⇒ stops_at (0 ∷ 1 ∷ []) 22)
+    ∷ (search-plans P 4 21 ⇒ stops_at (0 ∷ 0 ∷ []) 21)
+    ∷ (search-plans P 1 17 ⇒ finds_none 17)
+    ∷ (search-plans P 1 16 ⇒ stops_at (1 ∷ []) 16)
+    ∷ (search-plans P 1 0 ⇒ stops_at [] 0)
+    ∷ (search-plans P_goal 4 1 ⇒ finds [] 1)
+    ∷ (search-plans P_no_start 4 1 ⇒ finds [] 1)
+    ∷ (search-plans P_no_start 4 0 ⇒ stops_at [] 0)
+    ∷ (search-plans (idling 0) 0 2 ⇒ finds_none 2)
+    ∷ (search-plans (idling 0) 4 2 ⇒ finds_none 2)
+    ∷ (search-plans (idling 1) 4 10 ⇒ finds_none 10)
+    ∷ (search-plans (idling 1) 4 9 ⇒ stops_at (0 ∷ 0 ∷ 0 ∷ 0 ∷ []) 9)
+    ∷ (search-plans (idling 3) 2 26 ⇒ finds_none 26)
+    ∷ (search-plans (idling 3) 2 25 ⇒ stops_at (2 ∷ 2 ∷ []) 25)
+    ∷ (search-plans (idling 31) 4 5 ⇒ stops_at (1 ∷ []) 5)
     ∷ (search-plans (idling 32) 4 5 ⇒ searched (refused 44 0))
-    ∷ (search-plans (idling 32) 3 5 ⇒ stopsAt (1 ∷ []) 5)
-    ∷ (search-plans (idling 64) 3 5 ⇒ stopsAt (1 ∷ []) 5)
+    ∷ (search-plans (idling 32) 3 5 ⇒ stops_at (1 ∷ []) 5)
+    ∷ (search-plans (idling 64) 3 5 ⇒ stops_at (1 ∷ []) 5)
     ∷ (search-plans (idling 64) 4 5 ⇒ searched (refused 44 0))
     ∷ (search-plans (idling 64) 5 5 ⇒ searched (refused 43 0))
     ∷ (search-plans (idling 0) 5 5 ⇒ searched (refused 43 0))
     ∷ (search-plans P 0xffffffffffffffff 0 ⇒ searched (refused 43 0))
     ∷ (search-plans [] 5 0 ⇒ searched (refused 11 0))
     ∷ []
+
+-- every row gives what it says
+abbrev pub Hold : List Row → Type 0
+Hold rows = map (λ r. reply r.call) rows ≡ map (λ r. r.gives) rows

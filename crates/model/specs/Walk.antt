@@ -9,9 +9,9 @@ use Rattle.model.specs.Case.{case_of, Task, run_of}
 pub data Kind : Type 0 where
   empty carries : Kind
 
-abbrev pub kindNumber : Kind → ℕ
-kindNumber empty = 0
-kindNumber carries = 1
+abbrev pub kind_number : Kind → ℕ
+kind_number empty = 0
+kind_number carries = 1
 
 -- what a visit finds of a case: "Either closes it", or it is open
 pub data Look : Type 0 where
@@ -25,7 +25,7 @@ pub record Line : Type 0 where
   pub value : ℕ
 
 abbrev pub line : Kind → ℕ → ℕ → Line
-line κ k v = record { kind = kindNumber κ; k = k; value = v }
+line κ k v = record { kind = kind_number κ; k = k; value = v }
 
 -- how the walk ends: all closed, with a line for each closed case in order, or at a failing start state; and the visits
 pub data Walked : Type 0 where
@@ -46,29 +46,29 @@ join (failed s a) r = failed s (suc a)
 -- is split on the next fact, no first. An open case with all facts fixed is a failing start state and ends the walk."
 module _ (w : ℕ) (look : ℕ → ℕ → Look) where
   -- the walk from the case (k, v), which looks so, with d facts still open
-  unfoldable pub walkFrom : ℕ → Look → ℕ → ℕ → Walked
-  walkFrom zero (closed κ) k v = covered (line κ k v ∷ []) 1
-  walkFrom zero opened k v = failed v 1
-  walkFrom (suc d) (closed κ) k v = covered (line κ k v ∷ []) 1
-  walkFrom (suc d) opened k v =
+  unfoldable pub walk_from : ℕ → Look → ℕ → ℕ → Walked
+  walk_from zero (closed κ) k v = covered (line κ k v ∷ []) 1
+  walk_from zero opened k v = failed v 1
+  walk_from (suc d) (closed κ) k v = covered (line κ k v ∷ []) 1
+  walk_from (suc d) opened k v =
       let m = v + 2 ^ (w - suc k) in
-      let r = walkFrom d (look (suc k) m) (suc k) m in
-      join (walkFrom d (look (suc k) v) (suc k) v) r
+      let r = walk_from d (look (suc k) m) (suc k) m in
+      join (walk_from d (look (suc k) v) (suc k) v) r
 
   unfoldable pub walk : ℕ → Walked
-  walk n = walkFrom n (look 0 0) 0 0
+  walk n = walk_from n (look 0 0) 0 0
 
-abbrev pub lookEnd : Outcome → Look
-lookEnd reached = closed carries
-lookEnd missed = opened
-lookEnd (blocked s) = opened
+abbrev pub look_end : Outcome → Look
+look_end reached = closed carries
+look_end missed = opened
+look_end (blocked s) = opened
 
 -- "A case is empty if the initial formula reads no. It carries if it isn't empty, every precondition reads yes in turn, and the goal
 -- reads yes"; and "the "all" of each fact's two conditions must also read no at each step" (W-202): the run in three values is reached.
 abbrev pub look_of : Kleene → Outcome → Look
 look_of No r = closed empty
-look_of Unknown r = lookEnd r
-look_of Yes r = lookEnd r
+look_of Unknown r = look_end r
+look_of Yes r = look_end r
 
 -- the judge's answer; `right` has the lines, or their count
 pub data Verdict (A : Type 0) : Type 0 where
@@ -78,17 +78,17 @@ pub data Verdict (A : Type 0) : Type 0 where
 
 module _ (T : Task) where
   -- the initial formula, and the run, in the case (k, v)
-  abbrev pub initialAt : ℕ → ℕ → Kleene
-  initialAt k v = eval three (case_of T.width T.facts k v) T.initial
+  abbrev pub initial_at : ℕ → ℕ → Kleene
+  initial_at k v = eval three (case_of T.width T.facts k v) T.initial
 
   abbrev pub run_at : ℕ → ℕ → Outcome
   run_at k v = run three T.facts T.goal T.plan 0 (case_of T.width T.facts k v)
 
-  unfoldable pub lookAt : ℕ → ℕ → Look
-  lookAt k v = let r = run_at k v in look_of (initialAt k v) r
+  unfoldable pub look_at : ℕ → ℕ → Look
+  look_at k v = let r = run_at k v in look_of (initial_at k v) r
 
   unfoldable pub walked : Walked
-  walked = walk T.width lookAt T.facts
+  walked = walk T.width look_at T.facts
 
   abbrev pub found : Walked → Verdict (List Line)
   found (covered ls a) = right ls a

@@ -2,13 +2,13 @@
 -- what a list that passes holds, without any order of looking for faults ("Follow a list").
 use Rattle.std.specs.Prelude.{◌≡◌, true, List, [], ◌∷◌, ℕ, ◌+◌, ◌-◌, ◌*◌, ◌%◌, ◌^◌, ◌≤◌, ◌<◌, length, get_or}
 use Rattle.model.specs.declared.Limits.{Limits}
-use Rattle.model.specs.Limits.{maxFacts, maxEffects, maxActions, maxSteps, maxProblemBytes, maxFormulaBytes, maxDepth}
+use Rattle.model.specs.Limits.{max_facts, max_effects, max_actions, max_steps, max_problem_bytes, max_formula_bytes, max_depth}
 use Rattle.model.specs.Formula.{Literal, fact, denial, Formula, Formulas, lit, all, any, none, more}
 use Rattle.model.specs.Action.{Effect, Action}
 use Rattle.model.specs.Walk.{Look, Line}
 use Rattle.model.specs.CaseList.{claims}
-use Rattle.model.specs.FormulaBytes.{literalByte, memberCount, formulaBytes}
-use Rattle.model.specs.ProblemBytes.{Problem, encodeProblem}
+use Rattle.model.specs.FormulaBytes.{literal_byte, member_count, formula_bytes}
+use Rattle.model.specs.ProblemBytes.{Problem, encode_problem}
 
 -- every element is a byte
 abbrev pub Bytes : List ℕ → Type 0
@@ -29,8 +29,8 @@ Declared facts (denial f) = f < facts
 unfoldable mutual
   pub Formed : ℕ → ℕ → ℕ → Formula → Type 0
   Formed facts left parent (lit l) = Declared facts l
-  Formed facts left parent (all ms) = (0 < left) × (parent ≡ 0x80 → ⊥) × (memberCount ms < 256) × FormedAll facts (left - 1) 0x80 ms
-  Formed facts left parent (any ms) = (0 < left) × (parent ≡ 0x81 → ⊥) × (memberCount ms < 256) × FormedAll facts (left - 1) 0x81 ms
+  Formed facts left parent (all ms) = (0 < left) × (parent ≡ 0x80 → ⊥) × (member_count ms < 256) × FormedAll facts (left - 1) 0x80 ms
+  Formed facts left parent (any ms) = (0 < left) × (parent ≡ 0x81 → ⊥) × (member_count ms < 256) × FormedAll facts (left - 1) 0x81 ms
 
   pub FormedAll : ℕ → ℕ → ℕ → Formulas → Type 0
   FormedAll facts left parent none = Unit {0}
@@ -38,19 +38,19 @@ unfoldable mutual
 
 -- "two-byte length, 1 to 1,024"
 pub record FormulaOk (facts : ℕ) (f : Formula) : Type 0 where
-  pub formed : Formed facts maxDepth 0 f
-  pub short : length (formulaBytes f) ≤ maxFormulaBytes
+  pub formed : Formed facts max_depth 0 f
+  pub short : length (formula_bytes f) ≤ max_formula_bytes
 
 -- "Literals rise strictly.": from the literal byte `least` on
 abbrev pub EffectsOk : ℕ → ℕ → List Effect → Type 0
 EffectsOk facts least [] = Unit {0}
 EffectsOk facts least (e ∷ es) =
-    Declared facts e.literal × (least ≤ literalByte e.literal) × FormulaOk facts e.condition ×
-    EffectsOk facts (literalByte e.literal + 1) es
+    Declared facts e.literal × (least ≤ literal_byte e.literal) × FormulaOk facts e.condition ×
+    EffectsOk facts (literal_byte e.literal + 1) es
 
 -- "one byte a step, an action number, 0 to 256 steps", for m actions
 pub record PlanOk (m : ℕ) (steps : List ℕ) : Type 0 where
-  pub count : length steps ≤ maxSteps
+  pub count : length steps ≤ max_steps
   pub actions : Each (λ b. b < m) steps
 
 module _ (F : Limits) where
@@ -62,13 +62,13 @@ module _ (F : Limits) where
 
   -- "Problem, at most 32,768 bytes in all: fact count (1 byte, 1 to 48), action count (1 byte, 0 to 64)"
   pub record ProblemOk (p : Problem) : Type 0 where
-    pub some-fact : 1 ≤ p.facts
+    pub some_fact : 1 ≤ p.facts
     pub facts : p.facts ≤ F.facts
-    pub count : length p.actions ≤ maxActions
+    pub count : length p.actions ≤ max_actions
     pub initial : FormulaOk p.facts p.initial
     pub goal : FormulaOk p.facts p.goal
     pub actions : Each (ActionOk p.facts) p.actions
-    pub short : length (encodeProblem F p) ≤ maxProblemBytes
+    pub short : length (encode_problem F p) ≤ max_problem_bytes
 
   -- "lines of 8 bytes: kind, k, six bytes of values"; "8,191 lines"
   pub record LineOk (l : Line) : Type 0 where
@@ -82,8 +82,8 @@ module _ (F : Limits) where
 
   -- what the layouts need of a version's numbers: a literal, a mark and each count fit a byte, and a list's length its field
   pub record Sensible : Type 0 where
-    pub facts : F.facts ≤ maxFacts
-    pub effects : F.effects ≤ maxEffects
+    pub facts : F.facts ≤ max_facts
+    pub effects : F.effects ≤ max_effects
     pub line : 2 < F.line
     pub lines : F.line * F.lines < 256 ^ 4
     -- a state has a bit for each fact, fits a word, and fills a line's bytes of values
@@ -93,7 +93,7 @@ module _ (F : Limits) where
 
 -- a line that fixes declared facts and has no bit set past them, and whose claim is so; a state is w bits wide and has n facts
 pub record LineHolds (w : ℕ) (look : ℕ → ℕ → Look) (n : ℕ) (l : Line) : Type 0 where
-  pub k-fits : l.k ≤ n
+  pub k_fits : l.k ≤ n
   pub no_bits : l.value % 2 ^ (w - l.k) ≡ 0
   pub claim : claims l.kind (look l.k l.value) ≡ true
 

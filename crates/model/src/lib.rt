@@ -1,14 +1,18 @@
 // What the checker reads and what it answers: the declared types with their limits, and no code that reads a byte.
 // What they mean is in specs/: begin at specs/Lib.antt.
+#![tactic(auto)]
+
 ghost use Rattle.std.specs.Prelude.{◌≡◌, ◌≤◌};
 ghost use Rattle.model.specs.Limits.{version1};
-ghost use Rattle.model.specs.Values.{Shows, ShowsEach, firstCase, emptyState};
+ghost use Rattle.model.specs.Values.{Shows, ShowsEach, first_case, empty_state};
+
+pub mod theorems;
 
 // The values of a case or a state as the code holds them, one byte a fact: 0 no, 1 unknown, 2 yes.
 pub type Values = [u8; Problem::SLOTS];
 
 // A problem block that was read, and where its parts stand in it.
-#[derive(Drop)]
+#[derive(Clone, Copy)]
 pub struct Problem {
     pub facts: u8,
     pub actions: u8,
@@ -34,7 +38,7 @@ impl Problem {
 
     // The state in which no fact is true.
     pub fn empty_state() -> Values
-        ensures { ShowsEach result emptyState }
+        ensures { ShowsEach result empty_state }
     {
         [0u8; Problem::SLOTS]
     }
@@ -42,20 +46,18 @@ impl Problem {
     // The case that fixes none of so many facts: the walk starts there.
     pub fn first_case(facts: usize) -> Values
         requires { facts ≤ 64 }
-        ensures { Shows result (firstCase facts) }
+        ensures { Shows result (first_case facts) }
     {
         let mut values = [0u8; Problem::SLOTS];
-        let mut i: usize = 0;
-        while i < facts {
+        for i in 0..facts {
             values[i] = 1;
-            i = i + 1;
         }
         values
     }
 }
 
 // A plan block's limits: its steps stand from byte 5 on, one byte each.
-#[derive(Drop)]
+#[derive(Clone, Copy)]
 pub struct Plan {
     pub steps: usize,
 }
@@ -67,7 +69,7 @@ impl Plan {
 }
 
 // A list block's limits: its lines stand from byte 5 on.
-#[derive(Drop)]
+#[derive(Clone, Copy)]
 pub struct CaseList {
     pub lines: usize,
 }
@@ -85,7 +87,7 @@ impl CaseList {
 }
 
 // The numbers that one version of the formats has and another may not. The definitions take them as a parameter.
-#[derive(Drop)]
+#[derive(Clone, Copy)]
 pub struct Limits {
     pub version: u8,
     // bits of a state
@@ -118,7 +120,7 @@ impl Limits {
 }
 
 // A refusal's number and place. The place is first, so that it lies where a reading that goes on has its position, and neither is moved.
-#[derive(Drop)]
+#[derive(Clone, Copy)]
 pub struct Refusal {
     pub place: u64,
     pub number: u8,
@@ -126,49 +128,37 @@ pub struct Refusal {
 
 // What keeps a step from being applicable: the first member of its precondition, from 0, that is false, or the lowest fact that it would
 // set and clear at once.
-#[derive(Drop)]
+#[derive(Clone, Copy)]
 pub enum Part {
     Member(usize),
     Fact(usize),
 }
 
 // Where a run is blocked: the first step that is not applicable, from 0, and which part of it.
-#[derive(Drop)]
+#[derive(Clone, Copy)]
 pub struct Stop {
     pub step: usize,
     pub part: Part,
 }
 
 // How a run ends.
-#[derive(Drop)]
+#[derive(Clone, Copy)]
 pub enum Outcome {
     Reached,
     Missed,
     Blocked(Stop),
 }
 
-// The answers of the operations.
-#[derive(Drop)]
-pub enum ProblemAnswer {
-    Refused(Refusal),
-    Accepted { facts: u8, actions: u8 },
+// How many facts and actions a problem has.
+#[derive(Clone, Copy)]
+pub struct Counts {
+    pub facts: u8,
+    pub actions: u8,
 }
 
-#[derive(Drop)]
-pub enum PlanAnswer {
-    Refused(Refusal),
-    Accepted { steps: usize },
-}
-
-#[derive(Drop)]
-pub enum RunAnswer {
-    Refused(Refusal),
-    Ended(Outcome),
-}
-
-#[derive(Drop)]
-pub enum JudgeAnswer {
-    Refused(Refusal),
+// What the judge says of a plan.
+#[derive(Clone, Copy)]
+pub enum Verdict {
     Right {
         lines: u64,
         visits: u64,
@@ -183,34 +173,8 @@ pub enum JudgeAnswer {
     },
 }
 
-#[derive(Drop)]
-pub enum WriteAnswer {
-    Refused(Refusal),
-    Written { length: usize },
-}
-
-#[derive(Drop)]
-pub enum FollowAnswer {
-    Refused(Refusal),
-    Passes { lines: usize },
-}
-
-// Where the cover ends after so many lines of a list: what following them keeps.
-#[derive(Drop)]
-pub enum CoverAnswer {
-    Refused(Refusal),
-    Ends { end: u64 },
-}
-
-// The start facts that an outcome rests on, as the number of a state with their bits set.
-#[derive(Drop)]
-pub enum RelevantAnswer {
-    Refused(Refusal),
-    Facts { set: u64 },
-}
-
 // A plan of a search: its first `length` steps.
-#[derive(Drop)]
+#[derive(Clone, Copy)]
 pub struct ShortPlan {
     pub length: usize,
     pub steps: [u8; ShortPlan::MAX_STEPS],
@@ -222,19 +186,10 @@ impl ShortPlan {
     pub const MAX_PLANS: u64 = 1000000;
 }
 
-// How a search ends.
-#[derive(Drop)]
-pub enum SearchEnd {
-    Refused(Refusal),
-    Found,
-    NoneRight,
-    Undecided,
-}
-
-// The answer of a search, with the visits used in all; `plan` is the one found or undecided, and says nothing where it ends otherwise.
-#[derive(Drop)]
-pub struct SearchAnswer {
-    pub end: SearchEnd,
-    pub visits: u64,
-    pub plan: ShortPlan,
+// How a search ends: with the first right plan, or with the first whose walk needs more than the visits left, and the visits used in all.
+#[derive(Clone, Copy)]
+pub enum Search {
+    Found { plan: ShortPlan, visits: u64 },
+    NoneRight { visits: u64 },
+    Undecided { plan: ShortPlan, visits: u64 },
 }

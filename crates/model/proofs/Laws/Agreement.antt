@@ -1,15 +1,15 @@
 -- A relation between two logics that every connective keeps is kept by every reading, step and run. Two instances: a case that says
 -- more (`refining`), and a case with every fact fixed (`exact`). Assumes nothing.
 use mathlib.Core.Path.{◌≡◌, refl, sym, ap, ◌∙◌}
-use mathlib.Core.Bool.{Bool, true, false, cond, ◌&&◌}
+use mathlib.Core.Bool.{Bool, true, false, cond, ◌&&◌, ◌||◌, not}
 use mathlib.Core.List.{List, [], ◌∷◌, map}
 use Prim.Native.Nat.{ℕ, zero, suc, ◌<◌, suc-le-suc}
 use lib.ListN.{get_or, get_or-map}
 use native.Mathlib.Omega.{arith}
 use Rattle.model.specs.Kleene.{Kleene, No, Unknown, Yes, both, either, denied, is_yes, known, Logic, two, three}
-use Rattle.model.specs.Formula.{fact, denial, Formula, Formulas, lit, all, any, none, more, eval, evalAll, evalAny}
-use Rattle.model.specs.Action.{Action, conditionOf, tabulate, every, sets, clears, exclusive, applicable, next, step}
-use Rattle.model.specs.Run.{unmet, holdsIn, lowestFalse, atMember, atFact, part_of, Outcome, reached, Stop, atEnd, goesOn, run}
+use Rattle.model.specs.Formula.{fact, denial, Formula, Formulas, lit, all, any, none, more, eval, eval_all, eval_any}
+use Rattle.model.specs.Action.{Action, condition_of, tabulate, every, sets, clears, exclusive, applicable, next, step}
+use Rattle.model.specs.Run.{unmet, holds_in, lowest_false, at_member, at_fact, part_of, Outcome, reached, Stop, at_end, goes_on, run}
 use Rattle.model.proofs.Laws.Truth.{and-true}
 use Rattle.model.proofs.Laws.Conflicts.{every-at, every-all}
 
@@ -28,12 +28,12 @@ by-table f g e x = by_row (f x) (g x) (by_row (λ x. row (f x)) (λ x. row (g x)
 
 -- ---- a run that is reached
 
-pub goes-on-reached : (b : Bool) (r : Outcome) (s : Stop) → goesOn b r s ≡ reached → (b ≡ true) × (r ≡ reached)
-unfolding goesOn
+pub goes-on-reached : (b : Bool) (r : Outcome) (s : Stop) → goes_on b r s ≡ reached → (b ≡ true) × (r ≡ reached)
+unfolding goes_on
 goes-on-reached true r s e = (refl, e)
 goes-on-reached false r s e = (cc, cc)
 
-pub at-end-reached : (b : Bool) → atEnd b ≡ reached → b ≡ true
+pub at-end-reached : (b : Bool) → at_end b ≡ reached → b ≡ true
 at-end-reached true e = refl
 at-end-reached false e = cc
 
@@ -61,11 +61,11 @@ module _ {X Y : Type 0} (L : Logic X) (M : Logic Y) (R : X → Y → Type 0) (K 
       eval-keeps (all ms) = all-keeps ms
       eval-keeps (any ms) = any-keeps ms
 
-      all-keeps : (ms : Formulas) → R (evalAll L c ms) (evalAll M s ms)
+      all-keeps : (ms : Formulas) → R (eval_all L c ms) (eval_all M s ms)
       all-keeps none = K.always
       all-keeps (more m ms) = K.both (eval-keeps m) (all-keeps ms)
 
-      any-keeps : (ms : Formulas) → R (evalAny L c ms) (evalAny M s ms)
+      any-keeps : (ms : Formulas) → R (eval_any L c ms) (eval_any M s ms)
       any-keeps none = K.never
       any-keeps (more m ms) = K.either (eval-keeps m) (any-keeps ms)
 
@@ -80,8 +80,8 @@ module _ {X Y : Type 0} (L : Logic X) (M : Logic Y) (R : X → Y → Type 0) (K 
   step_keeps n a c s h =
       tabulate-keeps n _ _ λ f l.
       K.either
-      (eval-keeps c s h (conditionOf (fact f) a.effects))
-      (K.both (h f) (K.denied (eval-keeps c s h (conditionOf (denial f) a.effects))))
+      (eval-keeps c s h (condition_of (fact f) a.effects))
+      (K.both (h f) (K.denied (eval-keeps c s h (condition_of (denial f) a.effects))))
 
   -- the "all" of a fact's two conditions, denied
   exclusive-keeps :
@@ -94,7 +94,7 @@ module _ {X Y : Type 0} (L : Logic X) (M : Logic Y) (R : X → Y → Type 0) (K 
       ((x : X) (y : Y) → R x y → L.holds x ≡ true → M.holds y ≡ true) →
       (n : ℕ) (goal : Formula) (plan : List Action) (i : ℕ) (c : List X) (s : List Y) → Along c s →
       run L n goal plan i c ≡ reached → run M n goal plan i s ≡ reached
-  unfolding run goesOn applicable exclusive
+  unfolding run goes_on applicable exclusive
   run-keeps up n goal [] i c s h e = rw (up _ _ (eval-keeps c s h goal) (at-end-reached _ e))
   run-keeps up n goal (a ∷ plan) i c s h e =
       let (b, r) = goes-on-reached _ _ _ e in
@@ -110,15 +110,15 @@ module _ {X Y : Type 0} (L : Logic X) (M : Logic Y) (R : X → Y → Type 0) (K 
       ((x : X) (y : Y) → R x y → L.holds x ≡ M.holds y) →
       (n : ℕ) (goal : Formula) (plan : List Action) (i : ℕ) (c : List X) (s : List Y) → Along c s →
       run L n goal plan i c ≡ run M n goal plan i s
-  unfolding run goesOn applicable exclusive part_of
-  run-same same n goal [] i c s h = ap atEnd (same _ _ (eval-keeps c s h goal))
+  unfolding run goes_on applicable exclusive part_of
+  run-same same n goal [] i c s h = ap at_end (same _ _ (eval-keeps c s h goal))
   run-same same n goal (a ∷ plan) i c s h =
-      let e : (φ : Formula) → holdsIn L c φ ≡ holdsIn M s φ = λ φ. same _ _ (eval-keeps c s h φ) in
+      let e : (φ : Formula) → holds_in L c φ ≡ holds_in M s φ = λ φ. same _ _ (eval-keeps c s h φ) in
       let x : (f : ℕ) → exclusive L a c f ≡ exclusive M a s f = λ f. same _ _ (exclusive-keeps a c s h f) in
       let rest = run-same same n goal plan (suc i) (step L n a c) (step M n a s) (step_keeps n a c s h) in
       λ j.
-      goesOn (e a.precondition j && every n (λ f. x f j)) (rest j)
-      (record { step = i; part = cond (e a.precondition j) (atFact (lowestFalse n (λ f. x f j))) (atMember (unmet (λ φ. e φ j) a.precondition)) })
+      goes_on (e a.precondition j && every n (λ f. x f j)) (rest j)
+      (record { step = i; part = cond (e a.precondition j) (at_fact (lowest_false n (λ f. x f j))) (at_member (unmet (λ φ. e φ j) a.precondition)) })
 
 -- ---- a case that says more
 
@@ -168,14 +168,27 @@ pub yes-exact : (b : Bool) → is_yes (known b) ≡ b
 yes-exact true = refl
 yes-exact false = refl
 
+-- the connectives of two known values
+known-both : (b c : Bool) → both (known b) (known c) ≡ known (b && c)
+known-both true c = refl
+known-both false c = refl
+
+known-either : (b c : Bool) → either (known b) (known c) ≡ known (b || c)
+known-either true c = refl
+known-either false c = refl
+
+known-denied : (b : Bool) → denied (known b) ≡ known (not b)
+known-denied true = refl
+known-denied false = refl
+
 pub exact : Keeps three two Exact
 exact =
     record {
       always = refl;
       never = refl;
-      both = λ {x} {x'} {y} {y'} p q. rw (p, q) (elim y [ true ↦ refl | false ↦ refl ]);
-      either = λ {x} {x'} {y} {y'} p q. rw (p, q) (elim y [ true ↦ refl | false ↦ refl ]);
-      denied = λ {x} {y} p. rw p (elim y [ true ↦ refl | false ↦ refl ]);
+      both = λ {x} {x'} {y} {y'} p q. rw (p, q) (known-both y y');
+      either = λ {x} {x'} {y} {y'} p q. rw (p, q) (known-either y y');
+      denied = λ {x} {y} p. rw p (known-denied y);
     }
 
 -- a state as a case that fixes every fact

@@ -13,9 +13,9 @@ use lib.Pow.{pow_pos}
 use Rattle.model.specs.Kleene.{two}
 use Rattle.model.specs.Formula.{Formula, eval}
 use Rattle.model.specs.Action.{Action, tabulate, applicable, next, step}
-use Rattle.model.specs.Run.{part_of, Stop, Outcome, reached, missed, blocked, atEnd, goesOn, run}
+use Rattle.model.specs.Run.{part_of, Stop, Outcome, reached, missed, blocked, at_end, goes_on, run}
 use Rattle.model.specs.Case.{bit, state_of, Task, run_of, initially, IsState, Right}
-use Rattle.model.specs.Belief.{Belief, Entails, only, ApplicableIn, Image, after, Applicable, Solution, initialBelief, IsPart, Blocks, OutcomeMeans}
+use Rattle.model.specs.Belief.{Belief, Entails, only, ApplicableIn, Image, after, Applicable, Solution, initial_belief, IsPart, Blocks, OutcomeMeans}
 use Rattle.model.proofs.Laws.Tabulate.{length-tabulate, get_d_tabulate}
 use Rattle.model.proofs.Laws.Conflicts.{applicable-state, part-is, is-part}
 use Rattle.model.proofs.Laws.Agreement.{goes-on-reached, at-end-reached}
@@ -34,8 +34,8 @@ module _ (n : ℕ) (goal : Formula) where
       (λ i h. m.moves i (subst (λ (x : ℕ). i < x) m.size h) ∙ sym (get_d_tabulate n (next two a m.before) i false (subst (λ (x : ℕ). i < x) m.size h)))
 
   solution-runs : (plan : List Action) (i : ℕ) (B : Belief) → Solution n B goal plan → (s : List Bool) → B s → run two n goal plan i s ≡ reached
-  unfolding run goesOn
-  solution-runs [] i B h s b = ap atEnd (h.1 s b)
+  unfolding run goes_on
+  solution-runs [] i B h s b = ap at_end (h.1 s b)
   solution-runs (a ∷ plan) i B h s b = rw ((applicable-state n a s).1 (h.0.0.0 s b, h.0.0.1 s b)) (solution-runs plan (suc i) (Image n a B) (h.0.1, h.1) (step two n a s) (step-image a B s b))
 
   runs-solution : (plan : List Action) (i : ℕ) (B : Belief) → ((s : List Bool) → B s → run two n goal plan i s ≡ reached) → Solution n B goal plan
@@ -79,13 +79,13 @@ module _ (n : ℕ) (goal : Formula) where
       (ApplicableIn n (after n B before) a → ⊥) → ((t : List Bool) → after n B before t → IsPart n t a p.part) →
       Blocks n B (before ++ (a ∷ rest)) p
   blocks B before a rest p e ok stop m =
-      record { before = before; action = a; rest = rest; parts = refl; at = e; applicable = ok; not-applicable = stop; part = m }
+      record { before = before; action = a; rest = rest; parts = refl; at = e; applicable = ok; not_applicable = stop; part = m }
 
   run-means : (plan : List Action) (i : ℕ) (B : Belief) (s : List Bool) → Alone B s → MeansFrom B plan i (run two n goal plan i s)
-  unfolding run goesOn
+  unfolding run goes_on
   run-means [] i B s h = by-goal (eval two s goal) refl
     where
-      by-goal : (b : Bool) → eval two s goal ≡ b → MeansFrom B [] i (atEnd b)
+      by-goal : (b : Bool) → eval two s goal ≡ b → MeansFrom B [] i (at_end b)
       by-goal true e = (tt, (entails-alone B s h goal).1 e)
       by-goal false e = (tt, λ g. false≢true (sym e ∙ (entails-alone B s h goal).0 g))
   run-means (a ∷ plan) i B s h =
@@ -94,13 +94,13 @@ module _ (n : ℕ) (goal : Formula) where
     where
       by-test :
           (b : Bool) → applicable two n a s ≡ b → (o : Outcome) → MeansFrom (Image n a B) plan (suc i) o →
-          MeansFrom B (a ∷ plan) i (goesOn b o (record { step = i; part = part_of two n a s }))
+          MeansFrom B (a ∷ plan) i (goes_on b o (record { step = i; part = part_of two n a s }))
       by-test true e reached m = (((applicable-alone B s h a).1 e, m.0), m.1)
       by-test true e missed m = (((applicable-alone B s h a).1 e, m.0), m.1)
       by-test true e (blocked p) (l, b) =
           let ok : Applicable n B (a ∷ b.before) = ((applicable-alone B s h a).1 e, b.applicable) in (
             omega arith,
-            rw b.parts (blocks B (a ∷ b.before) b.action b.rest _ (omega (arith, b.at)) ok b.not-applicable b.part),
+            rw b.parts (blocks B (a ∷ b.before) b.action b.rest _ (omega (arith, b.at)) ok b.not_applicable b.part),
           )
       by-test false e o m = (
         omega arith,
@@ -112,14 +112,14 @@ module _ (n : ℕ) (goal : Formula) where
   runs_on :
       (before rest : List Action) (i j : ℕ) (B : Belief) (s : List Bool) → j ≡ i + length before → Alone B s → Applicable n B before →
       (o : Outcome) → ((t : List Bool) → Alone (after n B before) t → run two n goal rest j t ≡ o) → run two n goal (before ++ rest) i s ≡ o
-  unfolding run goesOn
+  unfolding run goes_on
   runs_on [] rest i j B s e h ap' o k = let f : j ≡ i = omega arith in rw f at (k s h)
   runs_on (a ∷ before) rest i j B s e h ap' o k =
       rw ((applicable-alone B s h a).0 ap'.0)
       (runs_on before rest (suc i) j (Image n a B) (step two n a s) (omega arith) (image-alone a B s h) ap'.1 o k)
 
   pub outcome-means : (plan : List Action) (s : List Bool) (o : Outcome) → (run two n goal plan 0 s ≡ o) ↔ OutcomeMeans n s goal plan o
-  unfolding run goesOn
+  unfolding run goes_on
   outcome-means plan s reached = (
     (λ e. rw e at (run-means plan 0 (only s) s (only-alone s))),
     λ m. solution-runs plan 0 (only s) m s refl,
@@ -129,7 +129,7 @@ module _ (n : ℕ) (goal : Formula) where
     λ m.
         rw append-nil at
         (runs_on plan [] 0 _ (only s) s refl (only-alone s) m.0 missed λ t l.
-        ap atEnd ((not-eq-not {a = eval two t goal} {b = false}).0 (λ e. m.1 ((entails-alone (after n (only s) plan) t l goal).1 e)))),
+        ap at_end ((not-eq-not {a = eval two t goal} {b = false}).0 (λ e. m.1 ((entails-alone (after n (only s) plan) t l goal).1 e)))),
   )
   outcome-means plan s (blocked p) = (
     (λ e. subst (λ j. Blocks n (only s) plan (record { step = j; part = p.part })) (omega arith) (rw e at (run-means plan 0 (only s) s (only-alone s))).1),
@@ -153,7 +153,7 @@ module _ (T : Task) (n≤w : T.facts ≤ T.width) where
   numbered c e zero k v f b h g =
       let i : k ≡ T.facts = omega arith in (
         v,
-        record { in-width = omega (arith, pow_pos (T.width - k)); no_bits = mod-of-block T.width T.facts v (rw i at b) },
+        record { in_width = omega (arith, pow_pos (T.width - k)); no_bits = mod-of-block T.width T.facts v (rw i at b) },
         ext_get_or false (tabulate T.facts _) c (length-tabulate T.facts _ ∙ sym e) λ i l.
             let l' : i < T.facts = rw (length-tabulate T.facts _) at l in
             get_d_tabulate T.facts (bit T.width v) i false l' ∙ g i (omega arith),
@@ -169,14 +169,14 @@ module _ (T : Task) (n≤w : T.facts ≤ T.width) where
             g i (omega arith)
       ]
 
-  pub solution-right : Solution T.facts (initialBelief T.facts T.initial) T.goal T.plan ↔ Right T
+  pub solution-right : Solution T.facts (initial_belief T.facts T.initial) T.goal T.plan ↔ Right T
   unfolding run_of initially state_of
   solution-right = (
     (λ h s st.
-        solution-runs T.facts T.goal T.plan 0 (initialBelief T.facts T.initial) h (state_of T.width T.facts s)
+        solution-runs T.facts T.goal T.plan 0 (initial_belief T.facts T.initial) h (state_of T.width T.facts s)
         (length-tabulate T.facts _, st.starts)),
     λ r.
-        runs-solution T.facts T.goal T.plan 0 (initialBelief T.facts T.initial) λ c b.
+        runs-solution T.facts T.goal T.plan 0 (initial_belief T.facts T.initial) λ c b.
         let root = root-span T.width in
         let (s, st, e) = numbered c b.0 T.facts 0 0 (omega arith) (root-block T.width) (omega arith) (λ i l. absurd (omega arith)) in
         rw e at (r s (record { state = st; starts = rw e b.1 })),

@@ -1,4 +1,4 @@
--- An action that sets and clears a fact: what `every` and `lowestFalse` say, applicable in a state as document 004 has it, and equation 2
+-- An action that sets and clears a fact: what `every` and `lowest_false` say, applicable in a state as document 004 has it, and equation 2
 -- where the two conditions exclude each other. Assumes nothing.
 use mathlib.Core.Path.{◌≡◌, refl, sym, ap, ◌∙◌}
 use mathlib.Core.Bool.{Bool, true, false, false≢true, cond, not, ◌&&◌, ◌||◌}
@@ -11,7 +11,7 @@ use Rattle.model.proofs.Laws.Truth.{and-true, and_assoc, and_one}
 use Rattle.model.specs.Kleene.{Kleene, No, Unknown, Yes, both, either, denied, is_yes, Logic, two, three}
 use Rattle.model.specs.Formula.{eval}
 use Rattle.model.specs.Action.{Action, every, sets, clears, exclusive, applicable, next, OrderFree}
-use Rattle.model.specs.Run.{unmet, holdsIn, lowestFalse, Part, atMember, atFact, part_of}
+use Rattle.model.specs.Run.{unmet, holds_in, lowest_false, Part, at_member, at_fact, part_of}
 use Rattle.model.specs.Belief.{InConflict, IsPart}
 
 -- ---- all of the first n, and the lowest that is false
@@ -51,8 +51,8 @@ pub record Lowest (n : ℕ) (f : ℕ → Bool) (i : ℕ) : Type 0 where
   pub here : f i ≡ false
   pub before : (k : ℕ) → k < i → f k ≡ true
 
-pub lowest-is : (n : ℕ) (f : ℕ → Bool) (i : ℕ) → Lowest n f i → (every n f ≡ false) × (lowestFalse n f ≡ i)
-unfolding every lowestFalse
+pub lowest-is : (n : ℕ) (f : ℕ → Bool) (i : ℕ) → Lowest n f i → (every n f ≡ false) × (lowest_false n f ≡ i)
+unfolding every lowest_false
 lowest-is zero f i l = absurd (omega (arith, l.below))
 lowest-is (suc n) f zero l = rw l.here (refl, refl)
 lowest-is (suc n) f (suc i) l =
@@ -63,14 +63,14 @@ true-after : (f : ℕ → Bool) → f zero ≡ true → (i : ℕ) → ((k : ℕ)
 true-after f h i r zero l = h
 true-after f h i r (suc k) l = r k (omega arith)
 
-pub lowest-false : (n : ℕ) (f : ℕ → Bool) → every n f ≡ false → Lowest n f (lowestFalse n f)
-unfolding every lowestFalse
+pub lowest-false : (n : ℕ) (f : ℕ → Bool) → every n f ≡ false → Lowest n f (lowest_false n f)
+unfolding every lowest_false
 lowest-false zero f e = absurd (false≢true (sym e))
 lowest-false (suc n) f e = by_first (f zero) refl e (λ r. lowest-false n (after f) r)
   where
     by_first :
-        (b : Bool) → f zero ≡ b → (b && every n (after f)) ≡ false → (every n (after f) ≡ false → Lowest n (after f) (lowestFalse n (after f))) →
-        Lowest (suc n) f (cond b (suc (lowestFalse n (after f))) zero)
+        (b : Bool) → f zero ≡ b → (b && every n (after f)) ≡ false → (every n (after f) ≡ false → Lowest n (after f) (lowest_false n (after f))) →
+        Lowest (suc n) f (cond b (suc (lowest_false n (after f))) zero)
     by_first true h e later =
         let r = later e in
         record { below = suc-le-suc r.below; here = r.here; before = true-after f h _ r.before }
@@ -115,16 +115,16 @@ module _ (n : ℕ) (a : Action) (s : List Bool) where
     where
       by-test :
           (b : Bool) → eval two s a.precondition ≡ b → (b && every n (exclusive two a s)) ≡ false →
-          IsPart n s a (cond b (atFact (lowestFalse n (exclusive two a s))) (atMember (unmet (holdsIn two s) a.precondition)))
+          IsPart n s a (cond b (at_fact (lowest_false n (exclusive two a s))) (at_member (unmet (holds_in two s) a.precondition)))
       by-test true h e = let (l, c, b) = (lowest-conflict _).0 (lowest-false n (exclusive two a s) e) in (h, l, c, b)
       by-test false h e = (h, refl)
 
   pub is-part : (p : Part) → IsPart n s a p → (applicable two n a s ≡ false) × (part_of two n a s ≡ p)
   unfolding applicable part_of
-  is-part (atMember m) h = rw h.0 (refl, ap atMember h.1)
-  is-part (atFact f) h =
+  is-part (at_member m) h = rw h.0 (refl, ap at_member h.1)
+  is-part (at_fact f) h =
       let r = lowest-is n (exclusive two a s) f ((lowest-conflict f).1 (h.1, h.2, h.3)) in
-      rw h.0 (r.0, ap atFact r.1)
+      rw h.0 (r.0, ap at_fact r.1)
 
 -- ---- equation 2
 

@@ -12,7 +12,7 @@ use lib.Dec.{eqb}
 use borrow.Author.Tests.{eqb-true, eq-eqb}
 use lib.Pow.{pow-add, pow_pos, shr-shr}
 use Rattle.model.specs.Case.{bit}
-use Rattle.model.specs.Walk.{Kind, empty, carries, kindNumber, Look, closed, opened, Line, Walked, covered, failed, line, join, walkFrom, walk}
+use Rattle.model.specs.Walk.{Kind, empty, carries, kind_number, Look, closed, opened, Line, Walked, covered, failed, line, join, walk_from, walk}
 use Rattle.model.specs.CaseList.{claims}
 use Rattle.model.specs.WellFormed.{Each, LineHolds, Joined}
 
@@ -107,7 +107,7 @@ module _ (w : ℕ) (look : ℕ → ℕ → Look) (n : ℕ) where
             let (κ, e, _) = claimed m.kind (look m.k m.value) f.1.0.claim in
             let b = block-of-mod w m.k m.value f.1.0.no_bits in
             let st : Starts m.value (m ∷ ls) = omega (arith, from_le m.value (suc m.value) (omega arith) ls) in
-            c m.k m.value κ st f.1.0.k-fits b e (omega arith) (omega arith)
+            c m.k m.value κ st f.1.0.k_fits b e (omega arith) (omega arith)
         | no g ↦ covering ls (x + 2 ^ (w - m.k)) (f.0.1, f.1.1) s (omega arith) h (λ k v κ st. c k v κ (omega (arith, st)))
       ]
 
@@ -137,8 +137,8 @@ module _ (w : ℕ) (look : ℕ → ℕ → Look) (n : ℕ) where
   module _ (n≤w : n ≤ w) where
     traced :
         (d : ℕ) (l : Look) (k v : ℕ) → k + d ≡ n → Block w k v → v + 2 ^ (w - k) ≤ 2 ^ w → look k v ≡ l →
-        Traced k v (walkFrom w look d l k v)
-    unfolding walkFrom
+        Traced k v (walk_from w look d l k v)
+    unfolding walk_from
     traced zero (closed κ) k v f b h e = leaf {k = k} (omega arith) b e
     traced zero opened k v f b h e = here {k = k} (omega arith) b (omega (arith, pow_pos (w - k))) e
     traced (suc d) (closed κ) k v f b h e = leaf {k = k} (omega arith) b e
@@ -146,7 +146,7 @@ module _ (w : ℕ) (look : ℕ → ℕ → Look) (n : ℕ) where
         let m = v + 2 ^ (w - suc k) in
         let c = rescale w k (suc k) v (omega arith) (omega arith) b in
         let p = pow-half w k (omega arith) in
-        joined k v (omega arith) b e (walkFrom w look d (look (suc k) v) (suc k) v) (walkFrom w look d (look (suc k) m) (suc k) m)
+        joined k v (omega arith) b e (walk_from w look d (look (suc k) v) (suc k) v) (walk_from w look d (look (suc k) m) (suc k) m)
         (traced d _ (suc k) v (omega arith) c (omega arith) refl)
         (traced d _ (suc k) m (omega arith) (next-block w (suc k) v c) (omega arith) refl)
 
@@ -164,7 +164,7 @@ module _ (w : ℕ) (look : ℕ → ℕ → Look) (n : ℕ) where
         {k v a : ℕ} {ls : List Line} → Closes k v ls a → (rest : List Line) → Follows rest (v + 2 ^ (w - k)) → Follows (ls ++ rest) v
     closes-follows (leaf {k} {v} {κ} h b e) rest g =
         let l : LineHolds w look n (line κ k v) =
-        record { k-fits = h; no_bits = mod-of-block w k v b; claim = rw e (eq-eqb (kindNumber κ) (kindNumber κ) refl) }
+        record { k_fits = h; no_bits = mod-of-block w k v b; claim = rw e (eq-eqb (kind_number κ) (kind_number κ) refl) }
         in
         ((refl, g.0), (l, g.1))
     closes-follows (node {k} {v} {ls} {ms} h b e x y) rest g =

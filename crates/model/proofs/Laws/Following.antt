@@ -8,7 +8,7 @@ use lib.ListN.{length}
 use borrow.Author.Tests.{ltb-false, le-ltb, eqb-true, eq-eqb, not-false}
 use Rattle.model.specs.Answer.{Answer, answered}
 use Rattle.model.specs.Walk.{Look, Line}
-use Rattle.model.specs.CaseList.{first, refuseAt, ends, fault, follow}
+use Rattle.model.specs.CaseList.{first, refuse_at, ends, fault, follow}
 use Rattle.model.specs.WellFormed.{LineHolds}
 use Rattle.model.proofs.Laws.Cover.{claimed, Follows}
 
@@ -17,8 +17,8 @@ unfolding first
 first-zero true c r e = (absurd (omega arith), absurd (omega arith))
 first-zero false c r e = (refl, e)
 
-pub refuse-at-answered : (c i m : ℕ) (r : Answer ℕ) → refuseAt c i r ≡ answered m → (c ≡ 0) × (r ≡ answered m)
-unfolding refuseAt
+pub refuse-at-answered : (c i m : ℕ) (r : Answer ℕ) → refuse_at c i r ≡ answered m → (c ≡ 0) × (r ≡ answered m)
+unfolding refuse_at
 refuse-at-answered zero i m r e = (refl, e)
 refuse-at-answered (suc c) i m r e = (cc, cc)
 
@@ -33,7 +33,7 @@ module _ (w : ℕ) (look : ℕ → ℕ → Look) (n : ℕ) where
   fault-ok l x e f =
       rw (
         le-ltb 1 l.kind (claimed l.kind (look l.k l.value) f.claim).2,
-        le-ltb n l.k f.k-fits,
+        le-ltb n l.k f.k_fits,
         eq-eqb (l.value % 2 ^ (w - l.k)) 0 f.no_bits,
         eq-eqb l.value x e,
       )
@@ -48,7 +48,7 @@ module _ (w : ℕ) (look : ℕ → ℕ → Look) (n : ℕ) where
       let (v, e₃) = first-zero _ 66 _ e₂ in
       let (b, e₄) = first-zero _ 67 _ e₃ in
       let (h, _) = first-zero _ 68 _ e₄ in
-      (eqb-true _ _ (not-false _ b), record { k-fits = ltb-false _ _ k; no_bits = eqb-true _ _ (not-false _ v); claim = not-false _ h })
+      (eqb-true _ _ (not-false _ b), record { k_fits = ltb-false _ _ k; no_bits = eqb-true _ _ (not-false _ v); claim = not-false _ h })
 
   -- a list that is followed to its end, from line i and number x on
   pub follow-passes :
@@ -62,8 +62,8 @@ module _ (w : ℕ) (look : ℕ → ℕ → Look) (n : ℕ) where
       (((b, p.0), (line, p.1)), omega arith)
 
   pub passes-follow : (ls : List Line) (i x : ℕ) → Follows w look n ls x → follow w look n ls i x ≡ answered (i + length ls)
-  unfolding follow refuseAt ends
+  unfolding follow refuse_at ends
   passes-follow [] i x f = rw (eq-eqb x (2 ^ w) f.0) (ap answered (omega arith))
   passes-follow (l ∷ ls) i x f =
       let g = passes-follow ls (suc i) (x + 2 ^ (w - l.k)) (f.0.1, f.1.1) in
-      rw (fault-ok l x f.0.0 f.1.0, refuseAt) (g ∙ ap answered (omega arith))
+      rw (fault-ok l x f.0.0 f.1.0, refuse_at) (g ∙ ap answered (omega arith))

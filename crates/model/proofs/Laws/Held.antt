@@ -9,17 +9,17 @@ use lib.ListN.{length, get_or, set, replicate, length-set}
 use lib.Seq.{get_or-set_same, get_or-set_other}
 use Rattle.model.specs.Kleene.{Kleene, No}
 use Rattle.model.specs.Action.{tabulate}
-use Rattle.model.specs.Values.{valueByte, Shows}
+use Rattle.model.specs.Values.{value_byte, Shows}
 use Rattle.model.proofs.Laws.Tabulate.{get_d_tabulate, getD-tabulate-past}
 
 -- bytes that follow a rule up to n, and are no from there on
 pub shows-tabulate :
-    (bytes : List ℕ) (n : ℕ) (f : ℕ → Kleene) → ((i : ℕ) → i < n → get_or bytes i 0 ≡ valueByte (f i)) →
+    (bytes : List ℕ) (n : ℕ) (f : ℕ → Kleene) → ((i : ℕ) → i < n → get_or bytes i 0 ≡ value_byte (f i)) →
     ((i : ℕ) → n ≤ i → get_or bytes i 0 ≡ 0) → Shows bytes (tabulate n f)
 shows-tabulate bytes n f below past i =
     elim (dec_lt i n) [
-      | yes h ↦ below i h ∙ ap valueByte (sym (get_d_tabulate n f i No h))
-      | no h ↦ past i (omega arith) ∙ ap valueByte (sym (getD-tabulate-past n f i No (omega arith)))
+      | yes h ↦ below i h ∙ ap value_byte (sym (get_d_tabulate n f i No h))
+      | no h ↦ past i (omega arith) ∙ ap value_byte (sym (getD-tabulate-past n f i No (omega arith)))
     ]
 
 pub zeros : (n i : ℕ) → ◌≡◌ {A = ℕ} (get_or (replicate n 0) i 0) 0

@@ -10,26 +10,26 @@ use Rattle.model.specs.declared.Limits.{Limits}
 use Rattle.model.specs.Answer.{answered}
 use Rattle.model.specs.Walk.{Line}
 use Rattle.model.specs.Read.{and_then, ◌>>◌, done, require, answer_of, bytes_of}
-use Rattle.model.specs.ListBytes.{line_at, lines_from, case_list, list_of, lineBytes, linesBytes, encodeList}
+use Rattle.model.specs.ListBytes.{line_at, lines_from, case_list, list_of, line_bytes, lines_bytes, encode_list}
 use Rattle.model.specs.WellFormed.{Bytes, Each, LineOk, ListOk, Sensible}
 use Rattle.model.specs.Stands.{Span, nothing, next}
-use Rattle.model.proofs.Laws.Reading.{answer-got, Gives, gives, reads, tests, first, join, split, span-length, length-bytesOf, number-got, number_ok, length-block, header-gives, header_ok}
+use Rattle.model.proofs.Laws.Reading.{answer-got, Gives, gives, reads, tests, first, join, split, span-length, length-bytes_of, number-got, number_ok, length-block, header-gives, header_ok}
 
 module _ (F : Limits) (sense : Sensible F) (s : List ℕ) where
-  pub length-line : (l : Line) → length (lineBytes F l) ≡ F.line
-  unfolding lineBytes
-  length-line l = rw length-bytesOf (omega (arith, sense.line))
+  pub length-line : (l : Line) → length (line_bytes F l) ≡ F.line
+  unfolding line_bytes
+  length-line l = rw length-bytes_of (omega (arith, sense.line))
 
   -- lines
-  pub length-linesFrom : (n p : ℕ) → length (lines_from F s n p) ≡ n
+  pub length-lines_from : (n p : ℕ) → length (lines_from F s n p) ≡ n
   unfolding lines_from
-  length-linesFrom zero p = refl
-  length-linesFrom (suc n) p = ap suc (length-linesFrom n (p + F.line))
+  length-lines_from zero p = refl
+  length-lines_from (suc n) p = ap suc (length-lines_from n (p + F.line))
 
   lines-got :
       (n p q : ℕ) → Bytes s → p + n * F.line ≡ q → q ≤ length s →
-      Each (LineOk F) (lines_from F s n p) × Span s (length s) p (linesBytes F (lines_from F s n p)) q
-  unfolding lines_from linesBytes line_at lineBytes
+      Each (LineOk F) (lines_from F s n p) × Span s (length s) p (lines_bytes F (lines_from F s n p)) q
+  unfolding lines_from lines_bytes line_at line_bytes
   lines-got zero p q sound e l = let i : p ≡ q = omega (arith, zero-mul F.line) in (tt, nothing i)
   lines-got (suc n) p q sound e l =
       let k : 2 < F.line = sense.line in
@@ -43,47 +43,47 @@ module _ (F : Limits) (sense : Sensible F) (s : List ℕ) where
       )
 
   pub lines_ok :
-      (ls : List Line) (p q : ℕ) → Each (LineOk F) ls → Span s (length s) p (linesBytes F ls) q → lines_from F s (length ls) p ≡ ls
-  unfolding lines_from linesBytes line_at lineBytes
+      (ls : List Line) (p q : ℕ) → Each (LineOk F) ls → Span s (length s) p (lines_bytes F ls) q → lines_from F s (length ls) p ≡ ls
+  unfolding lines_from lines_bytes line_at line_bytes
   lines_ok [] p q k r = refl
   lines_ok (l ∷ ls) p q (k, ks) r =
       let (_, a, v) = first r in
       let (_, b, w) = first v in
       split (bytes_of (F.line - 2) l.value) w λ m x y.
       let i : p + 1 + 1 ≡ p + 2 = omega arith in
-      let j : m ≡ p + F.line = omega (arith, span-length x, length-bytesOf (F.line - 2) l.value, sense.line) in
+      let j : m ≡ p + F.line = omega (arith, span-length x, length-bytes_of (F.line - 2) l.value, sense.line) in
       let c = number_ok s (F.line - 2) (p + 2) m l.value k.value (rw i at x) in
       let rest = lines_ok ls (p + F.line) q ks (rw j at y) in
       λ i. record { kind = a i; k = b i; value = c i } ∷ rest i
 
-  pub length-lines : (ls : List Line) → length (linesBytes F ls) ≡ length ls * F.line
-  unfolding linesBytes
+  pub length-lines : (ls : List Line) → length (lines_bytes F ls) ≡ length ls * F.line
+  unfolding lines_bytes
   length-lines [] = sym (zero-mul F.line)
   length-lines (l ∷ ls) =
-      rw (length-append (lineBytes F l) (linesBytes F ls), length-line l, length-lines ls) (omega (arith, suc-mul (length ls) F.line))
+      rw (length-append (line_bytes F l) (lines_bytes F ls), length-line l, length-lines ls) (omega (arith, suc-mul (length ls) F.line))
 
-  list-gives : Bytes s → Gives (case_list F s 0) (λ ls q. ListOk F ls × (s ≡ encodeList F ls))
-  unfolding case_list ◌>>◌ done encodeList
+  list-gives : Bytes s → Gives (case_list F s 0) (λ ls q. ListOk F ls × (s ≡ encode_list F ls))
+  unfolding case_list ◌>>◌ done encode_list
   list-gives sound =
       reads (header-gives s 60 (5 + F.line * F.lines) F.version 0 sound) λ _ o (i, l, z, law).
       tests _ _ _ _ _ λ t.
       let n = (length s - 5) / F.line in
       let e : n * F.line ≡ length s - 5 = omega (arith, div-add-mod' (length s - 5) F.line, eqb-true ((length s - 5) % F.line) 0 t) in
       let (a, b) = lines-got n 5 (length s) sound (omega arith) (omega arith) in
-      gives (record { count = rw (length-linesFrom n 5) (div-le_of_le-mul F.line (omega arith)); lines = a }, law _ b)
+      gives (record { count = rw (length-lines_from n 5) (div-le_of_le-mul F.line (omega arith)); lines = a }, law _ b)
 
-  pub list-sound : Bytes s → (ls : List Line) → list_of F s ≡ answered ls → ListOk F ls × (s ≡ encodeList F ls)
+  pub list_sound : Bytes s → (ls : List Line) → list_of F s ≡ answered ls → ListOk F ls × (s ≡ encode_list F ls)
   unfolding list_of
-  list-sound sound ls e = let (q, h) = answer-got (case_list F s 0) e in (list-gives sound).of ls q h
+  list_sound sound ls e = let (q, h) = answer-got (case_list F s 0) e in (list-gives sound).of ls q h
 
-  pub list-ok : (ls : List Line) → ListOk F ls → s ≡ encodeList F ls → list_of F s ≡ answered ls
-  unfolding list_of answer_of case_list ◌>>◌ done encodeList and_then require
+  pub list-ok : (ls : List Line) → ListOk F ls → s ≡ encode_list F ls → list_of F s ≡ answered ls
+  unfolding list_of answer_of case_list ◌>>◌ done encode_list and_then require
   list-ok ls k e =
-      let i = ap length e ∙ length-block F.version (linesBytes F ls) in
+      let i = ap length e ∙ length-block F.version (lines_bytes F ls) in
       let j : length s - 5 ≡ length ls * F.line = omega (arith, length-lines ls) in
       let m = mul-le-mul_right F.line k.count in
       let l : length s ≤ 5 + F.line * F.lines = omega (arith, length-lines ls, mul_comm F.lines F.line) in
-      let (h, w) = header_ok s 60 (5 + F.line * F.lines) F.version 0 (linesBytes F ls) e l (omega (arith, sense.lines)) in
+      let (h, w) = header_ok s 60 (5 + F.line * F.lines) F.version 0 (lines_bytes F ls) e l (omega (arith, sense.lines)) in
       rw (
         h,
         j,

@@ -10,17 +10,17 @@ use Rattle.model.specs.Answer as Answer
 use Rattle.model.specs.Answer.{answered}
 use Rattle.model.specs.Formula.{any, none, eval}
 use Rattle.model.specs.Case.{Task}
-use Rattle.model.specs.Walk.{Kind, empty, Look, closed, Line, line, covered, right, visits, walkFrom, walk, lookAt, walked}
-use Rattle.model.specs.ProblemBytes.{Problem, problemOf, plan_of}
-use Rattle.model.specs.ListBytes.{encodeList}
-use Rattle.model.specs.Operations.{readPlan, task_of, readTask, judge, listBytes, linesFor, written, writeList}
+use Rattle.model.specs.Walk.{Kind, empty, Look, closed, Line, line, covered, right, visits, walk_from, walk, look_at, walked}
+use Rattle.model.specs.ProblemBytes.{Problem, problem_of, plan_of}
+use Rattle.model.specs.ListBytes.{encode_list}
+use Rattle.model.specs.Operations.{read_plan, task_of, read_task, judge, list_bytes, lines_for, written, write_list}
 use Rattle.model.proofs.Laws.Tasks.{answer-then, task-fits, judge-is, list-for-is}
 use Rattle.model.proofs.Laws.Judging.{judged-in}
 
 -- a closed case is one line and one visit
 walk-closed :
-    (w : ℕ) (look : ℕ → ℕ → Look) (d : ℕ) (κ : Kind) (k v : ℕ) → walkFrom w look d (closed κ) k v ≡ covered (line κ k v ∷ []) 1
-unfolding walkFrom
+    (w : ℕ) (look : ℕ → ℕ → Look) (d : ℕ) (κ : Kind) (k v : ℕ) → walk_from w look d (closed κ) k v ≡ covered (line κ k v ∷ []) 1
+unfolding walk_from
 walk-closed w look zero κ k v = refl
 walk-closed w look (suc d) κ k v = refl
 
@@ -29,23 +29,23 @@ abbrev only : List Line
 only = line empty 0 0 ∷ []
 
 walks-once : (T : Task) → T.initial ≡ any none → walked T ≡ covered only 1
-unfolding eval lookAt walk walked
+unfolding eval look_at walk walked
 walks-once T empty-any = rw empty-any (walk-closed T.width _ T.facts empty 0 0)
 
-module _ (F : Limits) (f≤w : F.facts ≤ F.width) (problem : List ℕ) {p : Problem} (reads : problemOf F problem ≡ answered p) where
+module _ (F : Limits) (f≤w : F.facts ≤ F.width) (problem : List ℕ) {p : Problem} (reads : problem_of F problem ≡ answered p) where
   pub no_start :
-      p.initial ≡ any none → 1 ≤ F.lines → (plan : List ℕ) (m : ℕ) → readPlan F problem plan ≡ answered m → (g : ℕ) → 1 ≤ g →
+      p.initial ≡ any none → 1 ≤ F.lines → (plan : List ℕ) (m : ℕ) → read_plan F problem plan ≡ answered m → (g : ℕ) → 1 ≤ g →
       (judge F problem plan g ≡ answered (right 1 1)) ×
-      ((out : List ℕ) → listBytes F 1 ≤ length out →
-      writeList F problem plan g out ≡ record { answer = answered (listBytes F 1); buffer = encodeList F only ++ drop (listBytes F 1) out })
-  unfolding readPlan readTask Answer.◌>>=◌ task_of linesFor written writeList
+      ((out : List ℕ) → list_bytes F 1 ≤ length out →
+      write_list F problem plan g out ≡ record { answer = answered (list_bytes F 1); buffer = encode_list F only ++ drop (list_bytes F 1) out })
+  unfolding read_plan read_task Answer.◌>>=◌ task_of lines_for written write_list
   no_start empty-any few plan m read g one =
       answer-then {x = plan_of plan (length p.actions)} (rw reads at read) λ steps e _.
       let T = task_of F p steps in
-      let given : readTask F problem plan ≡ answered T = rw (reads, e) in
+      let given : read_task F problem plan ≡ answered T = rw (reads, e) in
       let f = task-fits F problem plan T given in
       let c = walks-once T empty-any in
       let j = judged-in T (omega (arith, f.facts, f.width)) g (covered only 1) c (omega (arith, ap visits c)) in (
         rw (judge-is F problem plan T given g, j),
-        λ out room. rw (list-for-is F problem plan T given g (length out), j, le-ltb F.lines 1 few, le-ltb (length out) (listBytes F 1) room),
+        λ out room. rw (list-for-is F problem plan T given g (length out), j, le-ltb F.lines 1 few, le-ltb (length out) (list_bytes F 1) room),
       )

@@ -9,7 +9,7 @@ use native.Mathlib.Nat.{suc-mul}
 use native.Mathlib.Omega.{arith}
 use native.Mathlib.Decide.{dec_lt}
 use lib.ListN.{length, length-append, length-map}
-use Rattle.model.specs.Search.{eachStep, plansOf, plansFrom, plansUpTo, planCount, IsShort, LowerSteps, Earlier, Sorted, Enumerates}
+use Rattle.model.specs.Search.{each_step, plans_of, plans_from, plans_up_to, plan_count, IsShort, LowerSteps, Earlier, Sorted, Enumerates}
 use Rattle.model.specs.WellFormed.{Each}
 
 -- ---- every element of a list
@@ -104,54 +104,54 @@ module _ (m : ℕ) where
   abbrev LengthFrom : ℕ → ℕ → List ℕ → Type 0
   LengthFrom l n p = (l ≤ length p) × (length p < n + l) × Each (λ b. b < m) p
 
-  step-each : (l n a : ℕ) (ps : List (List ℕ)) → n + a ≤ m → Each (OfLength l) ps → Each (OfLength (suc l)) (eachStep n a ps)
-  unfolding eachStep
+  step-each : (l n a : ℕ) (ps : List (List ℕ)) → n + a ≤ m → Each (OfLength l) ps → Each (OfLength (suc l)) (each_step n a ps)
+  unfolding each_step
   step-each l zero a ps h x = tt
   step-each l (suc n) a ps h x =
-      each_append (OfLength (suc l)) (map (λ p. a ∷ p) ps) (eachStep n (suc a) ps)
+      each_append (OfLength (suc l)) (map (λ p. a ∷ p) ps) (each_step n (suc a) ps)
       (each_map (OfLength l) (OfLength (suc l)) (λ p. a ∷ p) (λ p y. (ap suc y.0, (omega arith, y.1))) ps x)
       (step-each l n (suc a) ps (omega arith) x)
 
-  of-each : (l : ℕ) → Each (OfLength l) (plansOf m l)
-  unfolding plansOf
+  of-each : (l : ℕ) → Each (OfLength l) (plans_of m l)
+  unfolding plans_of
   of-each zero = ((refl, tt), tt)
-  of-each (suc l) = step-each l m 0 (plansOf m l) (omega arith) (of-each l)
+  of-each (suc l) = step-each l m 0 (plans_of m l) (omega arith) (of-each l)
 
-  from_each : (l n : ℕ) → Each (LengthFrom l n) (plansFrom m l n)
-  unfolding plansFrom
+  from_each : (l n : ℕ) → Each (LengthFrom l n) (plans_from m l n)
+  unfolding plans_from
   from_each l zero = tt
   from_each l (suc n) =
-      each_append (LengthFrom l (suc n)) (plansOf m l) (plansFrom m (suc l) n)
-      (each-if (OfLength l) (LengthFrom l (suc n)) (λ p x. (omega (arith, x.0), omega (arith, x.0), x.1)) (plansOf m l) (of-each l))
-      (each-if (LengthFrom (suc l) n) (LengthFrom l (suc n)) (λ p x. (omega (arith, x.0), omega (arith, x.1), x.2)) (plansFrom m (suc l) n)
+      each_append (LengthFrom l (suc n)) (plans_of m l) (plans_from m (suc l) n)
+      (each-if (OfLength l) (LengthFrom l (suc n)) (λ p x. (omega (arith, x.0), omega (arith, x.0), x.1)) (plans_of m l) (of-each l))
+      (each-if (LengthFrom (suc l) n) (LengthFrom l (suc n)) (λ p x. (omega (arith, x.0), omega (arith, x.1), x.2)) (plans_from m (suc l) n)
       (from_each (suc l) n))
 
   -- ---- each stands in the list
 
   step-stands :
-      (n a b : ℕ) (p : List ℕ) (ps : List (List ℕ)) → a ≤ b → b < n + a → Memᴰ p ps → Memᴰ (b ∷ p) (eachStep n a ps)
-  unfolding eachStep
+      (n a b : ℕ) (p : List ℕ) (ps : List (List ℕ)) → a ≤ b → b < n + a → Memᴰ p ps → Memᴰ (b ∷ p) (each_step n a ps)
+  unfolding each_step
   step-stands zero a b p ps l h s = absurd (omega arith)
   step-stands (suc n) a b p ps l h s =
       elim (dec_lt a b) [
         | yes k ↦ Memᴰ.append_right (map (λ q. a ∷ q) ps) (step-stands n (suc a) b p ps k (omega arith) s)
-        | no k ↦ let e : b ≡ a = omega arith in rw e (Memᴰ.append_left (eachStep n (suc a) ps) (Memᴰ.map (λ q. a ∷ q) s))
+        | no k ↦ let e : b ≡ a = omega arith in rw e (Memᴰ.append_left (each_step n (suc a) ps) (Memᴰ.map (λ q. a ∷ q) s))
       ]
 
-  of-stands : (p : List ℕ) → Each (λ b. b < m) p → Memᴰ p (plansOf m (length p))
-  unfolding plansOf
+  of-stands : (p : List ℕ) → Each (λ b. b < m) p → Memᴰ p (plans_of m (length p))
+  unfolding plans_of
   of-stands [] x = Memᴰ.head refl
-  of-stands (b ∷ p) x = step-stands m 0 b p (plansOf m (length p)) (omega arith) (omega (arith, x.0)) (of-stands p x.1)
+  of-stands (b ∷ p) x = step-stands m 0 b p (plans_of m (length p)) (omega arith) (omega (arith, x.0)) (of-stands p x.1)
 
-  from-stands : (l n : ℕ) (p : List ℕ) → LengthFrom l n p → Memᴰ p (plansFrom m l n)
-  unfolding plansFrom
+  from-stands : (l n : ℕ) (p : List ℕ) → LengthFrom l n p → Memᴰ p (plans_from m l n)
+  unfolding plans_from
   from-stands l zero p x = absurd (omega (arith, x.0, x.1))
   from-stands l (suc n) p x =
       elim (dec_lt l (length p)) [
-        | yes k ↦ Memᴰ.append_right (plansOf m l) (from-stands (suc l) n p (k, omega (arith, x.1), x.2))
+        | yes k ↦ Memᴰ.append_right (plans_of m l) (from-stands (suc l) n p (k, omega (arith, x.1), x.2))
         | no k ↦
             let e : l ≡ length p = omega (arith, x.0) in
-            rw e (Memᴰ.append_left (plansFrom m (suc (length p)) n) (of-stands p x.2))
+            rw e (Memᴰ.append_left (plans_from m (suc (length p)) n) (of-stands p x.2))
       ]
 
   -- ---- in order
@@ -159,70 +159,70 @@ module _ (m : ℕ) where
   -- a plan is before those of its length whose first step is higher
   step-earlier :
       (l a : ℕ) (p : List ℕ) → length p ≡ l → (n b : ℕ) (ps : List (List ℕ)) → a < b → Each (OfLength l) ps →
-      Each (Earlier (a ∷ p)) (eachStep n b ps)
-  unfolding eachStep
+      Each (Earlier (a ∷ p)) (each_step n b ps)
+  unfolding each_step
   step-earlier l a p z zero b ps h x = tt
   step-earlier l a p z (suc n) b ps h x =
-      each_append (Earlier (a ∷ p)) (map (λ q. b ∷ q) ps) (eachStep n (suc b) ps)
+      each_append (Earlier (a ∷ p)) (map (λ q. b ∷ q) ps) (each_step n (suc b) ps)
       (each_map (OfLength l) (Earlier (a ∷ p)) (λ q. b ∷ q) (λ q y. inr (omega (arith, y.0), inl h)) ps x)
       (step-earlier l a p z n (suc b) ps (omega arith) x)
 
-  step-sorted : (l n a : ℕ) (ps : List (List ℕ)) → Each (OfLength l) ps → Sorted ps → Sorted (eachStep n a ps)
-  unfolding eachStep
+  step-sorted : (l n a : ℕ) (ps : List (List ℕ)) → Each (OfLength l) ps → Sorted ps → Sorted (each_step n a ps)
+  unfolding each_step
   step-sorted l zero a ps x s = tt
   step-sorted l (suc n) a ps x s =
-      sorted-append (map (λ p. a ∷ p) ps) (eachStep n (suc a) ps) (sorted_after a ps s) (step-sorted l n (suc a) ps x s)
-      (each_map (OfLength l) (λ p. Each (Earlier p) (eachStep n (suc a) ps)) (λ p. a ∷ p)
+      sorted-append (map (λ p. a ∷ p) ps) (each_step n (suc a) ps) (sorted_after a ps s) (step-sorted l n (suc a) ps x s)
+      (each_map (OfLength l) (λ p. Each (Earlier p) (each_step n (suc a) ps)) (λ p. a ∷ p)
       (λ p y. step-earlier l a p y.0 n (suc a) ps (omega arith) x) ps x)
 
-  of-sorted : (l : ℕ) → Sorted (plansOf m l)
-  unfolding plansOf
+  of-sorted : (l : ℕ) → Sorted (plans_of m l)
+  unfolding plans_of
   of-sorted zero = (tt, tt)
-  of-sorted (suc l) = step-sorted l m 0 (plansOf m l) (of-each l) (of-sorted l)
+  of-sorted (suc l) = step-sorted l m 0 (plans_of m l) (of-each l) (of-sorted l)
 
-  from_sorted : (l n : ℕ) → Sorted (plansFrom m l n)
-  unfolding plansFrom
+  from_sorted : (l n : ℕ) → Sorted (plans_from m l n)
+  unfolding plans_from
   from_sorted l zero = tt
   from_sorted l (suc n) =
-      sorted-append (plansOf m l) (plansFrom m (suc l) n) (of-sorted l) (from_sorted (suc l) n)
-      (each-if (OfLength l) (λ p. Each (Earlier p) (plansFrom m (suc l) n))
+      sorted-append (plans_of m l) (plans_from m (suc l) n) (of-sorted l) (from_sorted (suc l) n)
+      (each-if (OfLength l) (λ p. Each (Earlier p) (plans_from m (suc l) n))
       (λ p x.
-      each-if (LengthFrom (suc l) n) (Earlier p) (λ q y. inl (omega (arith, x.0, y.0))) (plansFrom m (suc l) n) (from_each (suc l) n))
-      (plansOf m l) (of-each l))
+      each-if (LengthFrom (suc l) n) (Earlier p) (λ q y. inl (omega (arith, x.0, y.0))) (plans_from m (suc l) n) (from_each (suc l) n))
+      (plans_of m l) (of-each l))
 
   -- ---- how many they are
 
-  step_count : (n a : ℕ) (ps : List (List ℕ)) → length (eachStep n a ps) ≡ n * length ps
-  unfolding eachStep
+  step_count : (n a : ℕ) (ps : List (List ℕ)) → length (each_step n a ps) ≡ n * length ps
+  unfolding each_step
   step_count zero a ps = omega arith
   step_count (suc n) a ps =
-      rw (length-append (map (λ p. a ∷ p) ps) (eachStep n (suc a) ps), length-map ps (λ p. a ∷ p), step_count n (suc a) ps)
+      rw (length-append (map (λ p. a ∷ p) ps) (each_step n (suc a) ps), length-map ps (λ p. a ∷ p), step_count n (suc a) ps)
       (omega (arith, suc-mul n (length ps)))
 
-  from-count : (l n : ℕ) → length (plansFrom m (suc l) n) ≡ m * length (plansFrom m l n)
-  unfolding plansFrom plansOf
+  from-count : (l n : ℕ) → length (plans_from m (suc l) n) ≡ m * length (plans_from m l n)
+  unfolding plans_from plans_of
   from-count l zero = omega arith
   from-count l (suc n) =
-      rw (length-append (plansOf m (suc l)) (plansFrom m (suc (suc l)) n), length-append (plansOf m l) (plansFrom m (suc l) n))
-      (omega (arith, step_count m 0 (plansOf m l), from-count (suc l) n))
+      rw (length-append (plans_of m (suc l)) (plans_from m (suc (suc l)) n), length-append (plans_of m l) (plans_from m (suc l) n))
+      (omega (arith, step_count m 0 (plans_of m l), from-count (suc l) n))
 
-  up-to-count : (longest : ℕ) → length (plansUpTo m longest) ≡ planCount m longest
-  unfolding plansUpTo plansFrom plansOf planCount
+  up-to-count : (longest : ℕ) → length (plans_up_to m longest) ≡ plan_count m longest
+  unfolding plans_up_to plans_from plans_of plan_count
   up-to-count zero = refl
   up-to-count (suc l) = omega (arith, from-count 0 (suc l), ap (λ (x : ℕ). m * x) (up-to-count l))
 
   module _ (longest : ℕ) where
-    pub stands : (p : List ℕ) → IsShort m longest p → Memᴰ p (plansUpTo m longest)
-    unfolding plansUpTo
+    pub stands : (p : List ℕ) → IsShort m longest p → Memᴰ p (plans_up_to m longest)
+    unfolding plans_up_to
     stands p h = from-stands 0 (suc longest) p (omega arith, omega (arith, h.short), h.actions)
 
-    pub enumerates : Enumerates m longest (plansUpTo m longest)
-    unfolding plansUpTo
+    pub enumerates : Enumerates m longest (plans_up_to m longest)
+    unfolding plans_up_to
     enumerates =
         record {
           short =
               each-if (LengthFrom 0 (suc longest)) (IsShort m longest) (λ p x. record { short = omega (arith, x.1); actions = x.2 })
-              (plansUpTo m longest) (from_each 0 (suc longest));
+              (plans_up_to m longest) (from_each 0 (suc longest));
           once =
               λ p h.
               let (before, after, e, x, y) = around (stands p h) (from_sorted 0 (suc longest)) in (

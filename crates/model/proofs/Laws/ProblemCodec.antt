@@ -6,12 +6,12 @@ use native.Mathlib.Omega.{arith}
 use lib.ListN.{length, get_or}
 use borrow.Author.Tests.{ltb-true, leb-true, lt-ltb, le-leb}
 use Rattle.model.specs.declared.Limits.{Limits}
-use Rattle.model.specs.Limits.{maxActions, maxSteps, maxProblemBytes}
+use Rattle.model.specs.Limits.{max_actions, max_steps, max_problem_bytes}
 use Rattle.model.specs.Answer.{answered}
 use Rattle.model.specs.Action.{Effect, Action}
 use Rattle.model.specs.Read.{got, and_then, ◌>>=◌, ◌>>◌, done, position, require, counted, answer_of}
-use Rattle.model.specs.FormulaBytes.{literalByte, encodeFormula}
-use Rattle.model.specs.ProblemBytes.{Problem, effect, effects, effectList, action, actions, ending, parts, body, problem, problemOf, steps, plan, plan_of, effectsBytes, actionBytes, actionsBytes, encodeProblem, encodePlan}
+use Rattle.model.specs.FormulaBytes.{literal_byte, encode_formula}
+use Rattle.model.specs.ProblemBytes.{Problem, effect, effects, effect_list, action, actions, ending, parts, body, problem, problem_of, steps, plan, plan_of, effects_bytes, action_bytes, actions_bytes, encode_problem, encode_plan}
 use Rattle.model.specs.WellFormed.{Bytes, Each, Declared, FormulaOk, EffectsOk, ActionOk, ProblemOk, PlanOk, Sensible}
 use Rattle.model.specs.Stands.{Span, nothing, next}
 use Rattle.model.proofs.Laws.Reading.{Gives, gives, reads, ends, tests, empty, first, join, split, span-length, span-end, byte-gives, byte-ok, length-block, header-gives, header_ok, count_gives, count-ok}
@@ -21,8 +21,8 @@ module _ (s : List ℕ) (facts : ℕ) (most : facts ≤ 64) where
   effect-gives :
       Bytes s → (least p : ℕ) →
       Gives (effect s facts least p) λ e q.
-      Declared facts e.literal × (least ≤ literalByte e.literal) × FormulaOk facts e.condition ×
-      Span s (length s) p (literalByte e.literal ∷ encodeFormula e.condition) q
+      Declared facts e.literal × (least ≤ literal_byte e.literal) × FormulaOk facts e.condition ×
+      Span s (length s) p (literal_byte e.literal ∷ encode_formula e.condition) q
   unfolding effect ◌>>=◌ ◌>>◌ and_then position done
   effect-gives sound least p =
       reads (byte-gives 14 p) λ b m r.
@@ -34,39 +34,39 @@ module _ (s : List ℕ) (facts : ℕ) (most : facts ≤ 64) where
 
   effects-give :
       Bytes s → (n least p : ℕ) →
-      Gives (effects s facts n least p) (λ es q. EffectsOk facts least es × Span s (length s) p (effectsBytes es) q × (length es ≡ n))
-  unfolding effects ◌>>=◌ and_then done effectsBytes
+      Gives (effects s facts n least p) (λ es q. EffectsOk facts least es × Span s (length s) p (effects_bytes es) q × (length es ≡ n))
+  unfolding effects ◌>>=◌ and_then done effects_bytes
   effects-give sound zero least p = gives (tt, nothing refl, refl)
   effects-give sound (suc n) least p =
       reads (effect-gives sound least p) λ e m (a, b, c, r).
-      reads (effects-give sound n (literalByte e.literal + 1) m) λ rest o (d, v, i).
+      reads (effects-give sound n (literal_byte e.literal + 1) m) λ rest o (d, v, i).
       gives ((a, b, c, d), join r v, ap suc i)
 
   pub effects-ok :
       (es : List Effect) (least p q : ℕ) → EffectsOk facts least es →
-      Span s (length s) p (effectsBytes es) q → effects s facts (length es) least p ≡ got es q
-  unfolding effects effect ◌>>=◌ ◌>>◌ and_then position done effectsBytes require
+      Span s (length s) p (effects_bytes es) q → effects s facts (length es) least p ≡ got es q
+  unfolding effects effect ◌>>=◌ ◌>>◌ and_then position done effects_bytes require
   effects-ok [] least p q d r = rw (empty r)
   effects-ok (e ∷ es) least p q (d, l, f, k) r =
       let (i, j) = literal-ok facts most e.literal d in
       let (_, _, v) = first r in
-      split (encodeFormula e.condition) v λ m a b.
+      split (encode_formula e.condition) v λ m a b.
       rw (
         byte-ok 14 r,
         i,
         j,
-        le-leb least (literalByte e.literal) l,
+        le-leb least (literal_byte e.literal) l,
         formula-ok s facts most (p + 1) e.condition m f a,
-        effects-ok es (literalByte e.literal + 1) m q k b,
+        effects-ok es (literal_byte e.literal + 1) m q k b,
       )
 
 module _ (F : Limits) (s : List ℕ) (facts : ℕ) (most : facts ≤ 64) where
-  action-gives : Bytes s → (p : ℕ) → Gives (action F s facts p) (λ a q. ActionOk F facts a × Span s (length s) p (actionBytes a) q)
-  unfolding action effectList ◌>>=◌ and_then done actionBytes
+  action-gives : Bytes s → (p : ℕ) → Gives (action F s facts p) (λ a q. ActionOk F facts a × Span s (length s) p (action_bytes a) q)
+  unfolding action effect_list ◌>>=◌ and_then done action_bytes
   action-gives sound p =
       reads (formula-gives s facts most sound p) λ f m (a, b).
       reads
-      {P = λ es q. (length es ≤ F.effects) × EffectsOk facts 0 es × Span s (length s) m (length es ∷ effectsBytes es) q}
+      {P = λ es q. (length es ≤ F.effects) × EffectsOk facts 0 es × Span s (length s) m (length es ∷ effects_bytes es) q}
       (reads (count_gives s 22 0 F.effects m) λ n o (_, c, d).
       ends (effects-give s facts most sound n 0 o) λ es v (e, k, i). (rw i c, e, rw i (join d k)))
       λ es v (c, e, k).
@@ -74,15 +74,15 @@ module _ (F : Limits) (s : List ℕ) (facts : ℕ) (most : facts ≤ 64) where
 
   pub action-got :
       (p : ℕ) (a : Action) (q : ℕ) → Bytes s → action F s facts p ≡ got a q →
-      ActionOk F facts a × Span s (length s) p (actionBytes a) q
+      ActionOk F facts a × Span s (length s) p (action_bytes a) q
   action-got p a q sound e = (action-gives sound p).of a q e
 
   pub action-ok :
-      (p : ℕ) (a : Action) (q : ℕ) → ActionOk F facts a → Span s (length s) p (actionBytes a) q →
+      (p : ℕ) (a : Action) (q : ℕ) → ActionOk F facts a → Span s (length s) p (action_bytes a) q →
       action F s facts p ≡ got a q
-  unfolding action effectList ◌>>=◌ and_then done actionBytes
+  unfolding action effect_list ◌>>=◌ and_then done action_bytes
   action-ok p a q k r =
-      split (encodeFormula a.precondition) r λ m b c.
+      split (encode_formula a.precondition) r λ m b c.
       let (_, _, v) = first c in
       rw (
         formula-ok s facts most p a.precondition m k.precondition b,
@@ -93,8 +93,8 @@ module _ (F : Limits) (s : List ℕ) (facts : ℕ) (most : facts ≤ 64) where
   actions-give :
       Bytes s → (n p : ℕ) →
       Gives (actions F s facts n p) λ as' q.
-      Each (ActionOk F facts) as' × Span s (length s) p (actionsBytes as') q × (length as' ≡ n)
-  unfolding actions ◌>>=◌ and_then done actionsBytes
+      Each (ActionOk F facts) as' × Span s (length s) p (actions_bytes as') q × (length as' ≡ n)
+  unfolding actions ◌>>=◌ and_then done actions_bytes
   actions-give sound zero p = gives (tt, nothing refl, refl)
   actions-give sound (suc n) p =
       reads (action-gives sound p) λ a m (b, c).
@@ -102,20 +102,20 @@ module _ (F : Limits) (s : List ℕ) (facts : ℕ) (most : facts ≤ 64) where
       gives ((b, d), join c e, ap suc i)
 
   pub actions-ok :
-      (as' : List Action) (p q : ℕ) → Each (ActionOk F facts) as' → Span s (length s) p (actionsBytes as') q →
+      (as' : List Action) (p q : ℕ) → Each (ActionOk F facts) as' → Span s (length s) p (actions_bytes as') q →
       actions F s facts (length as') p ≡ got as' q
-  unfolding actions ◌>>=◌ and_then done actionsBytes
+  unfolding actions ◌>>=◌ and_then done actions_bytes
   actions-ok [] p q k r = rw (empty r)
   actions-ok (a ∷ as') p q (k, l) r =
-      split (actionBytes a) r λ m b c. rw (action-ok p a m k b, actions-ok as' m q l c)
+      split (action_bytes a) r λ m b c. rw (action-ok p a m k b, actions-ok as' m q l c)
 
 module _ (F : Limits) (sense : Sensible F) (s : List ℕ) where
-  pub problem-gives : Bytes s → Gives (problem F s 0) (λ x q. ProblemOk F x × (s ≡ encodeProblem F x))
-  unfolding problem body parts ending ◌>>=◌ ◌>>◌ and_then position done encodeProblem
+  pub problem-gives : Bytes s → Gives (problem F s 0) (λ x q. ProblemOk F x × (s ≡ encode_problem F x))
+  unfolding problem body parts ending ◌>>=◌ ◌>>◌ and_then position done encode_problem
   problem-gives sound =
-      reads (header-gives s 10 maxProblemBytes F.version 0 sound) λ _ m (i, l, z, law).
+      reads (header-gives s 10 max_problem_bytes F.version 0 sound) λ _ m (i, l, z, law).
       reads (count_gives s 15 1 F.facts m) λ facts m₁ (f₀, f₁, rf).
-      reads (count_gives s 16 0 maxActions m₁) λ n m₂ (_, a₁, ra).
+      reads (count_gives s 16 0 max_actions m₁) λ n m₂ (_, a₁, ra).
       let most : facts ≤ 64 = omega (arith, sense.facts) in
       reads (formula-gives s facts most sound m₂) λ start m₃ (ks, rs).
       reads (formula-gives s facts most sound m₃) λ goal m₄ (kg, rg).
@@ -125,24 +125,24 @@ module _ (F : Limits) (sense : Sensible F) (s : List ℕ) where
       let w = join rf (join v (join rs (join rg rn))) in
       let b : m₅ ≡ length s = omega (arith, leb-true (length s) m₅ t, span-end w (omega arith)) in
       let whole = law _ (rw (i, b) at w) in
-      let count : length acts ≤ maxActions = rw e a₁ in
-      let short = subst (λ (xs : List ℕ). length xs ≤ maxProblemBytes) whole l in
+      let count : length acts ≤ max_actions = rw e a₁ in
+      let short = subst (λ (xs : List ℕ). length xs ≤ max_problem_bytes) whole l in
       gives (search, whole)
 
-  pub problem-ok : (x : Problem) → ProblemOk F x → s ≡ encodeProblem F x → problemOf F s ≡ answered x
-  unfolding problemOf answer_of problem body parts ending ◌>>=◌ ◌>>◌ and_then position done encodeProblem require
+  pub problem-ok : (x : Problem) → ProblemOk F x → s ≡ encode_problem F x → problem_of F s ≡ answered x
+  unfolding problem_of answer_of problem body parts ending ◌>>=◌ ◌>>◌ and_then position done encode_problem require
   problem-ok x k e =
       let most : x.facts ≤ 64 = omega (arith, k.facts, sense.facts) in
-      let l : length s ≤ maxProblemBytes = subst (λ (xs : List ℕ). length xs ≤ maxProblemBytes) (sym e) k.short in
-      let (h, w) = header_ok s 10 maxProblemBytes F.version 0 _ e l (omega arith) in
+      let l : length s ≤ max_problem_bytes = subst (λ (xs : List ℕ). length xs ≤ max_problem_bytes) (sym e) k.short in
+      let (h, w) = header_ok s 10 max_problem_bytes F.version 0 _ e l (omega arith) in
       let (_, _, w₁) = first w in
       let (_, _, w₂) = first w₁ in
-      split (encodeFormula x.initial) w₂ λ m a r.
-      split (encodeFormula x.goal) r λ o b c.
+      split (encode_formula x.initial) w₂ λ m a r.
+      split (encode_formula x.goal) r λ o b c.
       rw (
         h,
-        count-ok s 15 1 F.facts 5 k.some-fact k.facts w,
-        count-ok s 16 0 maxActions 6 (omega arith) k.count w₁,
+        count-ok s 15 1 F.facts 5 k.some_fact k.facts w,
+        count-ok s 16 0 max_actions 6 (omega arith) k.count w₁,
         formula-ok s x.facts most 7 x.initial m k.initial a,
         formula-ok s x.facts most m x.goal o k.goal b,
         actions-ok F s x.facts most x.actions o (length s) k.actions c,
@@ -170,18 +170,18 @@ module _ (s : List ℕ) where
       let (_, e, v) = first r in
       rw (e, lt-ltb b m l, steps-ok m bs (p + 1) q k v)
 
-  pub plan-gives : (m : ℕ) → Bytes s → Gives (plan s m 0) (λ bs q. PlanOk m bs × (s ≡ encodePlan bs) × (q ≡ length s))
-  unfolding plan ◌>>◌ encodePlan
+  pub plan-gives : (m : ℕ) → Bytes s → Gives (plan s m 0) (λ bs q. PlanOk m bs × (s ≡ encode_plan bs) × (q ≡ length s))
+  unfolding plan ◌>>◌ encode_plan
   plan-gives m sound =
-      reads (header-gives s 30 (5 + maxSteps) 1 0 sound) λ _ o (i, l, z, law).
+      reads (header-gives s 30 (5 + max_steps) 1 0 sound) λ _ o (i, l, z, law).
       ends (steps-give m (length s - 5) o (omega arith)) λ bs q (a, b, c).
       let e : q ≡ length s = omega arith in
       (record { count = omega (arith, span-length b); actions = a }, law bs (rw (i, e) at b), e)
 
-  pub plan-ok : (m : ℕ) (bs : List ℕ) → PlanOk m bs → s ≡ encodePlan bs → plan_of s m ≡ answered bs
-  unfolding plan_of answer_of plan ◌>>◌ encodePlan and_then
+  pub plan-ok : (m : ℕ) (bs : List ℕ) → PlanOk m bs → s ≡ encode_plan bs → plan_of s m ≡ answered bs
+  unfolding plan_of answer_of plan ◌>>◌ encode_plan and_then
   plan-ok m bs k e =
       let l = ap length e ∙ length-block 1 bs in
-      let (h, w) = header_ok s 30 (5 + maxSteps) 1 0 bs e (omega (arith, k.count)) (omega arith) in
+      let (h, w) = header_ok s 30 (5 + max_steps) 1 0 bs e (omega (arith, k.count)) (omega arith) in
       let n : length s - 5 ≡ length bs = omega (arith, span-length w) in
       rw (h, n, steps-ok m bs 5 (length s) k.actions w)

@@ -14,7 +14,7 @@ use lib.Pow.{pow-add}
 use lib.Dec.{leb, lit<}
 use borrow.Author.Tests.{leb-true, eqb-true, lt-ltb, le-ltb, le-leb, eq-eqb}
 use Rattle.model.specs.Answer.{answered}
-use Rattle.model.specs.Read.{Read, reject, got, Reader, and_then, ◌>>=◌, ◌>>◌, done, position, require, answer_of, bigEndianFrom, bigEndian, bytes_of, block, byte, header, count}
+use Rattle.model.specs.Read.{Read, reject, got, Reader, and_then, ◌>>=◌, ◌>>◌, done, position, require, answer_of, big_endian_from, big_endian, bytes_of, block, byte, header, count}
 use Rattle.model.specs.WellFormed.{Bytes}
 use Rattle.model.specs.Stands.{Span, nothing, next}
 use Rattle.model.proofs.Laws.Truth.{and-true}
@@ -81,7 +81,7 @@ module _ {s : List ℕ} {end : ℕ} where
       {C : Type 0} {ys : List ℕ} {p q : ℕ} (xs : List ℕ) → Span s end p (xs ++ ys) q →
       ((m : ℕ) → Span s end p xs m → Span s end m ys q → C) → C
   split {p = p} [] h f = f p (nothing refl) h
-  split (x ∷ xs) h f = split xs (first h).2 λ m a b. f m (next (first h).0 (first h).1 a) b
+  split {p = p} (x ∷ xs) h f = split {p = p + 1} xs (first h).2 λ m a b. f m (next (first h).0 (first h).1 a) b
 
   pub span-length : {xs : List ℕ} {p q : ℕ} → Span s end p xs q → q ≡ p + length xs
   span-length (nothing e) = omega arith
@@ -140,30 +140,30 @@ byte-bits (suc n) =
     let e : 8 * suc n ≡ 8 * n + 8 = omega arith in
     rw (pow-suc 256 n, byte-bits n, e, pow-add 2 (8 * n) 8)
 
-pub length-bytesOf : (k n : ℕ) → length (bytes_of k n) ≡ k
+pub length-bytes_of : (k n : ℕ) → length (bytes_of k n) ≡ k
 unfolding bytes_of
-length-bytesOf zero n = refl
-length-bytesOf (suc k) n = ap suc (length-bytesOf k n)
+length-bytes_of zero n = refl
+length-bytes_of (suc k) n = ap suc (length-bytes_of k n)
 
-from-bytesOf : (k n a : ℕ) → bigEndianFrom a (bytes_of k n) ≡ a * 256 ^ k + n % 256 ^ k
-unfolding bigEndianFrom bytes_of
-from-bytesOf zero n a = omega (arith, mod-one n)
-from-bytesOf (suc k) n a =
-    rw (from-bytesOf k n (a * 256 + (n / 256 ^ k) % 256), pow-suc 256 k, mul_comm (256 ^ k) 256, mod-mul n {m = 256} {c = 256 ^ k} (lit< tt) (one-le-pow k 256 (lit< tt)), add-mul, mul_assoc, add_assoc)
+from-bytes_of : (k n a : ℕ) → big_endian_from a (bytes_of k n) ≡ a * 256 ^ k + n % 256 ^ k
+unfolding big_endian_from bytes_of
+from-bytes_of zero n a = omega (arith, mod-one n)
+from-bytes_of (suc k) n a =
+    rw (from-bytes_of k n (a * 256 + (n / 256 ^ k) % 256), pow-suc 256 k, mul_comm (256 ^ k) 256, mod-mul n {m = 256} {c = 256 ^ k} (lit< tt) (one-le-pow k 256 (lit< tt)), add-mul, mul_assoc, add_assoc)
 
-from-div : (xs : List ℕ) (a : ℕ) → Bytes xs → bigEndianFrom a xs / 256 ^ length xs ≡ a
-unfolding bigEndianFrom
+from-div : (xs : List ℕ) (a : ℕ) → Bytes xs → big_endian_from a xs / 256 ^ length xs ≡ a
+unfolding big_endian_from
 from-div [] a h = omega arith
 from-div (x ∷ xs) a h = rw (pow-suc 256 (length xs), ← div-div-eq-div-mul, from-div xs (a * 256 + x) (λ i. h (suc i))) (omega (arith, h 0))
 
-pub bytesOf-from : (xs : List ℕ) (a : ℕ) → Bytes xs → bytes_of (length xs) (bigEndianFrom a xs) ≡ xs
-unfolding bigEndianFrom bytes_of
-bytesOf-from [] a h = refl
-bytesOf-from (x ∷ xs) a h =
+pub bytes_of-from : (xs : List ℕ) (a : ℕ) → Bytes xs → bytes_of (length xs) (big_endian_from a xs) ≡ xs
+unfolding big_endian_from bytes_of
+bytes_of-from [] a h = refl
+bytes_of-from (x ∷ xs) a h =
     let e : (a * 256 + x) % 256 ≡ x = omega (arith, h 0) in
-    rw (from-div xs (a * 256 + x) (λ i. h (suc i)), bytesOf-from xs (a * 256 + x) (λ i. h (suc i)), e)
+    rw (from-div xs (a * 256 + x) (λ i. h (suc i)), bytes_of-from xs (a * 256 + x) (λ i. h (suc i)), e)
 
-span-bytes : {s xs : List ℕ} {end p q : ℕ} → Bytes s → Span s end p xs q → Bytes xs
+span-bytes : {s : List ℕ} {end : ℕ} {xs : List ℕ} {p q : ℕ} → Bytes s → Span s end p xs q → Bytes xs
 span-bytes sound (nothing e) i = omega arith
 span-bytes sound (next {p = p} l e h) zero = rw e at (sound p)
 span-bytes sound (next l e h) (suc i) = span-bytes sound h i
@@ -172,23 +172,23 @@ span-bytes sound (next l e h) (suc i) = span-bytes sound h i
 module _ (s : List ℕ) (k p q : ℕ) where
   pub number-got :
       Bytes s → p + k ≡ q → q ≤ length s →
-      (bigEndian (take k (drop p s)) < 256 ^ k) × Span s (length s) p (bytes_of k (bigEndian (take k (drop p s)))) q
+      (big_endian (take k (drop p s)) < 256 ^ k) × Span s (length s) p (bytes_of k (big_endian (take k (drop p s)))) q
   number-got sound e l =
       let r = span-here {s = s} k p q e l in
       let n : length (take k (drop p s)) ≡ k = omega (arith, span-length r) in
       let b = span-bytes sound r in
-      let f : bigEndian (take k (drop p s)) / 256 ^ k < 1 = omega (arith, rw n at (from-div (take k (drop p s)) 0 b)) in (
+      let f : big_endian (take k (drop p s)) / 256 ^ k < 1 = omega (arith, rw n at (from-div (take k (drop p s)) 0 b)) in (
         rw one-mul at ((div-lt_iff_lt-mul {y = 1} (one-le-pow k 256 (lit< tt))).0 f),
-        rw (rw n at (bytesOf-from (take k (drop p s)) 0 b)) r,
+        rw (rw n at (bytes_of-from (take k (drop p s)) 0 b)) r,
       )
 
-  pub number_ok : (n : ℕ) → n < 256 ^ k → Span s (length s) p (bytes_of k n) q → bigEndian (take k (drop p s)) ≡ n
-  number_ok n l h = rw (rw length-bytesOf at (span-is h)) (from-bytesOf k n 0 ∙ rw (mod-eq_of_lt l, zero-mul, zero-add))
+  pub number_ok : (n : ℕ) → n < 256 ^ k → Span s (length s) p (bytes_of k n) q → big_endian (take k (drop p s)) ≡ n
+  number_ok n l h = rw (rw length-bytes_of at (span-is h)) (from-bytes_of k n 0 ∙ rw (mod-eq_of_lt l, zero-mul, zero-add))
 
 -- headers
 pub length-block : (version : ℕ) (body : List ℕ) → length (block version body) ≡ 5 + length body
 unfolding block
-length-block version body = rw (length-append (bytes_of 4 (length body)) body, length-bytesOf) (omega arith)
+length-block version body = rw (length-append (bytes_of 4 (length body)) body, length-bytes_of) (omega arith)
 
 module _ (s : List ℕ) (number most version p : ℕ) where
   pub header-gives :
@@ -203,13 +203,13 @@ module _ (s : List ℕ) (number most version p : ℕ) where
       tests _ _ _ _ _ λ t₄.
       let l = leb-true 5 (length s) t₂ in
       let o : 0 < length s = omega arith in
-      let f = eqb-true (bigEndian (take 4 (drop 1 s))) (length s - 5) t₄ in
+      let f = eqb-true (big_endian (take 4 (drop 1 s))) (length s - 5) t₄ in
       gives (
         refl,
         leb-true (length s) most t₁,
         l,
         λ body k.
-            let e : bigEndian (take 4 (drop 1 s)) ≡ length body = omega (arith, span-length k) in
+            let e : big_endian (take 4 (drop 1 s)) ≡ length body = omega (arith, span-length k) in
             whole_is (next o (eqb-true _ _ t₃) (join (rw e at (number-got s 4 1 5 sound (omega arith) l).1) k)),
       )
 
@@ -220,14 +220,14 @@ module _ (s : List ℕ) (number most version p : ℕ) where
   header_ok body e l k =
       let (o, v, r) = first (subst (λ (xs : List ℕ). Span s (length s) 0 xs (length s)) e is_whole) in
       split (bytes_of 4 (length body)) r λ m a c.
-      let i : m ≡ 5 = omega (arith, span-length a, length-bytesOf 4 (length body)) in
+      let i : m ≡ 5 = omega (arith, span-length a, length-bytes_of 4 (length body)) in
       let j = span-length c in
-      let n : bigEndian (take 4 (drop 1 s)) ≡ length s - 5 = number_ok s 4 1 m (length body) (omega arith) a ∙ omega arith in (
+      let n : big_endian (take 4 (drop 1 s)) ≡ length s - 5 = number_ok s 4 1 m (length body) (omega arith) a ∙ omega arith in (
         rw (
           le-leb (length s) most l,
           le-leb 5 (length s) (omega arith),
           eq-eqb (get_or s 0 0) version v,
-          eq-eqb (bigEndian (take 4 (drop 1 s))) (length s - 5) n,
+          eq-eqb (big_endian (take 4 (drop 1 s))) (length s - 5) n,
         ),
         rw i at c,
       )

@@ -11,8 +11,8 @@ use lib.Dec.{eqb}
 use borrow.Author.Tests.{eqb-true}
 use Rattle.model.specs.Answer.{Answer, refused, answered, ◌>>=◌}
 use Rattle.model.specs.Walk.{Look, Line}
-use Rattle.model.specs.CaseList.{refuseAt, ends, fault, follow}
-use Rattle.model.specs.Cover.{CoveredBy, CoveredOnce, CoversTo, coverEnd, FaultAt, RunningEnd}
+use Rattle.model.specs.CaseList.{refuse_at, ends, fault, follow}
+use Rattle.model.specs.Cover.{CoveredBy, CoveredOnce, CoversTo, cover_end, FaultAt, RunningEnd}
 use Rattle.model.proofs.Laws.Following.{refuse-at-answered, ends-answered, fault-none}
 use Rattle.model.proofs.Laws.Tasks.{answer-then}
 
@@ -24,9 +24,9 @@ module _ (w : ℕ) (look : ℕ → ℕ → Look) (n : ℕ) where
 
   -- lines that are followed from x to e cover the numbers between, each once
   between :
-      (ls : List Line) (i x e : ℕ) → coverEnd w look n ls i x ≡ answered e →
+      (ls : List Line) (i x e : ℕ) → cover_end w look n ls i x ≡ answered e →
       (x ≤ e) × ((y : ℕ) → ((x ≤ y) × (y < e)) ↔ CoveredBy w ls y) × CoveredOnce w ls
-  unfolding coverEnd
+  unfolding cover_end
   between [] i x e h = let z : x ≡ e = cc in (omega arith, (λ y. ((λ (a, b). absurd (omega arith)), (λ c. absurd c))), tt)
   between (l ∷ ls) i x e h =
       let (none, r) = refuse-at-answered (fault w look n l x) i e _ h in
@@ -36,20 +36,20 @@ module _ (w : ℕ) (look : ℕ → ℕ → Look) (n : ℕ) where
         (λ y. (
           (λ (a, b).
               elim (dec_lt y (x + 2 ^ (w - l.k))) [
-                | yes c ↦ inl (record { begun = omega arith; not-past = omega arith })
+                | yes c ↦ inl (record { begun = omega arith; not_past = omega arith })
                 | no c ↦ inr ((there y).0 (omega arith, b))
               ]),
-          (λ s. ⊎_elim (λ c. (omega (arith, c.begun), omega (arith, c.not-past))) (λ c. let (a, b) = (there y).1 c in (omega arith, b)) s),
+          (λ s. ⊎_elim (λ c. (omega (arith, c.begun), omega (arith, c.not_past))) (λ c. let (a, b) = (there y).1 c in (omega arith, b)) s),
         )),
-        ((λ y c d. let (a, _) = (there y).1 d in omega (arith, c.not-past)), once),
+        ((λ y c d. let (a, _) = (there y).1 d in omega (arith, c.not_past)), once),
       )
 
-  pub covers-to : (ls : List Line) (e : ℕ) → coverEnd w look n ls 0 0 ≡ answered e → CoversTo w ls e
+  pub covers-to : (ls : List Line) (e : ℕ) → cover_end w look n ls 0 0 ≡ answered e → CoversTo w ls e
   covers-to ls e h =
       let (_, there, once) = between ls 0 0 e h in
       let exactly : (x : ℕ) → (x < e) ↔ CoveredBy w ls x = λ x. ((λ a. (there x).0 (zero-le, a)), (λ c. ((there x).1 c).1)) in
       record {
-        is-end =
+        is_end =
             record {
               above = λ x c. (exactly x).1 c;
               least = λ d below. elim (dec_le e d) [ yes p ↦ p | no p ↦ let c = below d ((exactly d).0 (omega arith)) in absurd (omega arith) ];
@@ -60,23 +60,23 @@ module _ (w : ℕ) (look : ℕ → ℕ → Look) (n : ℕ) where
 
   -- ---- the lines before a fault
 
-  pub next-line : (l : Line) (ls : List Line) (i x : ℕ) → fault w look n l x ≡ 0 → coverEnd w look n (l ∷ ls) i x ≡ coverEnd w look n ls (suc i) (x + 2 ^ (w - l.k))
-  unfolding coverEnd refuseAt
-  next-line l ls i x e = rw (e, refuseAt)
+  pub next-line : (l : Line) (ls : List Line) (i x : ℕ) → fault w look n l x ≡ 0 → cover_end w look n (l ∷ ls) i x ≡ cover_end w look n ls (suc i) (x + 2 ^ (w - l.k))
+  unfolding cover_end refuse_at
+  next-line l ls i x e = rw (e, refuse_at)
 
-  pub fault-line : (l : Line) (ls : List Line) (i x f : ℕ) → fault w look n l x ≡ f → 0 < f → coverEnd w look n (l ∷ ls) i x ≡ refused f i
-  unfolding coverEnd
+  pub fault-line : (l : Line) (ls : List Line) (i x f : ℕ) → fault w look n l x ≡ f → 0 < f → cover_end w look n (l ∷ ls) i x ≡ refused f i
+  unfolding cover_end
   fault-line l ls i x f e h = rw e (refuses f h)
     where
-      refuses : (f : ℕ) → 0 < f → refuseAt f i (coverEnd w look n ls (suc i) (x + 2 ^ (w - l.k))) ≡ refused f i
+      refuses : (f : ℕ) → 0 < f → refuse_at f i (cover_end w look n ls (suc i) (x + 2 ^ (w - l.k))) ≡ refused f i
       refuses zero h = absurd (omega arith)
-      refuses (suc f) h = unfold refuseAt in refl
+      refuses (suc f) h = unfold refuse_at in refl
 
   -- lines among which no fault was found have a running value after the first i
   prefix :
-      (ls : List Line) (j x i : ℕ) → ((f p : ℕ) → coverEnd w look n ls j x ≡ refused f p → j + i ≤ p) →
-      (e : ℕ) × (coverEnd w look n (take i ls) j x ≡ answered e)
-  unfolding coverEnd
+      (ls : List Line) (j x i : ℕ) → ((f p : ℕ) → cover_end w look n ls j x ≡ refused f p → j + i ≤ p) →
+      (e : ℕ) × (cover_end w look n (take i ls) j x ≡ answered e)
+  unfolding cover_end
   prefix ls j x zero h = (x, refl)
   prefix [] j x (suc i) h = (x, refl)
   prefix (l ∷ ls) j x (suc i) h =
@@ -90,9 +90,9 @@ module _ (w : ℕ) (look : ℕ → ℕ → Look) (n : ℕ) where
 
   -- where the first fault is found, from line j and number x on
   found :
-      {C : Type 0} (ls : List Line) (j x f p : ℕ) → coverEnd w look n ls j x ≡ refused f p →
-      ((i e : ℕ) (l : Line) (after : List Line) → p ≡ j + i → coverEnd w look n (take i ls) j x ≡ answered e → drop i ls ≡ l ∷ after → fault w look n l e ≡ f → C) → C
-  unfolding coverEnd
+      {C : Type 0} (ls : List Line) (j x f p : ℕ) → cover_end w look n ls j x ≡ refused f p →
+      ((i e : ℕ) (l : Line) (after : List Line) → p ≡ j + i → cover_end w look n (take i ls) j x ≡ answered e → drop i ls ≡ l ∷ after → fault w look n l e ≡ f → C) → C
+  unfolding cover_end
   found [] j x f p h c = let z : ◌≡◌ {A = ℕ} 0 1 = cc in absurd (omega arith)
   found (l ∷ ls) j x f p h c =
       elim (dec_lt 0 (fault w look n l x)) [
@@ -103,7 +103,7 @@ module _ (w : ℕ) (look : ℕ → ℕ → Look) (n : ℕ) where
             c (suc i) e m after (omega arith) (next-line l (take i ls) j x none ∙ before) stands is
       ]
 
-  pub fault-at : (ls : List Line) (f i : ℕ) → coverEnd w look n ls 0 0 ≡ refused f i → FaultAt w look n ls f i
+  pub fault-at : (ls : List Line) (f i : ℕ) → cover_end w look n ls 0 0 ≡ refused f i → FaultAt w look n ls f i
   fault-at ls f i h =
       found ls 0 0 f i h λ j e l after place before stands is.
       let z : j ≡ i = omega arith in
@@ -111,43 +111,43 @@ module _ (w : ℕ) (look : ℕ → ℕ → Look) (n : ℕ) where
 
   -- ---- following
 
-  refuse-then : (c i : ℕ) (a : Answer ℕ) (k : ℕ → Answer ℕ) → refuseAt c i (a >>= k) ≡ refuseAt c i a >>= k
-  unfolding refuseAt ◌>>=◌
+  refuse-then : (c i : ℕ) (a : Answer ℕ) (k : ℕ → Answer ℕ) → refuse_at c i (a >>= k) ≡ refuse_at c i a >>= k
+  unfolding refuse_at ◌>>=◌
   refuse-then zero i a k = refl
   refuse-then (suc c) i a k = refl
 
-  follow-ends : (ls : List Line) (i x : ℕ) → follow w look n ls i x ≡ coverEnd w look n ls i x >>= λ e. ends (eqb e (2 ^ w)) (i + length ls)
-  unfolding follow coverEnd ◌>>=◌
+  follow-ends : (ls : List Line) (i x : ℕ) → follow w look n ls i x ≡ cover_end w look n ls i x >>= λ e. ends (eqb e (2 ^ w)) (i + length ls)
+  unfolding follow cover_end ◌>>=◌
   follow-ends [] i x = ap (ends (eqb x (2 ^ w))) (omega arith)
   follow-ends (l ∷ ls) i x =
       let z : suc i + length ls ≡ i + suc (length ls) = omega arith in
-      ap (refuseAt (fault w look n l x) i) (follow-ends ls (suc i) (x + 2 ^ (w - l.k))) ∙
+      ap (refuse_at (fault w look n l x) i) (follow-ends ls (suc i) (x + 2 ^ (w - l.k))) ∙
       rw z (refuse-then (fault w look n l x) i _ _)
 
-  pub same-answers : (ls : List Line) → follow w look n ls 0 0 ≡ coverEnd w look n ls 0 0 >>= λ e. ends (eqb e (2 ^ w)) (length ls)
-  same-answers ls = follow-ends ls 0 0 ∙ ap (λ (m : ℕ). coverEnd w look n ls 0 0 >>= λ e. ends (eqb e (2 ^ w)) m) (omega arith)
+  pub same_answers : (ls : List Line) → follow w look n ls 0 0 ≡ cover_end w look n ls 0 0 >>= λ e. ends (eqb e (2 ^ w)) (length ls)
+  same_answers ls = follow-ends ls 0 0 ∙ ap (λ (m : ℕ). cover_end w look n ls 0 0 >>= λ e. ends (eqb e (2 ^ w)) m) (omega arith)
 
   -- lines among which no fault was found have an end after the first i, which is that of what they cover
   pub end_kept :
-      (ls : List Line) (i : ℕ) → ((f p : ℕ) → coverEnd w look n ls 0 0 ≡ refused f p → i ≤ p) →
-      (e : ℕ) × (coverEnd w look n (take i ls) 0 0 ≡ answered e) × CoversTo w (take i ls) e
+      (ls : List Line) (i : ℕ) → ((f p : ℕ) → cover_end w look n ls 0 0 ≡ refused f p → i ≤ p) →
+      (e : ℕ) × (cover_end w look n (take i ls) 0 0 ≡ answered e) × CoversTo w (take i ls) e
   end_kept ls i h = let (e, r) = prefix ls 0 0 i (λ f p g. omega (arith, h f p g)) in (e, r, covers-to (take i ls) e r)
 
   -- what is left is followed from the running value on
-  goes_on :
-      (ls : List Line) (j x i e : ℕ) → coverEnd w look n (take i ls) j x ≡ answered e → i ≤ length ls →
+  continues :
+      (ls : List Line) (j x i e : ℕ) → cover_end w look n (take i ls) j x ≡ answered e → i ≤ length ls →
       follow w look n ls j x ≡ follow w look n (drop i ls) (j + i) e
-  unfolding coverEnd follow refuseAt
-  goes_on ls j x zero e h l = let z : x ≡ e = cc in rw z (ap (λ (k : ℕ). follow w look n ls k e) (omega arith))
-  goes_on [] j x (suc i) e h l = absurd (omega arith)
-  goes_on (l ∷ ls) j x (suc i) e h k =
+  unfolding cover_end follow refuse_at
+  continues ls j x zero e h l = let z : x ≡ e = cc in rw z (ap (λ (k : ℕ). follow w look n ls k e) (omega arith))
+  continues [] j x (suc i) e h l = absurd (omega arith)
+  continues (l ∷ ls) j x (suc i) e h k =
       let (none, r) = refuse-at-answered (fault w look n l x) j e _ h in
       let z : suc j + i ≡ j + suc i = omega arith in
-      rw (none, refuseAt, ← z) (goes_on ls (suc j) _ i e r (omega arith))
+      rw (none, refuse_at, ← z) (continues ls (suc j) _ i e r (omega arith))
 
   whole : (ls : List Line) (m : ℕ) → follow w look n ls 0 0 ≡ answered m → CoversTo w ls (2 ^ w)
   whole ls m h =
-      answer-then (sym (same-answers ls) ∙ h) λ e r t.
+      answer-then (sym (same_answers ls) ∙ h) λ e r t.
       let z = eqb-true e (2 ^ w) (ends-answered _ (length ls) m t).0 in
       subst (CoversTo w ls) z (covers-to ls e r)
 
@@ -155,11 +155,11 @@ module _ (w : ℕ) (look : ℕ → ℕ → Look) (n : ℕ) where
   unfolding ◌>>=◌
   running-end =
       record {
-        is-end =
+        is_end =
             λ ls i h.
-            let (e, r, c) = end_kept ls i (λ f p g. h f p (same-answers ls ∙ rw g)) in
-            record { end = e; running = r; goes_on = λ l. goes_on ls 0 0 i e r l ∙ ap (λ (k : ℕ). follow w look n (drop i ls) k e) (omega arith); covers = c };
-        at-fault = fault-at;
-        same-answers = same-answers;
-        passes-whole = whole;
+            let (e, r, c) = end_kept ls i (λ f p g. h f p (same_answers ls ∙ rw g)) in
+            record { end = e; running = r; continues = λ l. continues ls 0 0 i e r l ∙ ap (λ (k : ℕ). follow w look n (drop i ls) k e) (omega arith); covers = c };
+        at_fault = fault-at;
+        same_answers = same_answers;
+        passes_whole = whole;
       }

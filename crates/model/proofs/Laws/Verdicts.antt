@@ -14,7 +14,7 @@ use Rattle.model.specs.Formula.{Formula, eval}
 use Rattle.model.specs.Action.{Action}
 use Rattle.model.specs.Run.{Outcome, reached, missed, blocked, run}
 use Rattle.model.specs.Case.{bit, state_of, case_of, Task, run_of, initially, IsState, Right}
-use Rattle.model.specs.Walk.{Kind, closed, opened, Line, Walked, covered, failed, visits, look_of, lookEnd, Verdict, right, wrong, undecided, initialAt, run_at, lookAt, walked, found, judged}
+use Rattle.model.specs.Walk.{Kind, closed, opened, Line, Walked, covered, failed, visits, look_of, look_end, Verdict, right, wrong, undecided, initial_at, run_at, look_at, walked, found, judged}
 use Rattle.model.specs.Demands.{LowestFailing}
 use Rattle.model.proofs.Laws.Agreement.{Along, eval-keeps, tabulate-keeps, run-keeps, run-same, Refines, same, wider, refining, refines-yes, Exact, exact, yes-exact, known-inj, refines-known}
 use Rattle.model.proofs.Laws.Cover.{Block, agree, Traced, walk-traced, fails-at, covering, Follows, closes-follows, closes-visits, fewest, root-span, mod-of-block}
@@ -63,7 +63,7 @@ module _ (w n : ℕ) where
 abbrev Shut : Kleene → Outcome → Type 0
 Shut t r = (t ≡ No) ⊎ (r ≡ reached)
 
-end-closed : (r : Outcome) {κ : Kind} → lookEnd r ≡ closed κ → r ≡ reached
+end-closed : (r : Outcome) {κ : Kind} → look_end r ≡ closed κ → r ≡ reached
 end-closed reached e = refl
 end-closed missed e = cc
 end-closed (blocked i) e = cc
@@ -87,11 +87,11 @@ walk_ends (failed s a) = inr (s, a, refl)
 module _ (T : Task) (n≤w : T.facts ≤ T.width) where
   -- what a closed case admits is closed
   shut : (k v k' v' : ℕ) (κ : Kind) → k ≤ k' → k' ≤ T.facts → Block T.width k v → v ≤ v' → v' < v + 2 ^ (T.width - k)
-      → lookAt T k v ≡ closed κ → Shut (initialAt T k' v') (run_at T k' v')
-  unfolding lookAt
+      → look_at T k v ≡ closed κ → Shut (initial_at T k' v') (run_at T k' v')
+  unfolding look_at
   shut k v k' v' κ h h' b l g e =
       let ad : Admits T.width T.facts k v v' = λ i j. agree T.width k v v' i (omega arith) b l g j in
-      elim (look-closed (initialAt T k v) (run_at T k v) e) [
+      elim (look-closed (initial_at T k v) (run_at T k v) e) [
         | inl p ↦ inl (refines-known false (eval-refines T.width T.facts k v k' v' h ad T.initial) p)
         | inr p ↦ inr (run-refines T.width T.facts T.goal T.plan k v k' v' h ad p)
       ]
@@ -99,7 +99,7 @@ module _ (T : Task) (n≤w : T.facts ≤ T.width) where
   abbrev Good : ℕ → Type 0
   Good s = initially T s ≡ true → run_of T s ≡ reached
 
-  good : (k v s : ℕ) (κ : Kind) → k ≤ T.facts → Block T.width k v → lookAt T k v ≡ closed κ → v ≤ s → s < v + 2 ^ (T.width - k) → Good s
+  good : (k v s : ℕ) (κ : Kind) → k ≤ T.facts → Block T.width k v → look_at T k v ≡ closed κ → v ≤ s → s < v + 2 ^ (T.width - k) → Good s
   unfolding run_of initially
   good k v s κ h b e l g st =
       elim (shut k v T.facts s κ h (omega arith) b l g e) [
@@ -109,46 +109,46 @@ module _ (T : Task) (n≤w : T.facts ≤ T.width) where
 
   -- a list whose lines hold, one after the other, over all numbers
   abbrev pub Passes : List Line → Type 0
-  Passes ls = Follows T.width (lookAt T) T.facts ls 0
+  Passes ls = Follows T.width (look_at T) T.facts ls 0
 
   pub passes-right : (ls : List Line) → Passes ls → Right T
   passes-right ls f s st =
-      covering T.width (lookAt T) T.facts ls 0 f s zero-le st.state.in-width (λ k v κ _. good k v s κ) st.starts
+      covering T.width (look_at T) T.facts ls 0 f s zero-le st.state.in_width (λ k v κ _. good k v s κ) st.starts
 
-  traced : (r : Walked) → walked T ≡ r → Traced T.width (lookAt T) T.facts 0 0 r
+  traced : (r : Walked) → walked T ≡ r → Traced T.width (look_at T) T.facts 0 0 r
   unfolding walked
-  traced r e = subst (Traced T.width (lookAt T) T.facts 0 0) e (walk-traced T.width (lookAt T) T.facts n≤w)
+  traced r e = subst (Traced T.width (look_at T) T.facts 0 0) e (walk-traced T.width (look_at T) T.facts n≤w)
 
   pub walk-fails-first : (s a : ℕ) → walked T ≡ failed s a → LowestFailing T s
-  unfolding lookAt run_of initially
+  unfolding look_at run_of initially
   walk-fails-first s a e =
       let none : (t : ℕ) → t < 0 → Good t = λ t l. absurd (omega arith) in
-      let (at, block, high, before) = fails-at T.width (lookAt T) T.facts n≤w Good good (traced (failed s a) e) none in
-      let o = look-open (initialAt T T.facts s) (run_at T T.facts s) at in
+      let (at, block, high, before) = fails-at T.width (look_at T) T.facts n≤w Good good (traced (failed s a) e) none in
+      let o = look-open (initial_at T T.facts s) (run_at T T.facts s) at in
       let starts = (not-eq-not {a = initially T s} {b = true}).0 (λ p. o (inl (read-full T.width T.facts s T.initial ∙ ap known p))) in
-      let state : IsState T s = record { in-width = high; no_bits = mod-of-block T.width T.facts s block } in
+      let state : IsState T s = record { in_width = high; no_bits = mod-of-block T.width T.facts s block } in
       record {
         start = record { state = state; starts = starts };
-        not-reached = λ p. o (inr (run-full T.width T.facts T.goal T.plan s ∙ p));
+        not_reached = λ p. o (inr (run-full T.width T.facts T.goal T.plan s ∙ p));
         before = λ t st l. before t l st.starts;
       }
 
-  pub walk-visits : (ls : List Line) (a : ℕ) → walked T ≡ covered ls a → suc a ≡ 2 * length ls
-  walk-visits ls a e = closes-visits T.width (lookAt T) T.facts n≤w (traced (covered ls a) e)
+  pub walk_visits : (ls : List Line) (a : ℕ) → walked T ≡ covered ls a → suc a ≡ 2 * length ls
+  walk_visits ls a e = closes-visits T.width (look_at T) T.facts n≤w (traced (covered ls a) e)
 
   pub walk-passes : (ls : List Line) (a : ℕ) → walked T ≡ covered ls a → Passes ls
   walk-passes ls a e =
       rw append-nil at
-      (closes-follows T.width (lookAt T) T.facts n≤w (traced (covered ls a) e) [] (omega (arith, root-span T.width)))
+      (closes-follows T.width (look_at T) T.facts n≤w (traced (covered ls a) e) [] (omega (arith, root-span T.width)))
 
   pub walk-closes-right : (ls : List Line) (a : ℕ) → walked T ≡ covered ls a → Right T
   walk-closes-right ls a e = passes-right ls (walk-passes ls a e)
 
   pub walk-fewest : (ls : List Line) (a : ℕ) → walked T ≡ covered ls a → (ms : List Line) → Passes ms → length ls ≤ length ms
-  unfolding lookAt
+  unfolding look_at
   walk-fewest ls a e ms f =
-      fewest T.width (lookAt T) T.facts n≤w ms f
-      (λ k v k' v' κ h h' b l g c o. look-open (initialAt T k' v') (run_at T k' v') o (shut k v k' v' κ h h' b l g c)) (traced (covered ls a) e)
+      fewest T.width (look_at T) T.facts n≤w ms f
+      (λ k v k' v' κ h h' b l g c o. look-open (initial_at T k' v') (run_at T k' v') o (shut k v k' v' κ h h' b l g c)) (traced (covered ls a) e)
 
   pub judged-out : (g : ℕ) → g < visits (walked T) → judged T g ≡ undecided g
   unfolding judged
@@ -158,8 +158,8 @@ module _ (T : Task) (n≤w : T.facts ≤ T.width) where
   unfolding judged
   judged-in g r e h = rw (le-leb (visits (walked T)) g h, e)
 
-  pub larger-grant : (g g' : ℕ) → g ≤ g' → judged T g ≢ undecided g → judged T g' ≡ judged T g
-  larger-grant g g' h d =
+  pub larger_grant : (g g' : ℕ) → g ≤ g' → judged T g ≢ undecided g → judged T g' ≡ judged T g
+  larger_grant g g' h d =
       elim (dec_le (visits (walked T)) g) [
         | yes l ↦ rw (judged-in g (walked T) refl l, judged-in g' (walked T) refl (omega arith))
         | no l ↦ absurd (d (judged-out g (omega arith)))
@@ -176,7 +176,7 @@ module _ (T : Task) (n≤w : T.facts ≤ T.width) where
       elim (dec_le (visits (walked T)) g) [
         | yes l ↦
             elim (walk_ends (walked T)) [
-              | inl (ls, a, e) ↦ rw (judged-in g (covered ls a) e l) (e, walk-closes-right ls a e, walk-visits ls a e, rw e at l)
+              | inl (ls, a, e) ↦ rw (judged-in g (covered ls a) e l) (e, walk-closes-right ls a e, walk_visits ls a e, rw e at l)
               | inr (s, a, e) ↦ rw (judged-in g (failed s a) e l) (e, walk-fails-first s a e, refl, rw e at l)
             ]
         | no l ↦ rw (judged-out g (omega arith)) (refl, omega arith)
@@ -187,5 +187,5 @@ module _ (T : Task) (n≤w : T.facts ≤ T.width) where
   right-closes r =
       elim (walk_ends (walked T)) [
         | inl c ↦ c
-        | inr (s, a, e) ↦ let f = walk-fails-first s a e in absurd (f.not-reached (r s f.start))
+        | inr (s, a, e) ↦ let f = walk-fails-first s a e in absurd (f.not_reached (r s f.start))
       ]

@@ -1,0 +1,31 @@
+-- What is proved of the definitions. Each record is the contract of a function of src/theorems.rt, so that no check passes without it.
+use Rattle.std.specs.Prelude.{ℕ}
+use Rattle.model.specs.declared.Limits.{Limits}
+use Rattle.model.specs.Kleene.{two, three}
+use Rattle.model.specs.Action.{OrderFree}
+use Rattle.model.specs.Walk.{Look}
+use Rattle.model.specs.Cover.{RunningEnd}
+use Rattle.model.specs.WellFormed.{Sensible}
+use Rattle.model.specs.Demands.{Demands}
+use Rattle.model.specs.Trials.{Hold, starred, NoStart, edges, DeskGrant, unmet_members, conflicts, running_ends, relevances, searches}
+
+pub record Theorems : Type 0 where
+  -- the three demands, and what W-204 and W-205 ask to be proved, of every version whose numbers are sensible
+  pub demands : (F : Limits) → Sensible F → Demands F
+  -- W-203, for every width, fact count and look
+  pub running_ends : (w : ℕ) (look : ℕ → ℕ → Look) (n : ℕ) → RunningEnd w look n
+  -- document 004's assumption, in states and in cases
+  pub free_in_states : OrderFree two
+  pub free_in_cases : OrderFree three
+
+-- the tables of Trials, and the two statements that no row can make
+pub record TrialsHold : Type 0 where
+  pub starred : Hold starred
+  pub no_start : NoStart
+  pub edges : Hold edges
+  pub desk_grant : DeskGrant
+  pub members : Hold unmet_members
+  pub conflicts : Hold conflicts
+  pub running_ends : Hold running_ends
+  pub relevances : Hold relevances
+  pub searches : Hold searches
