@@ -5,7 +5,7 @@ use Rattle.model.specs.Limits.{version1}
 use Rattle.model.specs.Answer.{answered}
 use Rattle.model.specs.Walk.{right, wrong}
 use Rattle.model.specs.Text.{ascii, hex}
-use Rattle.model.specs.Trials.{read-problem, judge-with, cover-after, relevant-facts, desk, number, verdict, text, Row, ◌⇒◌, wrote, no_step, step-0, grant, block1, accepts, refuses, initially, stalls-at, idle}
+use Rattle.model.specs.Trials.{Hold, read-problem, judge_with, cover-after, relevant-facts, desk, number, verdict, text, Row, ◌⇒◌, wrote, no_step, step-0, grant, block1, accepts, refuses, initially, stalls_at, idle}
 
 -- so many effects, each on condition fact 0, from a literal byte on
 abbrev rising : ℕ → ℕ → List ℕ
@@ -28,8 +28,8 @@ abbrev 81ff : List ℕ
 81ff = hex "81 ff" ++ replicate 255 0
 
 -- so many steps of action 0
-abbrev long-plan : ℕ → List ℕ
-long-plan n = block1 (replicate n 0)
+abbrev long_plan : ℕ → List ℕ
+long_plan n = block1 (replicate n 0)
 
 -- 48 facts, and one action that always sets and always clears 47
 abbrev wide_both : List ℕ
@@ -53,8 +53,8 @@ quarter v =
     carrying v ("0100" ∷ "0101" ∷ "0110" ∷ "0111" ∷ "1000" ∷ "1001" ∷ "1010" ∷ "1011" ∷ "1100" ∷ "1101" ∷ "1110" ∷ "1111" ∷ [])))
 
 -- for `wide` and its action once: two lines of one number each, and one of the two after them
-abbrev single-numbers : List ℕ
-single-numbers = block1 (hex "01 30 000000000000 01 30 000000000001 01 2f 000000000002")
+abbrev single_numbers : List ℕ
+single_numbers = block1 (hex "01 30 000000000000 01 30 000000000001 01 2f 000000000002")
 
 -- 16, 17 and 22 at their edges; 48 facts and 256 steps; a conflict of fact 47 (W-202); pages whose numbers have three digits; the running
 -- value after lines that fix all of 48 facts, and after one that fixes none (W-203); the start facts of runs over 48 facts, none or the last
@@ -66,16 +66,19 @@ sizes =
     ∷ (read-problem (initially (hex "0400 80 04" ++ (81ff ++ (81ff ++ (81ff ++ (hex "81 f9" ++ replicate 249 0)))))) ⇒ accepts 1 0)
     ∷ (read-problem (initially (hex "0401 80 04" ++ (81ff ++ (81ff ++ (81ff ++ (hex "81 fa" ++ replicate 250 0)))))) ⇒ refuses 17 7)
     ∷ (read-problem (block1 (hex "30 01 0001 00 0001 00 0001 00 60" ++ (rising 48 0 ++ rising 48 64))) ⇒ accepts 48 1)
-    ∷ (judge-with wide (long-plan 256) grant ⇒ verdict (answered (right 1 1)))
-    ∷ (judge-with deep no_step grant ⇒ verdict (answered (right 49 97)))
+    ∷ (judge_with wide (long_plan 256) grant ⇒ verdict (answered (right 1 1)))
+    ∷ (judge_with deep no_step grant ⇒ verdict (answered (right 49 97)))
     ∷ (desk version1 bushy no_step ⇒ text (ascii "right lines 52 visited 103\n" ++ (quarter "00" ++ (quarter "01" ++ (quarter "10" ++ quarter "11")))))
     ∷ (desk version1 bushy (hex "01 0000000b 00 00 00 00 00 00 00 00 00 00 01") ⇒ text (ascii "wrong 111111 at step 10 member 0 visited 103\n"))
-    ∷ (judge-with wide_both step-0 grant ⇒ verdict (answered (wrong 0 (stalls-at 0 47) 49)))
-    ∷ (cover-after wide step-0 single-numbers 1 ⇒ number (answered 1))
-    ∷ (cover-after wide step-0 single-numbers 2 ⇒ number (answered 2))
-    ∷ (cover-after wide step-0 single-numbers 3 ⇒ number (answered 4))
+    ∷ (judge_with wide_both step-0 grant ⇒ verdict (answered (wrong 0 (stalls_at 0 47) 49)))
+    ∷ (cover-after wide step-0 single_numbers 1 ⇒ number (answered 1))
+    ∷ (cover-after wide step-0 single_numbers 2 ⇒ number (answered 2))
+    ∷ (cover-after wide step-0 single_numbers 3 ⇒ number (answered 4))
     ∷ (cover-after wide step-0 (block1 (hex "01 00 000000000000")) 1 ⇒ number (answered 0x1000000000000))
     ∷ (relevant-facts wide step-0 0 (replicate 97 7) ⇒ wrote 0 (replicate 95 0 ++ (1 ∷ 7 ∷ [])))
     ∷ (relevant-facts wide no_step 1 (replicate 48 7) ⇒ wrote 1 (replicate 47 0 ++ (1 ∷ [])))
     ∷ (relevant-facts deep no_step 0xffffffffffff (replicate 48 7) ⇒ wrote 1 (replicate 48 1))
     ∷ []
+
+pub record SizesHold : Type 0 where
+  pub sizes : Hold sizes
