@@ -8,18 +8,18 @@ use native.Mathlib.Omega.{arith}
 use lib.ListN.{length, get_or, take, drop, set, length-drop}
 use lib.Pow.{shl_exact}
 use lib.Seq.{sets, set_comm, take-suc, get_or-drop}
-use Rattle.model.specs.Read.{bigEndianFrom, bigEndian, bytes_of}
+use Rattle.model.specs.Read.{big_endian_from, big_endian, bytes_of}
 
 -- ---- reading
 
-from_last : (xs : List ℕ) (a b : ℕ) → bigEndianFrom a (xs ++ (b ∷ [])) ≡ bigEndianFrom a xs * 256 + b
-unfolding bigEndianFrom
+from_last : (xs : List ℕ) (a b : ℕ) → big_endian_from a (xs ++ (b ∷ [])) ≡ big_endian_from a xs * 256 + b
+unfolding big_endian_from
 from_last [] a b = refl
 from_last (x ∷ xs) a b = from_last xs (a * 256 + x) b
 
 pub one_more :
-    (s : List ℕ) (at i x : ℕ) → at + i < length s → x ≡ bigEndian (take i (drop at s)) →
-    x * 256 + get_or s (at + i) 0 ≡ bigEndian (take (i + 1) (drop at s))
+    (s : List ℕ) (at i x : ℕ) → at + i < length s → x ≡ big_endian (take i (drop at s)) →
+    x * 256 + get_or s (at + i) 0 ≡ big_endian (take (i + 1) (drop at s))
 one_more s at i x h e =
     let l : i < length (drop at s) = omega (arith, length-drop at s) in
     rw (add-one, take-suc (drop at s) i 0, get_or-drop, from_last, e)
