@@ -10,13 +10,13 @@ use lib.ListN.{length, get_or, set, length-set}
 use lib.Seq.{get_or-set_same, get_or-set_other, set-get_or, set-set, set_comm}
 use lib.Dec.{eqb}
 use borrow.Author.Tests.{eqb-true, eq-eqb, ne_eqb}
-use Rattle.model.specs.Limits.{maxFacts}
+use Rattle.model.specs.Limits.{max_facts}
 use Rattle.model.specs.Kleene.{Kleene, No, Unknown, Yes, known}
-use Rattle.model.specs.Planes.{laneBit, someBit, sureBit, InLanes}
+use Rattle.model.specs.Planes.{lane_bit, some_bit, sure_bit, InLanes}
 use Rattle.model.proofs.Laws.Planes.{table-fact}
 use Rattle.model.proofs.Laws.Truth.{and-true}
 use Rattle.table.specs.Tables.{Outside, SetsFact}
-use Rattle.table.specs.Blocks.{pathOf, levelValue, blockCase, FixesLevels, Spread, FixesPath}
+use Rattle.table.specs.Blocks.{path_of, level_value, block_case, FixesLevels, Spread, FixesPath}
 use Rattle.table.proofs.Facts.{Sets, sets-next, sets-shown}
 
 -- ---- tests that are computed at every level and lane
@@ -33,32 +33,32 @@ every-at (suc n) f t i h =
     let (a, b) = and-true (f n) (every n f) t in
     elim (ℕ_discrete i n) [ yes e ↦ rw e a | no d ↦ every-at n f b i (omega arith) ]
 
-abbrev pub someWords : List ℕ
-someWords = 0xffff0000ff00f0cb ∷ 0xff00ff00f0f0ccaf ∷ 0xf0f0f0f0ccccaaff ∷ 0xccccccccaaaaffff ∷ 0xaaaaaaaaffffffff ∷ []
+abbrev pub some_words : List ℕ
+some_words = 0xffff0000ff00f0cb ∷ 0xff00ff00f0f0ccaf ∷ 0xf0f0f0f0ccccaaff ∷ 0xccccccccaaaaffff ∷ 0xaaaaaaaaffffffff ∷ []
 
-abbrev pub sureWords : List ℕ
-sureWords = 0xffff0000ff00f0c8 ∷ 0xff00ff00f0f0cca0 ∷ 0xf0f0f0f0ccccaa00 ∷ 0xccccccccaaaa0000 ∷ 0xaaaaaaaa00000000 ∷ []
+abbrev pub sure_words : List ℕ
+sure_words = 0xffff0000ff00f0c8 ∷ 0xff00ff00f0f0cca0 ∷ 0xf0f0f0f0ccccaa00 ∷ 0xccccccccaaaa0000 ∷ 0xaaaaaaaa00000000 ∷ []
 
 abbrev shows : ℕ → ℕ → Bool
 shows e j =
-    eqb (laneBit j (get_or someWords e 0)) (someBit (levelValue e j)) && eqb (laneBit j (get_or sureWords e 0)) (sureBit (levelValue e j))
+    eqb (lane_bit j (get_or some_words e 0)) (some_bit (level_value e j)) && eqb (lane_bit j (get_or sure_words e 0)) (sure_bit (level_value e j))
 
 all-show : every 5 (λ e. every 64 (shows e)) ≡ true
-unfolding every laneBit levelValue pathOf
+unfolding every lane_bit level_value path_of
 all-show = refl
 
-level-lanes : (e : ℕ) → e < 5 → InLanes (get_or someWords e 0) (get_or sureWords e 0) (levelValue e)
+level-lanes : (e : ℕ) → e < 5 → InLanes (get_or some_words e 0) (get_or sure_words e 0) (level_value e)
 level-lanes e h =
     record {
       lane =
           λ j l.
           let (a, b) = and-true _ _ (every-at 64 _ (every-at 5 _ all-show e h) j l) in
-          record { is_some = eqb-true _ _ a; is-sure = eqb-true _ _ b };
+          record { is_some = eqb-true _ _ a; is_sure = eqb-true _ _ b };
     }
 
 -- a value as a number
 abbrev code : Kleene → ℕ
-code t = someBit t + sureBit t
+code t = some_bit t + sure_bit t
 
 code-inj : (t u : Kleene) → code t ≡ code u → t ≡ u
 code-inj No No e = refl
@@ -72,87 +72,87 @@ code-inj Yes Unknown e = absurd (omega arith)
 code-inj Yes Yes e = refl
 
 -- lane 2i + x, for a lane i of level e, has x for the fact of its level, and for every other what lane i has
-abbrev partValue : ℕ → ℕ → ℕ → ℕ → Kleene
-partValue e i x l = cond (eqb l e) (known (eqb x 1)) (levelValue l i)
+abbrev part_value : ℕ → ℕ → ℕ → ℕ → Kleene
+part_value e i x l = cond (eqb l e) (known (eqb x 1)) (level_value l i)
 
 abbrev parts : ℕ → ℕ → ℕ → ℕ → Bool
-parts e y x l = eqb (code (levelValue l (2 * (2 ^ e + y) + x))) (code (partValue e (2 ^ e + y) x l))
+parts e y x l = eqb (code (level_value l (2 * (2 ^ e + y) + x))) (code (part_value e (2 ^ e + y) x l))
 
 all-parts : every 5 (λ e. every (2 ^ e) (λ y. every 2 (λ x. every 5 (parts e y x)))) ≡ true
-unfolding every levelValue pathOf
+unfolding every level_value path_of
 all-parts = refl
 
 -- ---- the case in a lane
 
 module _ (root : List Kleene) (k : ℕ) where
-  pub length-block : (d j : ℕ) → length (blockCase root k d j) ≡ length root
-  unfolding blockCase
+  pub length-block : (d j : ℕ) → length (block_case root k d j) ≡ length root
+  unfolding block_case
   length-block zero j = refl
-  length-block (suc d) j = length-set (blockCase root k d j) (k + d) (levelValue d j) ∙ length-block d j
+  length-block (suc d) j = length-set (block_case root k d j) (k + d) (level_value d j) ∙ length-block d j
 
-  pub block-outside : (d j g : ℕ) → Outside k (k + d) g → get_or (blockCase root k d j) g No ≡ get_or root g No
-  unfolding blockCase
+  pub block-outside : (d j g : ℕ) → Outside k (k + d) g → get_or (block_case root k d j) g No ≡ get_or root g No
+  unfolding block_case
   block-outside zero j g out = refl
   block-outside (suc d) j g out =
-      get_or-set_other (blockCase root k d j) (k + d) g (levelValue d j) No (λ y. out (omega arith) (omega arith)) ∙
+      get_or-set_other (block_case root k d j) (k + d) g (level_value d j) No (λ y. out (omega arith) (omega arith)) ∙
       block-outside d j g (λ a b. out a (omega arith))
 
   -- lane 1 is the block's own case
-  pub block-root : (d : ℕ) → ((f : ℕ) → k ≤ f → f < k + d → get_or root f No ≡ Unknown) → blockCase root k d 1 ≡ root
-  unfolding blockCase levelValue pathOf
+  pub block-root : (d : ℕ) → ((f : ℕ) → k ≤ f → f < k + d → get_or root f No ≡ Unknown) → block_case root k d 1 ≡ root
+  unfolding block_case level_value path_of
   block-root zero h = refl
   block-root (suc d) h =
       rw (block-root d (λ f a b. h f a (omega arith)), ← h (k + d) (omega arith) (omega arith), set-get_or)
 
 -- the parts of lane i, before the fact of its level is set and from there on
 module _ (e i x : ℕ) (small : e < 5) (lo : 2 ^ e ≤ i) (hi : i < 2 ^ suc e) (b : x < 2) where
-  level-part : (l : ℕ) → l < 5 → levelValue l (2 * i + x) ≡ partValue e i x l
+  level-part : (l : ℕ) → l < 5 → level_value l (2 * i + x) ≡ part_value e i x l
   level-part l h =
       let z : i ≡ 2 ^ e + (i - 2 ^ e) = omega arith in
       let t = every-at 2 _ (every-at (2 ^ e) _ (every-at 5 _ all-parts e small) (i - 2 ^ e) (omega arith)) x b in
       rw z (code-inj _ _ (eqb-true _ _ (every-at 5 _ t l h)))
 
   module _ (root : List Kleene) (k : ℕ) where
-    part-above : (d : ℕ) → d ≤ e → blockCase root k d (2 * i + x) ≡ blockCase root k d i
-    unfolding blockCase
+    part-above : (d : ℕ) → d ≤ e → block_case root k d (2 * i + x) ≡ block_case root k d i
+    unfolding block_case
     part-above zero h = refl
     part-above (suc d) h = rw (level-part d (omega arith), ne_eqb d e (λ z. omega arith), part-above d (omega arith))
 
-    part : (d : ℕ) → d ≤ 5 → e < d → blockCase root k d (2 * i + x) ≡ set (blockCase root k d i) (k + e) (known (eqb x 1))
-    unfolding blockCase
+    part : (d : ℕ) → d ≤ 5 → e < d → block_case root k d (2 * i + x) ≡ set (block_case root k d i) (k + e) (known (eqb x 1))
+    unfolding block_case
     part zero few h = absurd (omega arith)
     part (suc d) few h =
         elim (ℕ_discrete d e) [
           | yes z ↦ rw (level-part d (omega arith), eq-eqb d e z, part-above d (omega arith), ← z, set-set)
           | no n ↦
               let m : k + e ≡ k + d → ⊥ = λ y. n (omega arith) in
-              rw (level-part d (omega arith), ne_eqb d e n, part d (omega arith) (omega arith), set_comm (blockCase root k d i) (k + e) (k + d))
+              rw (level-part d (omega arith), ne_eqb d e n, part d (omega arith) (omega arith), set_comm (block_case root k d i) (k + e) (k + d))
         ]
 
 module _ (root : List Kleene) (k d e i : ℕ) (few : d ≤ 5) (inner : e < d) (lo : 2 ^ e ≤ i) (hi : i < 2 ^ suc e) (room : k + d ≤ length root) where
-  pub part_no : blockCase root k d (2 * i) ≡ set (blockCase root k d i) (k + e) No
+  pub part_no : block_case root k d (2 * i) ≡ set (block_case root k d i) (k + e) No
   part_no =
       let z : 2 * i ≡ 2 * i + 0 = omega arith in
-      ap (blockCase root k d) z ∙ part e i 0 (omega arith) lo hi (omega arith) root k d few inner
+      ap (block_case root k d) z ∙ part e i 0 (omega arith) lo hi (omega arith) root k d few inner
 
-  pub part-yes : blockCase root k d (2 * i + 1) ≡ set (blockCase root k d i) (k + e) Yes
+  pub part-yes : block_case root k d (2 * i + 1) ≡ set (block_case root k d i) (k + e) Yes
   part-yes = part e i 1 (omega arith) lo hi (omega arith) root k d few inner
 
 -- ---- from one case to its block
 
 pub levels-next :
-    {c r q : List ℕ} {k i : ℕ} → i < 5 → FixesLevels c k i r → SetsFact r (k + i) (get_or someWords i 0) (get_or sureWords i 0) q →
+    {c r q : List ℕ} {k i : ℕ} → i < 5 → FixesLevels c k i r → SetsFact r (k + i) (get_or some_words i 0) (get_or sure_words i 0) q →
     FixesLevels c k (i + 1) q
-unfolding blockCase
+unfolding block_case
 levels-next {k = k} {i = i} few h u =
     rw add-one
     record {
       size = u.size;
       is =
           λ root room old.
-          u.is (blockCase root k i) (blockCase root k (suc i)) (levelValue i) (h.is root (omega arith) old) (level-lanes i few)
-          (λ j g n. get_or-set_other (blockCase root k i j) (k + i) g _ No n)
-          (λ j l. get_or-set_same (blockCase root k i j) (k + i) _ No (omega (arith, length-block root k i j)));
+          u.is (block_case root k i) (block_case root k (suc i)) (level_value i) (h.is root (omega arith) old) (level-lanes i few)
+          (λ j g n. get_or-set_other (block_case root k i j) (k + i) g _ No n)
+          (λ j l. get_or-set_same (block_case root k i j) (k + i) _ No (omega (arith, length-block root k i j)));
     }
 
 -- ---- from a block to a lane
@@ -162,13 +162,13 @@ abbrev pub copied : ℕ → (ℕ → List Kleene) → ℕ → ℕ → Kleene
 copied lane case g j = get_or (case lane) g No
 
 pub copied_next :
-    {c r q : List ℕ} {k f to lane some sure : ℕ} → lane < 64 → f < maxFacts → to ≡ f + 1 → Sets c k f (copied lane) r →
+    {c r q : List ℕ} {k f to lane some sure : ℕ} → lane < 64 → f < max_facts → to ≡ f + 1 → Sets c k f (copied lane) r →
     Spread (get_or r (2 * f) 0) lane some → Spread (get_or r (2 * f + 1) 0) lane sure → SetsFact r f some sure q → Sets c k to (copied lane) q
 copied_next {r = r} {f = f} {lane = lane} l m e h a b u =
     sets-next m e h u λ case old.
     let o = h.lanes case old in
     let now = rw (o.other lane f m (λ x y. omega arith)) at (table-fact r o.lane f lane o.shown m l) in
-    record { lane = λ j n. record { is_some = a.is j n ∙ now.is_some; is-sure = b.is j n ∙ now.is-sure } }
+    record { lane = λ j n. record { is_some = a.is j n ∙ now.is_some; is_sure = b.is j n ∙ now.is_sure } }
 
 pub copied-ends : {c r : List ℕ} {k f d lane : ℕ} → f ≡ k + d → Sets c k f (copied lane) r → FixesPath c k d lane r
 copied-ends e h =

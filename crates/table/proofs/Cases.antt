@@ -10,11 +10,11 @@ use lib.ListN.{get_or}
 use lib.Pow.{pow_pos, shr-shr}
 use lib.Dec.{eqb, ltb}
 use borrow.Author.Tests.{lt-ltb, le-ltb}
-use Rattle.model.specs.Limits.{maxFacts}
+use Rattle.model.specs.Limits.{max_facts}
 use Rattle.model.specs.Kleene.{Kleene, No, known}
 use Rattle.model.specs.Case.{bit, case_of}
 use Rattle.model.specs.Action.{tabulate}
-use Rattle.model.specs.Planes.{laneBit, someBit, sureBit, InLanes, Table}
+use Rattle.model.specs.Planes.{lane_bit, some_bit, sure_bit, InLanes, Table}
 use Rattle.model.proofs.Laws.Tabulate.{get_d_tabulate, tabulate-below}
 use Rattle.model.proofs.Laws.Cover.{pow-split}
 use Rattle.model.proofs.Laws.Planes.{bit-small}
@@ -25,17 +25,17 @@ use Rattle.table.specs.Cases.{raised, bits_of, unfixed, Common, SetsCase}
 
 -- ---- one value in every lane
 
-known-bit : (b : ℕ) → b < 2 → (b ≡ someBit (known (eqb b 1))) × (b ≡ sureBit (known (eqb b 1)))
+known-bit : (b : ℕ) → b < 2 → (b ≡ some_bit (known (eqb b 1))) × (b ≡ sure_bit (known (eqb b 1)))
 known-bit zero h = (refl, refl)
 known-bit (suc zero) h = (refl, refl)
 known-bit (suc (suc b)) h = absurd (omega arith)
 
-pub bits-lanes : {number f word : ℕ} → f < maxFacts → Spread number (64 - 1 - f) word → InLanes word word (bits_of number f)
-unfolding bit laneBit
+pub bits-lanes : {number f word : ℕ} → f < max_facts → Spread number (64 - 1 - f) word → InLanes word word (bits_of number f)
+unfolding bit lane_bit
 bits-lanes {number} {f} h s =
     let e : 64 - suc f ≡ 64 - 1 - f = omega arith in
     let (a, b) = known-bit _ (bit-small (64 - 1 - f) number) in
-    record { lane = λ j l. rw e record { is_some = s.is j l ∙ a; is-sure = s.is j l ∙ b } }
+    record { lane = λ j l. rw e record { is_some = s.is j l ∙ a; is_sure = s.is j l ∙ b } }
 
 -- ---- a number as a word
 
@@ -59,7 +59,7 @@ alike-bits v v' m f h e l =
 
 -- ---- from one case to another
 
-module _ {c r d : List ℕ} {k v k' v' m : ℕ} (few : k ≤ maxFacts) (few' : k' ≤ maxFacts) (h : Common k v k' v' m)
+module _ {c r d : List ℕ} {k v k' v' m : ℕ} (few : k ≤ max_facts) (few' : k' ≤ max_facts) (h : Common k v k' v' m)
     (fixed : SetsFacts c m k' (bits_of v') r) (freed : SetsFacts r k' k unfixed d) where
   module _ (n : ℕ) (in-n : k ≤ n) (in-n' : k' ≤ n) where
     abbrev old : List Kleene
@@ -70,15 +70,15 @@ module _ {c r d : List ℕ} {k v k' v' m : ℕ} (few : k ≤ maxFacts) (few' : k
 
     -- between the two loops
     abbrev between : List Kleene
-    between = tabulate maxFacts (λ g. cond (ltb g k') (get_or new g No) (get_or old g No))
+    between = tabulate max_facts (λ g. cond (ltb g k') (get_or new g No) (get_or old g No))
 
     between-new : (g : ℕ) → g < k' → get_or between g No ≡ get_or new g No
-    between-new g l = get_d_tabulate maxFacts (λ g. cond (ltb g k') (get_or new g No) (get_or old g No)) g No (omega arith) ∙ rw (lt-ltb g k' l)
+    between-new g l = get_d_tabulate max_facts (λ g. cond (ltb g k') (get_or new g No) (get_or old g No)) g No (omega arith) ∙ rw (lt-ltb g k' l)
 
-    between-old : (g : ℕ) → g < maxFacts → k' ≤ g → get_or between g No ≡ get_or old g No
-    between-old g i l = get_d_tabulate maxFacts (λ g. cond (ltb g k') (get_or new g No) (get_or old g No)) g No i ∙ rw (le-ltb g k' l)
+    between-old : (g : ℕ) → g < max_facts → k' ≤ g → get_or between g No ≡ get_or old g No
+    between-old g i l = get_d_tabulate max_facts (λ g. cond (ltb g k') (get_or new g No) (get_or old g No)) g No i ∙ rw (le-ltb g k' l)
 
-    kept : (g : ℕ) → g < maxFacts → Outside m k' g → get_or between g No ≡ get_or old g No
+    kept : (g : ℕ) → g < max_facts → Outside m k' g → get_or between g No ≡ get_or old g No
     kept g i out =
         elim (dec_lt g k') [
           | yes b ↦
@@ -95,7 +95,7 @@ module _ {c r d : List ℕ} {k v k' v' m : ℕ} (few : k ≤ maxFacts) (few' : k
           | no i ↦ case-past 64 n k' v' g (omega arith) ∙ sym (case-past 64 n k v g (omega arith))
         ]
 
-    same : (g : ℕ) → g < maxFacts → Outside k' k g → get_or new g No ≡ get_or between g No
+    same : (g : ℕ) → g < max_facts → Outside k' k g → get_or new g No ≡ get_or between g No
     same g i out =
         elim (dec_lt g k') [
           | yes b ↦ sym (between-new g b)

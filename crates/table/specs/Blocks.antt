@@ -8,31 +8,31 @@
 -- stands for nothing, and has the block's own case too.
 use Rattle.std.specs.Prelude.{◌≡◌, cond, List, [], ◌∷◌, ◌++◌, ℕ, zero, suc, ◌+◌, ◌/◌, ◌%◌, ◌≤◌, ◌<◌, length, get_or, set, eqb, ltb}
 use Rattle.model.specs.Kleene.{Kleene, No, Unknown, known}
-use Rattle.model.specs.Planes.{laneBit, Table}
+use Rattle.model.specs.Planes.{lane_bit, Table}
 use Rattle.table.specs.Tables.{Outside}
 
 -- the values that a lane's case fixes, the block's next fact first; lane j is reached from lane j / 2 (the first number bounds the steps)
-unfoldable pub pathOf : ℕ → ℕ → List Kleene
-pathOf zero j = []
-pathOf (suc n) j = cond (ltb j 2) [] (pathOf n (j / 2) ++ (known (eqb (j % 2) 1) ∷ []))
+unfoldable pub path_of : ℕ → ℕ → List Kleene
+path_of zero j = []
+path_of (suc n) j = cond (ltb j 2) [] (path_of n (j / 2) ++ (known (eqb (j % 2) 1) ∷ []))
 
 -- the value in lane j of the block's fact e, of 64 lanes
-unfoldable pub levelValue : ℕ → ℕ → Kleene
-levelValue e j = get_or (pathOf 6 j) e Unknown
+unfoldable pub level_value : ℕ → ℕ → Kleene
+level_value e j = get_or (path_of 6 j) e Unknown
 
 -- the case in lane j of the block of d facts from k on whose own case is `root`
-unfoldable pub blockCase : List Kleene → ℕ → ℕ → ℕ → List Kleene
-blockCase root k zero j = root
-blockCase root k (suc d) j = set (blockCase root k d j) (k + d) (levelValue d j)
+unfoldable pub block_case : List Kleene → ℕ → ℕ → ℕ → List Kleene
+block_case root k zero j = root
+block_case root k (suc d) j = set (block_case root k d j) (k + d) (level_value d j)
 
 -- from one case in every lane to its block
 pub record FixesLevels (c : List ℕ) (k d : ℕ) (r : List ℕ) : Type 0 where
   pub size : length r ≡ 256
-  pub is : (root : List Kleene) → k + d ≤ length root → Table c (λ j. root) → Table r (λ j. blockCase root k d j)
+  pub is : (root : List Kleene) → k + d ≤ length root → Table c (λ j. root) → Table r (λ j. block_case root k d j)
 
 -- every lane has the bit that this one has in x
 pub record Spread (x lane r : ℕ) : Type 0 where
-  pub is : (j : ℕ) → j < 64 → laneBit j r ≡ laneBit lane x
+  pub is : (j : ℕ) → j < 64 → lane_bit j r ≡ lane_bit lane x
 
 -- from a block to one of its lanes, in every lane: outside of the block's facts the lanes are the same
 pub record FixesPath (c : List ℕ) (k d lane : ℕ) (r : List ℕ) : Type 0 where

@@ -2,7 +2,7 @@
 use Rattle.std.specs.Prelude.{◌≡◌, List, ℕ, ◌+◌, ◌≤◌, ◌<◌, length, get_or, replicate}
 use Rattle.model.specs.Kleene.{Kleene, No, Unknown, three}
 use Rattle.model.specs.Formula.{value_of}
-use Rattle.model.specs.FormulaBytes.{literalOf}
+use Rattle.model.specs.FormulaBytes.{literal_of}
 use Rattle.model.specs.Planes.{InLanes, Table}
 
 -- every lane's case has so many facts
@@ -15,7 +15,7 @@ pub record SetsLiteral (c : List ℕ) (l some sure : ℕ) (d : List ℕ) : Type 
   pub is :
       (case case' : ℕ → List Kleene) (t : ℕ → Kleene) → Table c case → InLanes some sure t →
       ((j g : ℕ) → (g ≡ l → ⊥) → (g + 64 ≡ l → ⊥) → get_or (case' j) g No ≡ get_or (case j) g No) →
-      ((j : ℕ) → j < 64 → value_of three (case' j) (literalOf l) ≡ t j) → Table d case'
+      ((j : ℕ) → j < 64 → value_of three (case' j) (literal_of l) ≡ t j) → Table d case'
 
 -- fact f has the value t in each lane, and every other fact the value that it had
 pub record SetsFact (c : List ℕ) (f some sure : ℕ) (d : List ℕ) : Type 0 where

@@ -1,7 +1,7 @@
 // Blocks of the walk: a case and the cases of its next facts, a lane each.
-ghost use Rattle.std.specs.Prelude.{◌≡◌, ◌+◌, ◌≤◌, ◌<◌, length};
-ghost use Rattle.model.specs.Limits.{maxFacts};
-ghost use Rattle.model.specs.Planes.{laneBit};
+ghost use Rattle.std.specs.Prelude.{◌≡◌, ◌+◌, ◌≤◌, ◌<◌};
+ghost use Rattle.model.specs.Limits.{max_facts};
+ghost use Rattle.model.specs.Planes.{lane_bit};
 ghost use Rattle.table.specs.Blocks.{FixesLevels, Spread, FixesPath};
 
 use crate::fact::{ONES, set_fact};
@@ -26,20 +26,19 @@ const SURE: [u64; 5] = [
 
 // The d facts from k on get the values that they have in each lane of a block.
 pub fn fix_levels(c: &mut [u64; 256], k: usize, d: usize)
-    requires { (length c.old ≡ 256) × (d ≤ 5) × (k + d ≤ maxFacts) }
+    requires few { d ≤ 5 }
+    requires inside { k + d ≤ max_facts }
     ensures { FixesLevels c.old k d c.new }
 {
-    let mut i: usize = 0;
-    while i < d {
+    for i in 0..d {
         set_fact(c, k + i, SOME[i], SURE[i]);
-        i = i + 1;
     }
 }
 
 // The bit of a lane.
 pub fn lane_bit(x: u64, lane: usize) -> u64
     requires { lane < 64 }
-    ensures { result ≡ laneBit lane x }
+    ensures { result ≡ lane_bit lane x }
 {
     (x >> lane) % 2
 }
@@ -54,15 +53,13 @@ pub fn spread(x: u64, lane: usize) -> u64
 
 // The d facts from k on get in every lane the values that they have in this one.
 pub fn fix_path(c: &mut [u64; 256], k: usize, d: usize, lane: usize)
-    requires { (length c.old ≡ 256) × (lane < 64) × (k + d ≤ maxFacts) }
+    requires is_lane { lane < 64 }
+    requires inside { k + d ≤ max_facts }
     ensures { FixesPath c.old k d lane c.new }
 {
-    let mut i: usize = 0;
-    while i < d {
-        let f = k + i;
+    for f in k..k + d {
         let some = spread(c[2 * f], lane);
         let sure = spread(c[2 * f + 1], lane);
         set_fact(c, f, some, sure);
-        i = i + 1;
     }
 }

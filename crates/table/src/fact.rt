@@ -1,6 +1,6 @@
 // A table with no fact fixed, and a fact that gets new values.
-ghost use Rattle.std.specs.Prelude.{◌≡◌, ◌<◌, ◌≤◌, length};
-ghost use Rattle.model.specs.Limits.{maxFacts};
+ghost use Rattle.std.specs.Prelude.{◌<◌, ◌≤◌};
+ghost use Rattle.model.specs.Limits.{max_facts};
 ghost use Rattle.table.specs.Tables.{SetsLiteral, SetsFact, NoneFixed};
 
 // Every lane.
@@ -8,20 +8,18 @@ pub const ONES: u64 = 0xffff_ffff_ffff_ffff;
 
 // Every fact and every denial unknown in every lane.
 pub fn unknown() -> [u64; 256]
-    ensures { NoneFixed maxFacts result }
+    ensures { NoneFixed max_facts result }
 {
     let mut c = [0u64; 256];
-    let mut b: usize = 0;
-    while b < 128 {
+    for b in 0..128 {
         c[2 * b] = ONES;
-        b = b + 1;
     }
     c
 }
 
 // The literal with the byte l gets new values, and its denial with it.
 pub fn set_literal(c: &mut [u64; 256], l: usize, some: u64, sure: u64)
-    requires { (length c.old ≡ 256) × (l < 128) }
+    requires { l < 128 }
     ensures { SetsLiteral c.old l some sure c.new }
 {
     let denial = (l + 64) % 128;
@@ -33,7 +31,7 @@ pub fn set_literal(c: &mut [u64; 256], l: usize, some: u64, sure: u64)
 
 // Fact f gets new values.
 pub fn set_fact(c: &mut [u64; 256], f: usize, some: u64, sure: u64)
-    requires { (length c.old ≡ 256) × (f < maxFacts) }
+    requires { f < max_facts }
     ensures { SetsFact c.old f some sure c.new }
 {
     set_literal(c, f, some, sure);
@@ -41,14 +39,12 @@ pub fn set_fact(c: &mut [u64; 256], f: usize, some: u64, sure: u64)
 
 // None of so many facts is fixed in any lane; the facts past them are no.
 pub fn none_fixed(facts: usize) -> [u64; 256]
-    requires { facts ≤ maxFacts }
+    requires { facts ≤ max_facts }
     ensures { NoneFixed facts result }
 {
     let mut c = unknown();
-    let mut f = facts;
-    while f < 64 {
+    for f in facts..64 {
         set_fact(&mut c, f, 0, 0);
-        f = f + 1;
     }
     c
 }

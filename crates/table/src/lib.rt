@@ -1,5 +1,6 @@
 // A table of 64 cases, a bit ("lane") each: the two words of the literal with the byte b stand at twice b. How such tables are made and
 // changed.
+#![tactic(auto)]
 
 pub mod block;
 pub mod case;
