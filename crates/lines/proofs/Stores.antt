@@ -1,53 +1,42 @@
 -- Runs of stores, and the bytes of lines that they leave. Assumes nothing.
 use mathlib.Core.Path.{◌≡◌, refl, sym, ap, ◌∙◌}
 use mathlib.Core.List.{List, [], ◌∷◌, ◌++◌, append_assoc, append-nil}
-use Prim.Native.Nat.{ℕ, suc, ◌+◌, ◌-◌, ◌*◌, ◌<◌}
+use Prim.Native.Nat.{ℕ, ◌+◌, ◌-◌, ◌*◌, ◌<◌}
 use native.Mathlib.Nat.{mul-zero, mul-suc, mul-add}
 use native.Mathlib.Omega.{arith}
-use lib.ListN.{length, set, length-append}
+use lib.ListN.{length, length-append}
 use lib.Seq.{sets, length-sets}
 use Rattle.model.specs.declared.Limits.{Limits}
 use Rattle.model.specs.Walk.{Line}
 use Rattle.model.specs.Read.{bytes_of}
-use Rattle.model.specs.ListBytes.{lineBytes, linesBytes}
+use Rattle.model.specs.ListBytes.{line_bytes, lines_bytes}
 use Rattle.model.proofs.Laws.Stores.{sets-append}
-use Rattle.model.proofs.Laws.Reading.{length-bytesOf}
+use Rattle.model.proofs.Laws.Reading.{length-bytes_of}
 use Rattle.lines.specs.Putting.{LinesLaid, AddsLine}
 
 -- ---- stores
 
-lines-append : (F : Limits) (ls ms : List Line) → linesBytes F (ls ++ ms) ≡ linesBytes F ls ++ linesBytes F ms
-unfolding linesBytes
+lines-append : (F : Limits) (ls ms : List Line) → lines_bytes F (ls ++ ms) ≡ lines_bytes F ls ++ lines_bytes F ms
+unfolding lines_bytes
 lines-append F [] ms = refl
 lines-append F (l ∷ ls) ms = rw (lines-append F ls ms, ← append_assoc)
 
-length-lines : (F : Limits) → 2 < F.line → (ls : List Line) → length (linesBytes F ls) ≡ F.line * length ls
-unfolding linesBytes lineBytes
+length-lines : (F : Limits) → 2 < F.line → (ls : List Line) → length (lines_bytes F ls) ≡ F.line * length ls
+unfolding lines_bytes line_bytes
 length-lines F h [] = sym (mul-zero F.line)
 length-lines F h (l ∷ ls) =
-    rw (length-append (bytes_of (F.line - 2) l.value) (linesBytes F ls), length-bytesOf, length-lines F h ls) (omega (arith, mul-suc F.line (length ls)))
+    rw (length-append (bytes_of (F.line - 2) l.value) (lines_bytes F ls), length-bytes_of, length-lines F h ls) (omega (arith, mul-suc F.line (length ls)))
 
 module _ (size : ℕ) where
-  -- the stores of a line: its kind, k and its value
-  pub line-stored :
-      (l : List ℕ) (at kind k n : ℕ) → sets (set (set l at kind) (at + 1) k) (at + 2) (bytes_of (size - 2) n) ≡ sets l at (kind ∷ k ∷ bytes_of (size - 2) n)
-  line-stored l at kind k n =
-      let i₁ : at + 1 ≡ suc at = omega arith in
-      let i₂ : at + 2 ≡ suc (suc at) = omega arith in
-      λ i. sets (set (set l at kind) (i₁ i) k) (i₂ i) (bytes_of (size - 2) n)
-
-  -- a line with no room is not asked for
-  pub no_room : (before : List ℕ) (to kind k value : ℕ) → length before < to + size → AddsLine size before to kind k value to before
-  no_room before to kind k value h = record { same = refl; is = λ r. absurd (omega arith) }
-
+  -- the stores of one line
   pub adds-line :
-      (before after : List ℕ) (to kind k k' value : ℕ) → k' ≡ k → after ≡ sets before to (kind ∷ k' ∷ bytes_of (size - 2) value) →
+      (before after : List ℕ) (to kind k value : ℕ) → after ≡ sets before to (kind ∷ k ∷ bytes_of (size - 2) value) →
       AddsLine size before to kind k value (to + size) after
-  unfolding linesBytes lineBytes
-  adds-line before after to kind k k' value e h =
+  unfolding lines_bytes line_bytes
+  adds-line before after to kind k value h =
       record {
-        same = ap length h ∙ length-sets before to (kind ∷ k' ∷ bytes_of (size - 2) value);
-        is = λ r. record { end = omega arith; bytes = λ F i. rw (h, e, i) (ap (λ (x : List ℕ). sets before to (kind ∷ k ∷ x)) (sym (append-nil (bytes_of (size - 2) value)))) };
+        same = ap length h ∙ length-sets before to (kind ∷ k ∷ bytes_of (size - 2) value);
+        is = λ r. record { end = omega arith; bytes = λ F i. rw (h, i) (ap (λ (x : List ℕ). sets before to (kind ∷ k ∷ x)) (sym (append-nil (bytes_of (size - 2) value)))) };
       }
 
   -- lines after lines
@@ -62,6 +51,6 @@ module _ (size : ℕ) where
         end = omega (arith, x.end, y.end);
         bytes =
             λ F i.
-            let e : p ≡ to + length (linesBytes F ls) = x.end ∙ ap (λ (z : ℕ). to + z) (rw (← i) (sym (length-lines F (omega arith) ls))) in
-            y.bytes F i ∙ (λ j. sets (x.bytes F i j) (e j) (linesBytes F ms)) ∙ rw (lines-append F ls ms, sets-append);
+            let e : p ≡ to + length (lines_bytes F ls) = x.end ∙ ap (λ (z : ℕ). to + z) (rw (← i) (sym (length-lines F (omega arith) ls))) in
+            y.bytes F i ∙ (λ j. sets (x.bytes F i j) (e j) (lines_bytes F ms)) ∙ rw (lines-append F ls ms, sets-append);
       }

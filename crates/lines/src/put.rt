@@ -8,7 +8,9 @@ use numbers::put_number;
 
 // The line (kind, k, value): the value's bytes, the highest first.
 fn put_line(out: &mut [u8], at: usize, size: usize, kind: u8, k: u8, value: u64)
-    requires { (2 < size) × (size ≤ 10) × (at + size ≤ length out.old) }
+    requires least { 2 < size }
+    requires most { size ≤ 10 }
+    requires room { at + size ≤ length out.old }
     ensures { out.new ≡ sets out.old at (kind ∷ k ∷ bytes_of (size - 2) value) }
 {
     out[at] = kind;
@@ -18,7 +20,9 @@ fn put_line(out: &mut [u8], at: usize, size: usize, kind: u8, k: u8, value: u64)
 
 // The line of a closed case, and the position after it. Where it has no room, nothing is written: so a walk over no buffer counts.
 pub fn add_line(out: &mut [u8], to: usize, size: usize, kind: u8, k: usize, value: u64) -> usize
-    requires { (2 < size) × (size ≤ 10) × (k < 256) }
+    requires least { 2 < size }
+    requires most { size ≤ 10 }
+    requires byte { k < 256 }
     ensures { AddsLine size out.old to kind k value result out.new }
 {
     let room = out.len();
