@@ -9,21 +9,20 @@ use lib.ListN.{length, get_or, take, drop}
 use lib.Seq.{drop-cons}
 use lib.Dec.{leb}
 use borrow.Author.Tests.{lt-ltb, le-ltb, le-leb, lt-leb}
-use Rattle.model.specs.Limits.{maxFormulaBytes, maxDepth}
-use Rattle.model.specs.Read.{reject, got, Reader, and_then, done, position, require, bigEndianFrom, bigEndian, byte, ◌>>=◌, ◌>>◌}
+use Rattle.model.specs.Limits.{max_formula_bytes, max_depth}
+use Rattle.model.specs.Read.{reject, got, Reader, and_then, done, position, require, big_endian_from, big_endian, byte, ◌>>=◌, ◌>>◌}
 use Rattle.model.specs.FormulaBytes.{item, stated, formula}
 use Rattle.model.specs.declared.Refusal.{Refusal}
-use Rattle.formula.specs.Readings.{refusalAt, next_of, after_of, Stated}
-use Rattle.formula.specs.declared.read.Reading.{Reading}
-use Rattle.formula.specs.declared.read.Reading.TheVariants.{Refused, Next}
+use Rattle.formula.specs.Readings.{refusal_at, next_of, after_of, Stated}
+use Rattle.std.specs.Prelude.{Result, Ok, Err}
 use Rattle.formula.proofs.Readers.{then_next, onto, then-onto}
 
-two_bytes : (s : List ℕ) (p : ℕ) → p + 1 < length s → get_or s p 0 * 256 + get_or s (p + 1) 0 ≡ bigEndian (take 2 (drop p s))
-unfolding bigEndianFrom
+two_bytes : (s : List ℕ) (p : ℕ) → p + 1 < length s → get_or s p 0 * 256 + get_or s (p + 1) 0 ≡ big_endian (take 2 (drop p s))
+unfolding big_endian_from
 two_bytes s p h = rw (add-one p, drop-cons s p 0 (omega arith), drop-cons s (suc p) 0 (omega arith)) (omega arith)
 
 module _ (s : List ℕ) (p : ℕ) where
-  pub stated-refuses : {n q : ℕ} {r : Refusal} → r ≡ refusalAt n q → reject n q ≡ stated s p → Stated s p (Refused r)
+  pub stated-refuses : {n q : ℕ} {r : Refusal} → r ≡ refusal_at n q → reject n q ≡ stated s p → Stated s p (Err r)
   stated-refuses e h = record { is = rw e h; within = tt }
 
   pub stated-none : length s ≤ p → reject 14 (length s) ≡ stated s p
@@ -35,10 +34,10 @@ module _ (s : List ℕ) (p : ℕ) where
   stated-half h k = simp (lt-ltb, le-ltb)
 
   -- the length n can be read
-  module _ (h : p + 1 < length s) (n : ℕ) (is : n ≡ bigEndian (take 2 (drop p s))) where
+  module _ (h : p + 1 < length s) (n : ℕ) (is : n ≡ big_endian (take 2 (drop p s))) where
     abbrev rest : Reader ℕ
     rest = do
-      require (leb 1 n && leb n maxFormulaBytes) 17 p
+      require (leb 1 n && leb n max_formula_bytes) 17 p
       begin ← position
       require (leb (begin + n) (length s)) 14 (length s)
       done (begin + n)
@@ -54,11 +53,11 @@ module _ (s : List ℕ) (p : ℕ) where
     unfolding ◌>>=◌ ◌>>◌ position and_then require
     stated-zero k = rw (stated-by, k)
 
-    pub stated-long : maxFormulaBytes < n → reject 17 p ≡ stated s p
+    pub stated-long : max_formula_bytes < n → reject 17 p ≡ stated s p
     unfolding ◌>>=◌ ◌>>◌ position and_then require
     stated-long k = let l : 1 ≤ n = omega arith in rw stated-by (simp (le-leb, lt-leb))
 
-    module _ (k : 1 ≤ n) (l : n ≤ maxFormulaBytes) where
+    module _ (k : 1 ≤ n) (l : n ≤ max_formula_bytes) where
       pub stated-short : length s < p + 2 + n → reject 14 (length s) ≡ stated s p
       unfolding ◌>>=◌ ◌>>◌ position and_then require
       stated-short m = rw stated-by (simp (le-leb, lt-leb))
@@ -68,19 +67,19 @@ module _ (s : List ℕ) (p : ℕ) where
       stated-whole m = rw stated-by (simp le-leb)
 
 -- a formula, by its length field
-abbrev byLength : List ℕ → ℕ → ℕ → Reading → Reading
-byLength s facts p (Refused r) = Refused r
-byLength s facts p (Next end) = next_of (after_of s end facts (p + 2))
+abbrev by_length : List ℕ → ℕ → ℕ → Result ℕ Refusal → Result ℕ Refusal
+by_length s facts p (Err r) = Err r
+by_length s facts p (Ok end) = next_of (after_of s end facts (p + 2))
 
-pub formula-next : (s : List ℕ) (facts p : ℕ) (r x : Reading) → Stated s p r → r ≡ x → byLength s facts p x ≡ next_of (formula s facts p)
+pub formula-next : (s : List ℕ) (facts p : ℕ) (r x : Result ℕ Refusal) → Stated s p r → r ≡ x → by_length s facts p x ≡ next_of (formula s facts p)
 unfolding formula after_of ◌>>=◌ and_then next_of
-formula-next s facts p r (Refused x) h e = let d = rw e at h.is in rw (← d)
-formula-next s facts p r (Next end) h e = let d = rw e at h.is in rw (← d)
+formula-next s facts p r (Err x) h e = let d = rw e at h.is in rw (← d)
+formula-next s facts p r (Ok end) h e = let d = rw e at h.is in rw (← d)
 
 -- and what was read of it, by the end of its stated bytes
 pub after_next :
-    (s : List ℕ) (end facts p : ℕ) (r : Reading) → r ≡ next_of (item s end facts maxDepth 0 p) →
+    (s : List ℕ) (end facts p : ℕ) (r : Result ℕ Refusal) → r ≡ next_of (item s end facts max_depth 0 p) →
     onto (λ q. next_of (require (leb end q) 21 q q)) r ≡ next_of (after_of s end facts p)
 unfolding after_of ◌>>=◌ ◌>>◌ and_then position require done
 after_next s end facts p r h =
-    rw h (then-onto (item s end facts maxDepth 0 p) _ _ (λ f q. sym (then_next (require (leb end q) 21 q q) (λ u. f))))
+    rw h (then-onto (item s end facts max_depth 0 p) _ _ (λ f q. sym (then_next (require (leb end q) 21 q q) (λ u. f))))

@@ -1,8 +1,10 @@
 // Formulas in bytes: reading one, which refuses what is none.
 
+#![tactic(auto)]
+
 pub mod read;
 
-pub use read::{Reading, is_literal, read_formula, refusal};
+pub use read::{is_literal, read_formula, refusal};
 
 // The marks that begin a group.
 const ALL: u8 = 0x80;

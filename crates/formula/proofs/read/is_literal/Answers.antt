@@ -1,0 +1,22 @@
+-- each return is a case of `is_literal`
+use Rattle.std.proofs.Common.{◌≡◌, ℕ, ◌+◌, ◌-◌, ◌≤◌, Bool, true, false, refl, arith}
+use lib.Dec.{ltb}
+use borrow.Author.Tests.{lt-ltb, le-ltb, le-leb, lt-leb, ltb-true, ltb-false}
+use Rattle.model.specs.FormulaBytes.{is_literal}
+use Rattle.formula.proofs.read.is_literal.Goals as goal
+
+pub returns-then-b-facts : goal.returns-then-b-facts
+unfolding is_literal
+returns-then-b-facts c = rw (lt-ltb _ _ c.if-b-facts.true)
+
+pub returns-then-b-lt64 : goal.returns-then-b-lt64
+unfolding is_literal
+returns-then-b-lt64 c = rw (le-ltb _ _ c.if-b-facts.false, lt-leb _ _ c.if-b-lt64.true)
+
+shifted : (b facts : ℕ) → 64 ≤ b → (t : Bool) → ltb (b - 64) facts ≡ t → t ≡ ltb b (64 + facts)
+shifted b facts h true e = rw (lt-ltb b (64 + facts) (omega (arith, ltb-true (b - 64) facts e)))
+shifted b facts h false e = rw (le-ltb b (64 + facts) (omega (arith, ltb-false (b - 64) facts e)))
+
+pub returns : goal.returns
+unfolding is_literal
+returns c = rw (le-ltb _ _ c.if-b-facts.false, le-leb _ _ c.if-b-lt64.false) (shifted _ _ c.if-b-lt64.false _ refl)
