@@ -1,30 +1,30 @@
 -- What evaluating answers, in the 64 cases of a table.
 use Rattle.std.specs.Prelude.{◌≡◌, Bool, true, List, ℕ, ◌+◌, ◌*◌, ◌≤◌, length, get_or}
 use Rattle.model.specs.Kleene.{Kleene, No, Yes, three}
-use Rattle.model.specs.Formula.{Formula, Formulas, eval, evalAll, evalAny}
-use Rattle.model.specs.FormulaBytes.{Group, conjunction, disjunction, mark, memberCount, memberBytes}
+use Rattle.model.specs.Formula.{Formula, Formulas, eval, eval_all, eval_any}
+use Rattle.model.specs.FormulaBytes.{Group, conjunction, disjunction, mark, member_count, member_bytes}
 use Rattle.model.specs.Planes.{InLanes, Table}
 use Rattle.model.specs.Stands.{Span, FormulaAt, Members}
 use Rattle.evaluate.specs.declared.Planes.{Planes}
 use Rattle.evaluate.specs.declared.Literal.{Literal}
 
 -- the value of a group of this kind with these members
-abbrev pub evalGroup : Group → List Kleene → Formulas → Kleene
-evalGroup conjunction c ms = evalAll three c ms
-evalGroup disjunction c ms = evalAny three c ms
+abbrev pub eval_group : Group → List Kleene → Formulas → Kleene
+eval_group conjunction c ms = eval_all three c ms
+eval_group disjunction c ms = eval_any three c ms
 
 -- the two words of the literal with the byte b
 pub record LiteralPlanes (c : List ℕ) (b : ℕ) (r : Literal) : Type 0 where
   pub is_some : r.some ≡ get_or c (2 * b) 0
-  pub is-sure : r.sure ≡ get_or c (2 * b + 1) 0
+  pub is_sure : r.sure ≡ get_or c (2 * b + 1) 0
 
 -- the members of a group, n of them from p on: their value in each lane and, where all were met, the position after them
 pub record GroupPlanes (s c : List ℕ) (g : Group) (n p : ℕ) (whole : Bool) (r : Planes) : Type 0 where
   pub onward : p ≤ r.next
   pub is :
-      (facts : ℕ) (ms : Formulas) (q : ℕ) → facts ≤ 64 → Members facts g ms → memberCount ms ≡ n → Span s (length s) p (memberBytes ms) q →
+      (facts : ℕ) (ms : Formulas) (q : ℕ) → facts ≤ 64 → Members facts g ms → member_count ms ≡ n → Span s (length s) p (member_bytes ms) q →
       (whole ≡ true → r.next ≡ q) ×
-      ((case : ℕ → List Kleene) → Table c case → InLanes r.some r.sure (λ j. evalGroup g (case j) ms))
+      ((case : ℕ → List Kleene) → Table c case → InLanes r.some r.sure (λ j. eval_group g (case j) ms))
 
 -- the empty group with the mark b: "The empty "all" is true, the empty "any" false."
 pub record EmptyPlanes (b next : ℕ) (r : Planes) : Type 0 where

@@ -1,9 +1,9 @@
 // Evaluating a formula in 64 cases at once, a bit each. The bytes were read before, so nothing is tested again but that they are there.
+#![tactic(auto)]
+
 ghost use Rattle.std.specs.Prelude.{◌≡◌, true, false, ◌+◌, ◌<◌};
 ghost use Rattle.model.specs.FormulaBytes.{conjunction, disjunction};
 ghost use Rattle.evaluate.specs.Planes.{LiteralPlanes, GroupPlanes, EmptyPlanes, FormulaPlanes};
-
-use numbers::wide;
 
 // The mark that begins an "all".
 pub const ALL: u8 = 0x80;
@@ -12,14 +12,14 @@ pub const ALL: u8 = 0x80;
 pub const ONES: u64 = 0xffff_ffff_ffff_ffff;
 
 // A value in 64 lanes, and the position after the bytes that have it. (The words stand apart: stored singly, they are not loaded as one.)
-#[derive(Drop)]
+#[derive(Clone, Copy)]
 pub struct Planes {
     pub some: u64,
     pub next: usize,
     pub sure: u64,
 }
 
-#[derive(Drop)]
+#[derive(Clone, Copy)]
 pub struct Literal {
     pub some: u64,
     pub sure: u64,
@@ -30,7 +30,7 @@ fn literal_planes(b: u8, c: &[u64; 256]) -> Literal
     requires { b < 128 }
     ensures { LiteralPlanes c.now b result }
 {
-    let i = 2 * wide(b);
+    let i = 2 * b as usize;
     Literal {
         some: c[i],
         sure: c[i + 1],
@@ -39,7 +39,9 @@ fn literal_planes(b: u8, c: &[u64; 256]) -> Literal
 
 // A value that is known, and the same in every lane.
 fn known(word: u64, next: usize) -> Planes
-    ensures { (result.some ≡ word) × (result.sure ≡ word) × (result.next ≡ next) }
+    ensures some { result.some ≡ word }
+    ensures sure { result.sure ≡ word }
+    ensures after { result.next ≡ next }
 {
     Planes {
         some: word,
@@ -58,17 +60,18 @@ fn empty_planes(mark: u8, next: usize) -> Planes
     known(0, next)
 }
 
-// The members of an "all", n of them from `at` on. Unless the position after the whole group is asked for, no in every lane decides it.
-#[cycle(all_planes_any_planes)]
+// The members of an "all", n of them from `at` on. Unless the position after the whole group is asked for, no in every lane decides it. The
+// count goes down: that takes one register, where one that goes up takes two.
+#[cycle(planes)]
 pub fn all_planes(s: &[u8], at: usize, n: u8, c: &[u64; 256], whole: bool) -> Planes
     ensures { GroupPlanes s.now c.now conjunction n at whole result }
 {
     let mut some: u64 = ONES;
     let mut sure: u64 = ONES;
     let mut p = at;
-    let mut k = n;
-    while 0 < k {
-        if !whole & (some == 0) {
+    for _ in (0..n).rev() {
+        let decided = some == 0;
+        if !whole & decided {
             return Planes {
                 some,
                 next: p,
@@ -101,7 +104,6 @@ pub fn all_planes(s: &[u8], at: usize, n: u8, c: &[u64; 256], whole: bool) -> Pl
             sure = sure & r.sure;
             p = r.next;
         }
-        k = k - 1;
     }
     Planes {
         some,
@@ -111,16 +113,16 @@ pub fn all_planes(s: &[u8], at: usize, n: u8, c: &[u64; 256], whole: bool) -> Pl
 }
 
 // The members of an "any", n of them from `at` on. Unless the position after the whole group is asked for, yes in every lane decides it.
-#[cycle(all_planes_any_planes)]
+#[cycle(planes)]
 fn any_planes(s: &[u8], at: usize, n: u8, c: &[u64; 256], whole: bool) -> Planes
     ensures { GroupPlanes s.now c.now disjunction n at whole result }
 {
     let mut some: u64 = 0;
     let mut sure: u64 = 0;
     let mut p = at;
-    let mut k = n;
-    while 0 < k {
-        if !whole & (sure == ONES) {
+    for _ in (0..n).rev() {
+        let decided = sure == ONES;
+        if !whole & decided {
             return Planes {
                 some,
                 next: p,
@@ -153,7 +155,6 @@ fn any_planes(s: &[u8], at: usize, n: u8, c: &[u64; 256], whole: bool) -> Planes
             sure = sure | r.sure;
             p = r.next;
         }
-        k = k - 1;
     }
     Planes {
         some,
@@ -174,7 +175,7 @@ pub fn formula_planes(s: &[u8], at: usize, c: &[u64; 256]) -> Planes
         return known(0, at);
     }
     let begin = at + 2;
-    let next = begin + (wide(s[at]) * 256 + wide(s[at + 1]));
+    let next = begin + (s[at] as usize * 256 + s[at + 1] as usize);
     let b = s[begin];
     if b < ALL {
         let l = literal_planes(b, c);
