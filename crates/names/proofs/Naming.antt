@@ -10,11 +10,11 @@ use lib.ListN.{length, get_or}
 use lib.Dec.{eqb}
 use borrow.Author.Tests.{eqb-true}
 use lib.Bits.{bit_or}
-use Rattle.model.specs.Limits.{maxFacts, maxDepth}
+use Rattle.model.specs.Limits.{max_facts, max_depth}
 use Rattle.model.specs.Formula.{Literal, fact, denial, Formula, Formulas, lit, all, any, none, more}
-use Rattle.model.specs.Relevance.{names, memberNames}
+use Rattle.model.specs.Relevance.{names, member_names}
 use Rattle.model.specs.Read.{bytes_of}
-use Rattle.model.specs.FormulaBytes.{literalByte, memberCount, formulaBytes, memberBytes, encodeFormula}
+use Rattle.model.specs.FormulaBytes.{literal_byte, member_count, formula_bytes, member_bytes, encode_formula}
 use Rattle.model.specs.WellFormed.{Declared, Formed, FormedAll}
 use Rattle.model.specs.Stands.{Span}
 use Rattle.model.proofs.Laws.Truth.{or_cases, or_assoc, or-none}
@@ -30,15 +30,15 @@ unfoldable joined : Formulas → Formulas → Formulas
 joined none ms = ms
 joined (more k ks) ms = more k (joined ks ms)
 
-joined_bytes : (ks ms : Formulas) → memberBytes (joined ks ms) ≡ memberBytes ks ++ memberBytes ms
-unfolding joined memberBytes
+joined_bytes : (ks ms : Formulas) → member_bytes (joined ks ms) ≡ member_bytes ks ++ member_bytes ms
+unfolding joined member_bytes
 joined_bytes none ms = refl
 joined_bytes (more k ks) ms = rw (joined_bytes ks ms, ← append_assoc)
 
-joined-names : (ks ms : Formulas) (f : ℕ) → memberNames (joined ks ms) f ≡ (memberNames ks f || memberNames ms f)
+joined-names : (ks ms : Formulas) (f : ℕ) → member_names (joined ks ms) f ≡ (member_names ks f || member_names ms f)
 unfolding joined names
 joined-names none ms f = refl
-joined-names (more k ks) ms f = rw (joined-names ks ms f) (sym (or_assoc (names k f) (memberNames ks f) (memberNames ms f)))
+joined-names (more k ks) ms f = rw (joined-names ks ms f) (sym (or_assoc (names k f) (member_names ks f) (member_names ms f)))
 
 joined-declared : (facts : ℕ) (ks ms : Formulas) → MembersDeclared facts ks → MembersDeclared facts ms → MembersDeclared facts (joined ks ms)
 unfolding joined AllDeclared
@@ -48,17 +48,17 @@ joined-declared facts (more m ks) ms h k = (h.0, joined-declared facts ks ms h.1
 -- ---- what stands at p: a literal, or a mark before a group's members
 
 data Here (facts : ℕ) (s : List ℕ) (p q : ℕ) (ms : Formulas) : Type 0 where
-  nothing : p ≡ q → ((f : ℕ) → memberNames ms f ≡ false) → Here facts s p q ms
+  nothing : p ≡ q → ((f : ℕ) → member_names ms f ≡ false) → Here facts s p q ms
   literal :
       (f : ℕ) (rest : Formulas) → f < facts → p < q → get_or s p 0 < 128 → get_or s p 0 % 64 ≡ f → MembersDeclared facts rest →
-      Span s (length s) (p + 1) (memberBytes rest) q → ((g : ℕ) → memberNames ms g ≡ (eqb f g || memberNames rest g)) → Here facts s p q ms
+      Span s (length s) (p + 1) (member_bytes rest) q → ((g : ℕ) → member_names ms g ≡ (eqb f g || member_names rest g)) → Here facts s p q ms
   group :
-      (rest : Formulas) → p + 1 < q → 128 ≤ get_or s p 0 → MembersDeclared facts rest → Span s (length s) (p + 2) (memberBytes rest) q →
-      ((g : ℕ) → memberNames ms g ≡ memberNames rest g) → Here facts s p q ms
+      (rest : Formulas) → p + 1 < q → 128 ≤ get_or s p 0 → MembersDeclared facts rest → Span s (length s) (p + 2) (member_bytes rest) q →
+      ((g : ℕ) → member_names ms g ≡ member_names rest g) → Here facts s p q ms
 
-module _ (facts : ℕ) (few : facts ≤ maxFacts) (s : List ℕ) (p q : ℕ) where
+module _ (facts : ℕ) (few : facts ≤ max_facts) (s : List ℕ) (p q : ℕ) where
   of-literal :
-      (l : Literal) (ms : Formulas) → Declared facts l → MembersDeclared facts ms → Span s (length s) p (literalByte l ∷ memberBytes ms) q →
+      (l : Literal) (ms : Formulas) → Declared facts l → MembersDeclared facts ms → Span s (length s) p (literal_byte l ∷ member_bytes ms) q →
       Here facts s p q (more (lit l) ms)
   unfolding names
   of-literal (fact f) ms d h v =
@@ -71,7 +71,7 @@ module _ (facts : ℕ) (few : facts ≤ maxFacts) (s : List ℕ) (p q : ℕ) whe
   -- the members of a group are the next ones
   of-group :
       (mark : ℕ) (ks ms : Formulas) → 128 ≤ mark → MembersDeclared facts ks → MembersDeclared facts ms →
-      Span s (length s) p (mark ∷ memberCount ks ∷ (memberBytes ks ++ memberBytes ms)) q → (m : Formula) → ((g : ℕ) → names m g ≡ memberNames ks g) →
+      Span s (length s) p (mark ∷ member_count ks ∷ (member_bytes ks ++ member_bytes ms)) q → (m : Formula) → ((g : ℕ) → names m g ≡ member_names ks g) →
       Here facts s p q (more m ms)
   unfolding names
   of-group mark ks ms b d h v m e =
@@ -81,8 +81,8 @@ module _ (facts : ℕ) (few : facts ≤ maxFacts) (s : List ℕ) (p q : ℕ) whe
       group (joined ks ms) (omega (arith, span-length u)) (omega arith) (joined-declared facts ks ms d h) (rw (k, ← joined_bytes ks ms) at u)
       (λ g. rw (e g) (sym (joined-names ks ms g)))
 
-  here : (ms : Formulas) → MembersDeclared facts ms → Span s (length s) p (memberBytes ms) q → Here facts s p q ms
-  unfolding memberBytes AllDeclared names
+  here : (ms : Formulas) → MembersDeclared facts ms → Span s (length s) p (member_bytes ms) q → Here facts s p q ms
+  unfolding member_bytes AllDeclared names
   here none d v = nothing (empty v) (λ f. refl)
   here (more (lit l) ms) d v = of-literal l ms d.0 d.1 v
   here (more (all ks) ms) d v = of-group 128 ks ms (omega arith) d.0 d.1 v (all ks) (λ g. refl)
@@ -95,14 +95,14 @@ module _ (s : List ℕ) (at end : ℕ) where
   pub record Left (facts : ℕ) (ms : Formulas) (word p : ℕ) : Type 0 where
     pub left : Formulas
     pub declared : MembersDeclared facts left
-    pub bytes : Span s (length s) p (memberBytes left) end
+    pub bytes : Span s (length s) p (member_bytes left) end
     pub before : ℕ → Bool
     pub set : FactSet word before
-    pub all_named : (f : ℕ) → memberNames ms f ≡ (before f || memberNames left f)
+    pub all_named : (f : ℕ) → member_names ms f ≡ (before f || member_names left f)
 
   abbrev pub Naming : ℕ → ℕ → Type 0
   Naming word p =
-      (facts : ℕ) (ms : Formulas) → facts ≤ maxFacts → MembersDeclared facts ms → Span s (length s) at (memberBytes ms) end → Left facts ms word p
+      (facts : ℕ) (ms : Formulas) → facts ≤ max_facts → MembersDeclared facts ms → Span s (length s) at (member_bytes ms) end → Left facts ms word p
 
   pub naming-begins : Naming 0 at
   naming-begins facts ms few d v =
@@ -120,7 +120,7 @@ module _ (s : List ℕ) (at end : ℕ) where
           bytes = w;
           before = λ k. o.before k || eqb f k;
           set = set-or o.set x;
-          all_named = λ k. o.all_named k ∙ rw (n k, i, e) (sym (or_assoc (o.before k) (eqb g k) (memberNames rest k)));
+          all_named = λ k. o.all_named k ∙ rw (n k, i, e) (sym (or_assoc (o.before k) (eqb g k) (member_names rest k)));
         }
     with-literal facts ms o (group rest _ big h w n) l b f one i x = absurd (omega arith)
 
@@ -133,7 +133,7 @@ module _ (s : List ℕ) (at end : ℕ) where
     -- a mark without its count is none, and past the end none is left
     none_left :
         (facts : ℕ) (ms : Formulas) (o : Left facts ms word p) → Here facts s p end o.left → (p < end → (128 ≤ get_or s p 0) × (end - p < 2)) →
-        FactSet word (memberNames ms)
+        FactSet word (member_names ms)
     none_left facts ms o (nothing e n) h = set_same o.set (λ f l. sym (o.all_named f ∙ rw (n f) (or-none (o.before f))))
     none_left facts ms o (literal g rest small l c e d w n) h = absurd (omega (arith, (h l).0))
     none_left facts ms o (group rest l big d w n) h = absurd (omega (arith, (h (omega arith)).1))
@@ -175,7 +175,7 @@ mutual
 module _ (s : List ℕ) (p : ℕ) where
   -- the block ends before it
   pub after_nothing : (p + 1 < length s → p + 2 + (get_or s p 0 * 256 + get_or s (p + 1) 0) ≤ length s → ⊥) → AfterFormula s p 0
-  unfolding encodeFormula bytes_of
+  unfolding encode_formula bytes_of
   after_nothing h =
       record {
         within = omega arith;
@@ -197,19 +197,16 @@ module _ (s : List ℕ) (p : ℕ) where
     names-nothing z r =
         record { is = λ facts f q few at. let (e, _) = stated-bytes s facts p f q at in absurd (omega (arith, A.is facts f q at)) }
 
-    pub past-length : (next ≡ 0 → ⊥) → p + 2 ≤ next
-    past-length n = elim A.onward [ inl z ↦ absurd (n z) | inr l ↦ l ]
-
     pub names-stated : (word : ℕ) → NamesMembers s (p + 2) next word → NamesFacts s p (record { facts = word; next = next })
-    unfolding names AllDeclared memberBytes
+    unfolding names AllDeclared member_bytes
     names-stated word N =
         record {
           is =
               λ facts f q few at.
               let (_, v) = stated-bytes s facts p f q at in
               let e = A.is facts f q at in
-              let u : Span s (length s) (p + 2) (memberBytes (more f none)) next = rw (e, append-nil (formulaBytes f)) v in
-              let o = N.is facts (more f none) few (formed-declared f facts maxDepth 0 at.ok.formed, tt) u in
+              let u : Span s (length s) (p + 2) (member_bytes (more f none)) next = rw (e, append-nil (formula_bytes f)) v in
+              let o = N.is facts (more f none) few (formed-declared f facts max_depth 0 at.ok.formed, tt) u in
               (e, set_same o (λ g l. or-none (names f g)));
         }
 
@@ -224,7 +221,7 @@ mutual
   named-declared (all ms) facts d f e = members-named ms facts d f e
   named-declared (any ms) facts d f e = members-named ms facts d f e
 
-  members-named : (ms : Formulas) (facts : ℕ) → MembersDeclared facts ms → (f : ℕ) → memberNames ms f ≡ true → f < facts
+  members-named : (ms : Formulas) (facts : ℕ) → MembersDeclared facts ms → (f : ℕ) → member_names ms f ≡ true → f < facts
   members-named none facts d f e = absurd (false≢true e)
   members-named (more m ms) facts d f e =
       elim (or_cases (names m f) _ e) [ inl h ↦ named-declared m facts d.0 f h | inr h ↦ members-named ms facts d.1 f h ]

@@ -9,18 +9,18 @@ use lib.Dec.{eqb}
 use lib.Bits.{bit_and, bit_or, bit_xor}
 use lib.Pow.{pow-lt, pow-add, shl-shr}
 use borrow.Author.Tests.{eq-eqb, ne_eqb}
-use Rattle.model.specs.Limits.{maxFacts}
+use Rattle.model.specs.Limits.{max_facts}
 use Rattle.model.specs.Case.{bit}
-use Rattle.model.specs.Planes.{laneBit}
+use Rattle.model.specs.Planes.{lane_bit}
 use Rattle.model.proofs.Laws.Planes.{ones, bit-small, bit-and, bit-or, bit-zero, bit-flip}
 use Rattle.names.specs.Names.{FactSet}
 
 -- fact f has the bit of this lane
 abbrev lane_of : ℕ → ℕ
-lane_of f = maxFacts - suc f
+lane_of f = max_facts - suc f
 
-has : (x f : ℕ) → bit maxFacts x f ≡ eqb (laneBit (lane_of f) x) 1
-unfolding bit laneBit
+has : (x f : ℕ) → bit max_facts x f ≡ eqb (lane_bit (lane_of f) x) 1
+unfolding bit lane_bit
 has x f = refl
 
 or-bits : (x y : ℕ) → x < 2 → y < 2 → eqb (max x y) 1 ≡ (eqb x 1 || eqb y 1)
@@ -49,16 +49,16 @@ not-bit (suc (suc x)) h = absurd (omega arith)
 pub set-none : FactSet 0 (λ f. false)
 set-none = record { at = λ f l. has 0 f ∙ rw (bit-zero (lane_of f)) }
 
-pub set_same : {x : ℕ} {p q : ℕ → Bool} → FactSet x p → ((f : ℕ) → f < maxFacts → p f ≡ q f) → FactSet x q
+pub set_same : {x : ℕ} {p q : ℕ → Bool} → FactSet x p → ((f : ℕ) → f < max_facts → p f ≡ q f) → FactSet x q
 set_same h e = record { at = λ f l. h.at f l ∙ e f l }
 
 module _ {x : ℕ} {p : ℕ → Bool} (h : FactSet x p) where
-  of : (f : ℕ) → f < maxFacts → eqb (laneBit (lane_of f) x) 1 ≡ p f
+  of : (f : ℕ) → f < max_facts → eqb (lane_bit (lane_of f) x) 1 ≡ p f
   of f l = sym (has x f) ∙ h.at f l
 
   pub set-not : FactSet (bit_xor ones x) (λ f. not (p f))
   set-not =
-      record { at = λ f l. has _ f ∙ rw (bit-flip (lane_of f) x (omega arith), not-bit (laneBit (lane_of f) x) (bit-small (lane_of f) x), of f l) }
+      record { at = λ f l. has _ f ∙ rw (bit-flip (lane_of f) x (omega arith), not-bit (lane_bit (lane_of f) x) (bit-small (lane_of f) x), of f l) }
 
 module _ {x y : ℕ} {p q : ℕ → Bool} (h : FactSet x p) (k : FactSet y q) where
   pub set-or : FactSet (bit_or x y) (λ f. p f || q f)
@@ -67,7 +67,7 @@ module _ {x y : ℕ} {p q : ℕ → Bool} (h : FactSet x p) (k : FactSet y q) wh
         at =
             λ f l.
             has _ f ∙
-            rw (bit-or (lane_of f) x y, or-bits (laneBit (lane_of f) x) (laneBit (lane_of f) y) (bit-small (lane_of f) x) (bit-small (lane_of f) y), of h f l, of k f l);
+            rw (bit-or (lane_of f) x y, or-bits (lane_bit (lane_of f) x) (lane_bit (lane_of f) y) (bit-small (lane_of f) x) (bit-small (lane_of f) y), of h f l, of k f l);
       }
 
   pub set-and : FactSet (bit_and x y) (λ f. p f && q f)
@@ -76,11 +76,11 @@ module _ {x y : ℕ} {p q : ℕ → Bool} (h : FactSet x p) (k : FactSet y q) wh
         at =
             λ f l.
             has _ f ∙
-            rw (bit-and (lane_of f) x y, and-bits (laneBit (lane_of f) x) (laneBit (lane_of f) y) (bit-small (lane_of f) x) (bit-small (lane_of f) y), of h f l, of k f l);
+            rw (bit-and (lane_of f) x y, and-bits (lane_bit (lane_of f) x) (lane_bit (lane_of f) y) (bit-small (lane_of f) x) (bit-small (lane_of f) y), of h f l, of k f l);
       }
 
 -- one fact
-pub set-one : (f : ℕ) → f < maxFacts → FactSet (2 ^ (maxFacts - (f + 1))) (eqb f)
+pub set-one : (f : ℕ) → f < max_facts → FactSet (2 ^ (max_facts - (f + 1))) (eqb f)
 unfolding bit
 set-one f l =
     record {
@@ -88,18 +88,18 @@ set-one f l =
           λ g m.
           elim (ℕ_discrete f g) [
             | yes e ↦
-                let i : maxFacts - (f + 1) ≡ maxFacts - suc g = omega arith in
-                let q : 2 ^ (maxFacts - suc g) / 2 ^ (maxFacts - suc g) ≡ 1 = ap (λ (x : ℕ). x / 2 ^ (maxFacts - suc g)) (omega arith) ∙ shl-shr 1 (maxFacts - suc g) in
+                let i : max_facts - (f + 1) ≡ max_facts - suc g = omega arith in
+                let q : 2 ^ (max_facts - suc g) / 2 ^ (max_facts - suc g) ≡ 1 = ap (λ (x : ℕ). x / 2 ^ (max_facts - suc g)) (omega arith) ∙ shl-shr 1 (max_facts - suc g) in
                 rw (i, q) (sym (eq-eqb f g e))
             | no n ↦ rw (ne_eqb f g n) (ap (λ (x : ℕ). eqb x 1) (apart g m n))
           ];
     }
   where
-    apart : (g : ℕ) → g < maxFacts → (f ≡ g → ⊥) → 2 ^ (maxFacts - (f + 1)) / 2 ^ (maxFacts - suc g) % 2 ≡ 0
+    apart : (g : ℕ) → g < max_facts → (f ≡ g → ⊥) → 2 ^ (max_facts - (f + 1)) / 2 ^ (max_facts - suc g) % 2 ≡ 0
     apart g m n =
         elim (dec_lt g f) [
-          | yes k ↦ ap (λ (x : ℕ). x % 2) (div-eq_of_lt (pow-lt {i = maxFacts - (f + 1)} {j = maxFacts - suc g} (omega arith)))
+          | yes k ↦ ap (λ (x : ℕ). x % 2) (div-eq_of_lt (pow-lt {i = max_facts - (f + 1)} {j = max_facts - suc g} (omega arith)))
           | no k ↦
-              let i : maxFacts - (f + 1) ≡ suc (g - suc f) + (maxFacts - suc g) = omega arith in
-              rw (i, pow-add 2 (suc (g - suc f)) (maxFacts - suc g), shl-shr (2 ^ suc (g - suc f)) (maxFacts - suc g), pow-suc 2 (g - suc f)) (omega arith)
+              let i : max_facts - (f + 1) ≡ suc (g - suc f) + (max_facts - suc g) = omega arith in
+              rw (i, pow-add 2 (suc (g - suc f)) (max_facts - suc g), shl-shr (2 ^ suc (g - suc f)) (max_facts - suc g), pow-suc 2 (g - suc f)) (omega arith)
         ]

@@ -1,17 +1,17 @@
 -- Sets of facts as words, and the facts that a formula names.
 use Rattle.std.specs.Prelude.{◌≡◌, Bool, ◌⊎◌, List, ℕ, ◌+◌, ◌≤◌, ◌<◌, length}
-use Rattle.model.specs.Limits.{maxFacts}
+use Rattle.model.specs.Limits.{max_facts}
 use Rattle.model.specs.Formula.{Formula, Formulas, lit, all, any, none, more}
 use Rattle.model.specs.Case.{bit}
-use Rattle.model.specs.Relevance.{names, memberNames}
-use Rattle.model.specs.FormulaBytes.{memberBytes}
+use Rattle.model.specs.Relevance.{names, member_names}
+use Rattle.model.specs.FormulaBytes.{member_bytes}
 use Rattle.model.specs.WellFormed.{Declared}
 use Rattle.model.specs.Stands.{Span, FormulaAt}
 use Rattle.names.specs.declared.Named.{Named}
 
 -- the word has a bit for each fact, fact 0 on top: whether p says that the fact is in the set
 pub record FactSet (word : ℕ) (p : ℕ → Bool) : Type 0 where
-  pub at : (f : ℕ) → f < maxFacts → bit maxFacts word f ≡ p f
+  pub at : (f : ℕ) → f < max_facts → bit max_facts word f ≡ p f
 
 -- every literal is of a declared fact
 unfoldable mutual
@@ -27,8 +27,8 @@ unfoldable mutual
 -- the facts that the members from p up to q name
 pub record NamesMembers (s : List ℕ) (p q r : ℕ) : Type 0 where
   pub is :
-      (facts : ℕ) (ms : Formulas) → facts ≤ maxFacts → MembersDeclared facts ms → Span s (length s) p (memberBytes ms) q →
-      FactSet r (memberNames ms)
+      (facts : ℕ) (ms : Formulas) → facts ≤ max_facts → MembersDeclared facts ms → Span s (length s) p (member_bytes ms) q →
+      FactSet r (member_names ms)
 
 -- the position after the formula at p, its length field first
 pub record AfterFormula (s : List ℕ) (p r : ℕ) : Type 0 where
@@ -39,4 +39,4 @@ pub record AfterFormula (s : List ℕ) (p r : ℕ) : Type 0 where
 -- the facts that the formula at p names, its length field first, and the position after it
 pub record NamesFacts (s : List ℕ) (p : ℕ) (r : Named) : Type 0 where
   pub is :
-      (facts : ℕ) (f : Formula) (q : ℕ) → facts ≤ maxFacts → FormulaAt s facts p f q → (r.next ≡ q) × FactSet r.facts (names f)
+      (facts : ℕ) (f : Formula) (q : ℕ) → facts ≤ max_facts → FormulaAt s facts p f q → (r.next ≡ q) × FactSet r.facts (names f)

@@ -1,10 +1,12 @@
-// The facts that a formula names (document 02, W-204). A set of facts is a word: fact 0 is its top bit.
+// The facts that a formula names. A set of facts is a word: fact 0 is its top bit.
+#![tactic(auto)]
+
 ghost use Rattle.std.specs.Prelude.{◌≡◌, ◌≤◌, ◌<◌, length, eqb};
-ghost use Rattle.model.specs.Limits.{maxFacts};
+ghost use Rattle.model.specs.Limits.{max_facts};
 ghost use Rattle.model.specs.Case.{bit};
 ghost use Rattle.names.specs.Names.{FactSet, NamesMembers, AfterFormula, NamesFacts};
 
-use numbers::{span, wide};
+use numbers::span;
 
 // The first byte that is no literal.
 const MARKS: u8 = 128;
@@ -14,7 +16,7 @@ pub const WORD: usize = 64;
 
 // The set of one fact.
 pub fn fact_bit(fact: usize) -> u64
-    requires { fact < maxFacts }
+    requires { fact < max_facts }
     ensures { FactSet result (eqb fact) }
 {
     span(WORD, fact + 1)
@@ -22,8 +24,8 @@ pub fn fact_bit(fact: usize) -> u64
 
 // Whether a fact is in a set.
 pub fn has_fact(set: u64, fact: usize) -> bool
-    requires { fact < maxFacts }
-    ensures { result ≡ bit maxFacts set fact }
+    requires { fact < max_facts }
+    ensures { result ≡ bit max_facts set fact }
 {
     (set >> (WORD - 1 - fact)) % 2 == 1
 }
@@ -37,8 +39,9 @@ fn named_members(s: &[u8], at: usize, end: usize) -> u64
     let mut p = at;
     while p < end {
         let b = s[p];
-        if b < MARKS {
-            facts = facts | fact_bit(wide(b % 64));
+        let literal = b < MARKS;
+        if literal {
+            facts = facts | fact_bit((b % 64) as usize);
             p = p + 1;
         } else {
             if end - p < 2 {
@@ -62,7 +65,7 @@ pub fn after_formula(s: &[u8], at: usize) -> usize
         return 0;
     }
     let begin = at + 2;
-    let stated = wide(s[at]) * 256 + wide(s[at + 1]);
+    let stated = s[at] as usize * 256 + s[at + 1] as usize;
     if len - begin < stated {
         return 0;
     }
@@ -70,7 +73,7 @@ pub fn after_formula(s: &[u8], at: usize) -> usize
 }
 
 // The facts that a formula names, and the position after it.
-#[derive(Drop)]
+#[derive(Clone, Copy)]
 pub struct Named {
     pub facts: u64,
     pub next: usize,
