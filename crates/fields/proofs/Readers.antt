@@ -4,72 +4,71 @@ use mathlib.Core.List.{List}
 use Prim.Native.Nat.{ℕ, ◌≤◌, suc, ◌+◌, ◌-◌, ◌<◌}
 use lib.ListN.{length, get_or}
 use borrow.Author.Tests.{leb-true, lt-ltb, le-leb}
-use Rattle.model.specs.Read.{Read, got, Reader, and_then, ◌>>◌, headBytes, header, ◌>>=◌, done, position, require, byte}
+use Rattle.model.specs.Read.{Read, got, Reader, and_then, ◌>>◌, head_bytes, header, ◌>>=◌, done, position, require, byte}
 use Rattle.model.specs.declared.Refusal.{Refusal}
 use Rattle.model.proofs.Laws.Reading.{got-inj, needed}
 use Rattle.formula.specs.Readings.{rejected, next_of}
-use Rattle.formula.specs.declared.read.Reading.{Reading}
-use Rattle.formula.specs.declared.read.Reading.TheVariants.{Refused, Next}
+use Rattle.std.specs.Prelude.{Result, Ok, Err}
 use Rattle.formula.proofs.Readers.{Got, next-got, next-refused, then_next}
 use mathlib.Core.Bool.{true}
 use native.Mathlib.Omega.{arith}
 use native.Mathlib.Decide.{dec_lt}
-use Rattle.model.specs.Limits.{maxFacts}
+use Rattle.model.specs.Limits.{max_facts}
 use Rattle.model.specs.Formula.{Formula}
 use Rattle.model.specs.Action.{Effect}
-use Rattle.model.specs.FormulaBytes.{isLiteral, literalOf, literalByte, formula}
+use Rattle.model.specs.FormulaBytes.{is_literal, literal_of, literal_byte, formula}
 use Rattle.model.specs.ProblemBytes.{effect, effects}
 use Rattle.model.proofs.Laws.Planes.{literal-fact, literal-denial}
 use Rattle.fields.specs.Effects.{EffectGot, EffectRead}
 
 -- what was refused stays refused; what was read goes on
-module _ {A : Type 0} {x : Read A} {r : Reading} (h : r ≡ next_of x) where
-  pub was-refused : {y : Refusal} → r ≡ Refused y → x ≡ rejected y
+module _ {A : Type 0} {x : Read A} {r : Result ℕ Refusal} (h : r ≡ next_of x) where
+  pub was-refused : {y : Refusal} → r ≡ Err y → x ≡ rejected y
   was-refused e = next-refused x _ (sym h ∙ e)
 
-  pub was-got : {q : ℕ} → r ≡ Next q → Got x q
+  pub was-got : {q : ℕ} → r ≡ Ok q → Got x q
   was-got e = next-got x _ (sym h ∙ e)
 
 pub stays-refused :
-    {A B : Type 0} (x : Read A) (k : A → Reader B) {r : Reading} {y : Refusal} → r ≡ next_of x → r ≡ Refused y → Refused y ≡ next_of (and_then x k)
+    {A B : Type 0} (x : Read A) (k : A → Reader B) {r : Result ℕ Refusal} {y : Refusal} → r ≡ next_of x → r ≡ Err y → Err y ≡ next_of (and_then x k)
 unfolding and_then next_of
 stays-refused x k h e = rw (next-refused x _ (sym h ∙ e))
 
 -- a block whose header is right has one, and begins its body after it
 pub header-got :
-    (s : List ℕ) (number most version q : ℕ) (u : Unit {0}) → header s number most version 0 ≡ got u q → (headBytes ≤ length s) × (q ≡ headBytes)
+    (s : List ℕ) (number most version q : ℕ) (u : Unit {0}) → header s number most version 0 ≡ got u q → (head_bytes ≤ length s) × (q ≡ head_bytes)
 unfolding header ◌>>◌
 header-got s number most version q u e =
     needed _ _ _ _ _ e λ t₁ h₁.
     needed _ _ _ _ _ h₁ λ t₂ h₂.
     needed _ _ _ _ _ h₂ λ t₃ h₃.
     needed _ _ _ _ _ h₃ λ t₄ h₄.
-    (leb-true headBytes (length s) t₂, sym (got-inj h₄).1)
+    (leb-true head_bytes (length s) t₂, sym (got-inj h₄).1)
 
 -- ---- effects
 
-literal-byte : (b : ℕ) → literalByte (literalOf b) ≡ b
-literal-byte b = elim (dec_lt b maxFacts) [ yes h ↦ rw (literal-fact b h) | no h ↦ rw (literal-denial b (omega arith)) (omega arith) ]
+literal-byte : (b : ℕ) → literal_byte (literal_of b) ≡ b
+literal-byte b = elim (dec_lt b max_facts) [ yes h ↦ rw (literal-fact b h) | no h ↦ rw (literal-denial b (omega arith)) (omega arith) ]
 
 module _ (s : List ℕ) (facts least p : ℕ) where
   -- the effect of the literal at p, by what its formula's reader gives
   abbrev conditioned : Read Formula → Read Effect
-  conditioned x = and_then x (λ f. done (record { literal = literalOf (get_or s p 0); condition = f }))
+  conditioned x = and_then x (λ f. done (record { literal = literal_of (get_or s p 0); condition = f }))
 
-  module _ (h : p < length s) (k : isLiteral facts (get_or s p 0) ≡ true) (l : least ≤ get_or s p 0) where
+  module _ (h : p < length s) (k : is_literal facts (get_or s p 0) ≡ true) (l : least ≤ get_or s p 0) where
     effect_is : effect s facts least p ≡ conditioned (formula s facts (p + 1))
     unfolding effect ◌>>=◌ ◌>>◌ and_then position byte require
     effect_is = rw (lt-ltb p (length s) h, k, le-leb least (get_or s p 0) l)
 
-    pub effect-formula : (r : Reading) → r ≡ next_of (formula s facts (p + 1)) → EffectRead s facts least p r
+    pub effect-formula : (r : Result ℕ Refusal) → r ≡ next_of (formula s facts (p + 1)) → EffectRead s facts least p r
     unfolding and_then done
-    effect-formula (Refused r) e = effect_is ∙ ap conditioned (was-refused e refl)
-    effect-formula (Next q) e =
+    effect-formula (Err r) e = effect_is ∙ ap conditioned (was-refused e refl)
+    effect-formula (Ok q) e =
         let g = was-got e refl in
         record { effect = _; read = effect_is ∙ ap conditioned g.is; literal = literal-byte (get_or s p 0); inside = h }
 
 module _ (s : List ℕ) (facts least p : ℕ) where
-  pub effects-refused : {n : ℕ} {r : Refusal} → 0 < n → effect s facts least p ≡ rejected r → Refused r ≡ next_of (effects s facts n least p)
+  pub effects-refused : {n : ℕ} {r : Refusal} → 0 < n → effect s facts least p ≡ rejected r → Err r ≡ next_of (effects s facts n least p)
   unfolding effects ◌>>=◌ and_then next_of
   effects-refused {n} h e = let z : n ≡ suc (n - 1) = omega arith in rw (z, e)
 

@@ -1,8 +1,9 @@
 // What blocks are made of: the header, counts of one byte, and actions.
 
+#![tactic(auto)]
+
 pub mod action;
 pub mod header;
 
 pub use action::read_action;
-pub use header::{Counted, check_header, count_at};
-use numbers::wide;
+pub use header::{check_header, count_at};
