@@ -7,16 +7,15 @@ use lib.ListN.{length, get_or, set, replicate, length-set, length-append, get_or
 use lib.Seq.{get_or-set_same, get_or-set_other, get_or_at}
 use borrow.Author.Count.{below_none, below_more}
 use Rattle.model.specs.declared.Limits.{Limits}
-use Rattle.model.specs.Limits.{maxActions}
+use Rattle.model.specs.Limits.{max_actions}
 use Rattle.model.specs.Action.{Action}
 use Rattle.model.specs.Read.{Read, reject, got, and_then, ◌>>=◌, done}
-use Rattle.model.specs.ProblemBytes.{action, actions, actionAt}
+use Rattle.model.specs.ProblemBytes.{action, actions, action_at}
 use Rattle.model.proofs.Laws.Reading.{then-got, got-inj}
 use Rattle.model.specs.declared.Refusal.{Refusal}
-use Rattle.formula.specs.Readings.{rejected, next_of}
-use Rattle.formula.specs.declared.read.Reading.TheVariants.{Refused, Next}
+use Rattle.formula.specs.Readings.{rejected}
 use Rattle.formula.proofs.Readers.{Got}
-use Rattle.blocks.specs.Parts.{ActionStands, ActionsAt}
+use Rattle.blocks.specs.Parts.{ActionStands, ActionsFound}
 
 -- a reading with actions that were read before it
 abbrev prepend : List Action → Read (List Action) → Read (List Action)
@@ -38,28 +37,23 @@ prepend-more pre a (got as' q) = ap (λ (l : List Action). got l q) (sym (append
 pub record Sofar (F : Limits) (s : List ℕ) (facts m at : ℕ) (stand : List ℕ) (p i : ℕ) : Type 0 where
   pub pre : List Action
   pub size : length pre ≡ i
-  pub room : length stand ≡ maxActions
+  pub room : length stand ≡ max_actions
   pub rest : actions F s facts m at ≡ prepend pre (actions F s facts (m - i) p)
-  pub each : (j : ℕ) → j < i → ActionStands F s facts (get_or stand j 0) (actionAt pre j)
+  pub each : (j : ℕ) → j < i → ActionStands F s facts (get_or stand j 0) (action_at pre j)
 
 module _ {F : Limits} {s : List ℕ} {facts m at : ℕ} where
-  pub sofar-none : Sofar F s facts m at (replicate maxActions 0) at 0
+  pub sofar-none : Sofar F s facts m at (replicate max_actions 0) at 0
   sofar-none =
       let e : m - 0 ≡ m = omega arith in
       record { pre = []; size = refl; room = refl; rest = rw e (prepend-none _); each = below_none _ }
 
   module _ {stand : List ℕ} {p i : ℕ} (o : Sofar F s facts m at stand p i) where
-    pub sofar-refused :
-        (stand' : List ℕ) {r : Refusal} → i < m → action F s facts p ≡ rejected r →
-        ActionsAt F s facts m at (record { reading = Refused r; at = stand' })
-    unfolding actions ◌>>=◌ and_then next_of
-    sofar-refused stand' {r} h e =
-        let d : m - i ≡ suc (m - i - 1) = omega arith in
-        let z : actions F s facts m at ≡ rejected r = rw (o.rest, d, e) in
-        record { is = rw z; stand = λ as' q g. let y : ◌≡◌ {A = ℕ} 0 1 = cc in absurd (omega arith) }
+    pub sofar-refused : {r : Refusal} → i < m → action F s facts p ≡ rejected r → actions F s facts m at ≡ rejected r
+    unfolding actions ◌>>=◌ and_then
+    sofar-refused h e = let d : m - i ≡ suc (m - i - 1) = omega arith in rw (o.rest, d, e)
 
-    pub sofar-next : {q : ℕ} → i < m → i < maxActions → Got (action F s facts p) q → Sofar F s facts m at (set stand i p) q (i + 1)
-    unfolding actions actionAt ◌>>=◌ and_then done
+    pub sofar-next : {q : ℕ} → i < m → i < max_actions → Got (action F s facts p) q → Sofar F s facts m at (set stand i p) q (i + 1)
+    unfolding actions action_at ◌>>=◌ and_then done
     sofar-next {q} h l g =
         let a = g.value in
         let d : m - i ≡ suc (m - (i + 1)) = omega arith in
@@ -79,12 +73,11 @@ module _ {F : Limits} {s : List ℕ} {facts m at : ℕ} where
               (rw (get_or-set_same, get_or_at) (record { next = q; read = g.is }));
         }
 
-    pub sofar-all : i ≡ m → ActionsAt F s facts m at (record { reading = Next p; at = stand })
-    unfolding actions done next_of
+    pub sofar-all : i ≡ m → ActionsFound F s facts m at (record { end = p; at = stand })
+    unfolding actions done
     sofar-all h =
         let d : m - i ≡ 0 = omega arith in
-        let z : actions F s facts m at ≡ got o.pre p = rw (o.rest, d, append-nil) in
-        record { is = rw z; stand = λ as' q g j l. let e : o.pre ≡ as' = cc in rw e at (o.each j (omega arith)) }
+        record { all = o.pre; read = rw (o.rest, d, append-nil); stand = λ j l. o.each j (omega arith) }
 
 -- as many actions are read as are asked for
 pub actions-length :

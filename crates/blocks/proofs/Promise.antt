@@ -9,7 +9,8 @@ use mir.Val.{Fits}
 use Rattle.model.specs.Limits.{version1}
 use Rattle.model.specs.Answer as Answer
 use Rattle.model.specs.Answer.{Answer, refused, answered}
-use Rattle.model.specs.Operations.{Counts, readProblem, readPlan}
+use Rattle.model.specs.declared.Counts.{Counts}
+use Rattle.model.specs.Operations.{read_problem, read_plan}
 use Rattle.model.specs.WellFormed.{Bytes}
 use Rattle.model.proofs.Laws.Tasks.{answer-then}
 use Rattle.model.proofs.Demands.{version1-holds}
@@ -23,23 +24,23 @@ of-slice s h i = omega (arith, h i)
 pub not-refused : {A : Type 0} {x : Answer A} {a : A} {n q : ℕ} → x ≡ answered a → x ≡ refused n q → ⊥
 not-refused e f = let z : ◌≡◌ {A = ℕ} 0 1 = cc in omega arith
 
-pub problem-promised : (problem : List ℕ) → Bytes problem → (r : Answer Counts) → r ≡ readProblem version1 problem → ProblemPromised problem r
-unfolding readProblem Answer.◌>>=◌
+pub problem-promised : (problem : List ℕ) → Bytes problem → (r : Answer Counts) → r ≡ read_problem version1 problem → ProblemPromised problem r
+unfolding read_problem Answer.◌>>=◌
 problem-promised problem b (refused n q) e =
     λ p (k, z).
-    let a = rw (z, version1-holds.demand1.problem-accepted p k) at e in
+    let a = rw (z, version1-holds.demand1.problem_accepted p k) at e in
     not-refused a refl
 problem-promised problem b (answered c) e =
-    answer-then (sym e) λ p h k. (p, version1-holds.demand1.problem-sound problem b p h, cc)
+    answer-then (sym e) λ p h k. (p, version1-holds.demand1.problem_sound problem b p h, cc)
 
 pub plan-promised :
-    (problem plan : List ℕ) → Bytes problem → Bytes plan → (r : Answer ℕ) → r ≡ readPlan version1 problem plan → PlanPromised problem plan r
-unfolding readPlan Answer.◌>>=◌
+    (problem plan : List ℕ) → Bytes problem → Bytes plan → (r : Answer ℕ) → r ≡ read_plan version1 problem plan → PlanPromised problem plan r
+unfolding read_plan Answer.◌>>=◌
 plan-promised problem plan b d (refused n q) e =
     λ p steps (k, z) (l, y).
-    let a = rw (z, y, version1-holds.demand1.problem-accepted p k, Answer.◌>>=◌, version1-holds.demand1.plan-accepted (length p.actions) steps l) at e in
+    let a = rw (z, y, version1-holds.demand1.problem_accepted p k, Answer.◌>>=◌, version1-holds.demand1.plan_accepted (length p.actions) steps l) at e in
     not-refused a refl
 plan-promised problem plan b d (answered m) e =
     answer-then (sym e) λ p h₁ k₁.
     answer-then k₁ λ steps h₂ k₂.
-    (p, steps, version1-holds.demand1.problem-sound problem b p h₁, version1-holds.demand1.plan-sound plan d (length p.actions) steps h₂, cc)
+    (p, steps, version1-holds.demand1.problem_sound problem b p h₁, version1-holds.demand1.plan_sound plan d (length p.actions) steps h₂, cc)

@@ -11,9 +11,9 @@ use Rattle.model.specs.declared.Problem as declared
 use Rattle.model.specs.Answer as Answer
 use Rattle.model.specs.Formula.{Formula}
 use Rattle.model.specs.Action.{Action}
-use Rattle.model.specs.Read.{headBytes}
-use Rattle.model.specs.ProblemBytes.{Problem, actionAt}
-use Rattle.model.specs.Operations.{task_of, readTask}
+use Rattle.model.specs.Read.{head_bytes}
+use Rattle.model.specs.ProblemBytes.{Problem, action_at}
+use Rattle.model.specs.Operations.{task_of, read_task}
 use Rattle.model.specs.WellFormed.{Bytes, Each, Sensible}
 use Rattle.model.specs.Stands.{FormulaAt, ActionAt, TaskStands}
 use Rattle.model.proofs.Laws.FormulaCodec.{formula-got}
@@ -36,8 +36,8 @@ module _ {F : Limits} (S : Sensible F) {s : List ℕ} {facts : ℕ} (b : Bytes s
       (k.next, record { precondition = o.precondition; few = omega (arith, o.count, S.effects); effects = o.effects; bytes = r })
 
 -- the action of a plan's step is the one that the step names
-step-action : (as' : List Action) (bs : List ℕ) (i : ℕ) → i < length bs → actionAt (map (actionAt as') bs) i ≡ actionAt as' (get_or bs i 0)
-unfolding actionAt
+step-action : (as' : List Action) (bs : List ℕ) (i : ℕ) → i < length bs → action_at (map (action_at as') bs) i ≡ action_at as' (get_or bs i 0)
+unfolding action_at
 step-action as' [] i h = absurd (not-suc-le-zero h)
 step-action as' (b ∷ bs) zero h = refl
 step-action as' (b ∷ bs) (suc i) h = step-action as' bs i (le_of_suc-le-suc h)
@@ -58,7 +58,7 @@ module _ {F : Limits} (S : Sensible F) {s : List ℕ} (b : Bytes s) {parts : dec
         most = omega (arith, w.most, S.facts);
         starting = formula-stands S b w.most w.initial;
         reaching = formula-stands S b w.most w.goal;
-        counted = length-map steps (actionAt p.actions);
+        counted = length-map steps (action_at p.actions);
         named = λ i l. omega (arith, k i l, w.few);
         acting =
             λ i l.
@@ -76,14 +76,14 @@ module _ {F : Limits} (S : Sensible F) {s : List ℕ} (b : Bytes s) {parts : dec
 
 -- a task whose steps are all that follows the plan's header
 pub stands-found :
-    {F : Limits} {s t : List ℕ} {r : found.Task} → Sensible F → Bytes s → (o : TaskAt F s t r) → drop headBytes t ≡ o.steps → r.limits ≡ F →
+    {F : Limits} {s t : List ℕ} {r : found.Task} → Sensible F → Bytes s → (o : TaskAt F s t r) → drop head_bytes t ≡ o.steps → r.limits ≡ F →
     StandsFound F s t r
-unfolding task_of readTask Answer.◌>>=◌
+unfolding task_of read_task Answer.◌>>=◌
 stands-found {F} S b o body e =
     let w = o.placed in
     record {
       task = task_of F o.problem o.steps;
-      read = rw (o.problem-read, Answer.◌>>=◌, o.plan-read);
+      read = rw (o.problem_read, Answer.◌>>=◌, o.plan_read);
       sensible = subst Sensible (sym e) S;
       width = ap (λ (G : Limits). G.width) (sym e);
       few = subst (λ (G : Limits). o.problem.facts ≤ G.facts) (sym e) w.most;
@@ -95,9 +95,9 @@ stands-found {F} S b o body e =
 -- a task that was found is the one in the blocks, with the plan's steps as their own slice
 pub found_in :
     (F : Limits) (problem plan : List ℕ) (r : found.Task) (o : StandsFound F problem plan r) (steps : List ℕ) →
-    steps ≡ take (length plan - headBytes) (drop headBytes plan) → TaskIn r.limits problem steps r.problem o.task
+    steps ≡ take (length plan - head_bytes) (drop head_bytes plan) → TaskIn r.limits problem steps r.problem o.task
 found_in F problem plan r o steps e =
-    let all = take_all (length plan - headBytes) (drop headBytes plan) (omega (arith, length-drop headBytes plan)) in
+    let all = take_all (length plan - head_bytes) (drop head_bytes plan) (omega (arith, length-drop head_bytes plan)) in
     record { width = o.width; few = o.few; facts = o.facts; stands = rw (e, all) o.stands }
 
 pub few-facts : (F : Limits) (problem plan : List ℕ) (r : found.Task) → StandsFound F problem plan r → r.problem.facts ≤ r.limits.facts

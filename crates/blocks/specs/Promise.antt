@@ -3,16 +3,16 @@
 use Rattle.std.specs.Prelude.{◌≡◌, List, ℕ, length}
 use Rattle.model.specs.Limits.{version1}
 use Rattle.model.specs.Answer.{Answer, refused, answered}
-use Rattle.model.specs.ProblemBytes.{Problem, encodeProblem, encodePlan}
-use Rattle.model.specs.Operations.{Counts}
+use Rattle.model.specs.ProblemBytes.{Problem, encode_problem, encode_plan}
+use Rattle.model.specs.declared.Counts.{Counts}
 use Rattle.model.specs.WellFormed.{ProblemOk, PlanOk}
 
 -- the bytes hold the sound problem p; the sound plan `steps` for m actions
 abbrev pub HoldsProblem : List ℕ → Problem → Type 0
-HoldsProblem problem p = ProblemOk version1 p × (problem ≡ encodeProblem version1 p)
+HoldsProblem problem p = ProblemOk version1 p × (problem ≡ encode_problem version1 p)
 
 abbrev pub HoldsPlan : List ℕ → ℕ → List ℕ → Type 0
-HoldsPlan plan m steps = PlanOk m steps × (plan ≡ encodePlan steps)
+HoldsPlan plan m steps = PlanOk m steps × (plan ≡ encode_plan steps)
 
 -- what an answer of `read_problem` promises
 abbrev pub ProblemPromised : List ℕ → Answer Counts → Type 0

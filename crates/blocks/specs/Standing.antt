@@ -3,9 +3,9 @@ use Rattle.std.specs.Prelude.{◌≡◌, List, ℕ, ◌+◌, ◌≤◌, ◌<◌,
 use Rattle.model.specs.declared.Limits.{Limits}
 use Rattle.model.specs.Answer.{answered}
 use Rattle.model.specs.Case.{Task}
-use Rattle.model.specs.Read.{headBytes}
+use Rattle.model.specs.Read.{head_bytes}
 use Rattle.model.specs.ProblemBytes as bytes
-use Rattle.model.specs.Operations.{task_of, readTask}
+use Rattle.model.specs.Operations.{task_of, read_task}
 use Rattle.model.specs.WellFormed.{Each, Sensible}
 use Rattle.model.specs.Stands.{TaskStands}
 use Rattle.model.specs.declared.Problem.{Problem}
@@ -35,11 +35,11 @@ pub record ProblemIn (F : Limits) (problem : List ℕ) (parts : Problem) (p : by
 -- found, and stands there; a plan's steps are all that follows its header
 pub record StandsFound (F : Limits) (problem plan : List ℕ) (r : found.Task) : Type 0 where
   pub task : Task
-  pub read : readTask F problem plan ≡ answered task
+  pub read : read_task F problem plan ≡ answered task
   pub sensible : Sensible r.limits
   pub width : task.width ≡ r.limits.width
   pub few : task.facts ≤ r.limits.facts
   pub facts : r.problem.facts ≡ task.facts
-  pub fits : headBytes + r.steps ≡ length plan
+  pub fits : head_bytes + r.steps ≡ length plan
   pub stands :
-      TaskStands problem (drop headBytes plan) r.problem.action r.problem.initial r.problem.goal task
+      TaskStands problem (drop head_bytes plan) r.problem.action r.problem.initial r.problem.goal task
