@@ -1,26 +1,26 @@
-// What keeps an action from being applicable, in the case of lane 0 (document 02): a member of its precondition (W-201), or a fact that it
-// would set and clear (W-202). It is worked out for an answer alone: no look pays for it.
+// What keeps an action from being applicable, in the case of lane 0: a member of its precondition, or a fact that it would set and clear.
+// It is worked out for an answer alone: no look pays for it.
+#![tactic(auto)]
+
 ghost use Rattle.unmet.specs.Members.{FirstFalse, UnmetMember, UnmetPart};
 
 use evaluate::{ALL, all_planes, formula_planes};
 use model::Part;
-use numbers::wide;
 
 // Of the members of an "all", n of them from `at` on, the first that is false, from 0; n where there is none.
 fn first_false(s: &[u8], at: usize, n: usize, c: &[u64; 256]) -> usize
     ensures { FirstFalse s.now c.now n at result }
 {
     let mut p = at;
-    let mut i: usize = 0;
-    while i < n {
+    for i in 0..n {
         let r = all_planes(s, p, 1, c, true);
-        if r.sure % 2 == 0 {
+        let fails = r.sure % 2 == 0;
+        if fails {
             return i;
         }
         p = r.next;
-        i = i + 1;
     }
-    i
+    n
 }
 
 // The first false member of the formula whose length field stands at `at`, if it is an "all"; otherwise 0.
@@ -38,7 +38,7 @@ fn unmet_member(s: &[u8], at: usize, c: &[u64; 256]) -> usize
     if s[begin] != ALL {
         return 0;
     }
-    first_false(s, begin + 2, wide(s[begin + 1]), c)
+    first_false(s, begin + 2, s[begin + 1] as usize, c)
 }
 
 // Of the action that stands at `at` and is not applicable; `fact` is the lowest one in conflict where the precondition is met.
@@ -46,7 +46,8 @@ pub fn unmet_part(s: &[u8], at: usize, c: &[u64; 256], fact: usize) -> Part
     ensures { UnmetPart s.now c.now at fact result }
 {
     let met = formula_planes(s, at, c);
-    if met.sure % 2 == 0 {
+    let fails = met.sure % 2 == 0;
+    if fails {
         return Part::Member(unmet_member(s, at, c));
     }
     Part::Fact(fact)
