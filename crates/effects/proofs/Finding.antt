@@ -9,12 +9,12 @@ use native.Mathlib.Nat.{mod-eq_of_lt}
 use lib.ListN.{length, get_or, set, drop, length-set}
 use lib.Seq.{get_or-set_same, get_or-set_other}
 use lib.Bits.{bit_or}
-use Rattle.model.specs.Limits.{maxFacts, maxEffects}
+use Rattle.model.specs.Limits.{max_facts, max_effects}
 use Rattle.model.specs.Kleene.{Kleene, No, either, denied, three}
 use Rattle.model.specs.Formula.{Literal, fact, denial, value_of, eval}
 use Rattle.model.specs.Action.{Effect, Action, step}
-use Rattle.model.specs.FormulaBytes.{literalOf, literalByte}
-use Rattle.model.specs.ProblemBytes.{effectsBytes}
+use Rattle.model.specs.FormulaBytes.{literal_of, literal_byte}
+use Rattle.model.specs.ProblemBytes.{effects_bytes}
 use Rattle.model.specs.WellFormed.{Declared, EffectsOk}
 use Rattle.model.specs.Planes.{Table}
 use Rattle.model.specs.Stands.{Span}
@@ -23,7 +23,7 @@ use Rattle.model.proofs.Laws.Planes.{denied-both, lane-either, literal-fact, lit
 use Rattle.evaluate.specs.declared.Planes.{Planes}
 use Rattle.evaluate.specs.Planes.{FormulaPlanes}
 use Rattle.table.specs.Tables.{Sized, SetsLiteral}
-use Rattle.effects.specs.Effects.{entry_at, Entries, FindsConditions, settledBy, settled, SettlesEntry, Settles}
+use Rattle.effects.specs.Effects.{entry_at, Entries, FindsConditions, settled_by, settled, SettlesEntry, Settles}
 use Rattle.effects.proofs.Settling.{length-settled, settled-step}
 use Rattle.effects.proofs.Entries.{declared-at, drop-entry, Left, entry-stands}
 
@@ -35,41 +35,16 @@ pub record Finding (s : List ℕ) (at : ℕ) (c found literals : List ℕ) (n e 
   pub few : e ≤ n
   pub small : n ≤ 128
   pub is :
-      (facts : ℕ) (es : List Effect) (q : ℕ) → facts ≤ maxFacts → length es ≤ maxEffects → EffectsOk facts 0 es → Span s (length s) at (length es ∷ effectsBytes es) q →
+      (facts : ℕ) (es : List Effect) (q : ℕ) → facts ≤ max_facts → length es ≤ max_effects → EffectsOk facts 0 es → Span s (length s) at (length es ∷ effects_bytes es) q →
       (n ≡ length es) × Left s facts es q e p × Entries c literals found es e
 
 no-entries : (c literals found : List ℕ) (es : List Effect) → Entries c literals found es 0
 no-entries c literals found es = record { literal = λ i h. absurd (omega arith); condition = λ case t i h. absurd (omega arith) }
 
-pub finding-begins :
-    (s : List ℕ) (at : ℕ) (c found literals : List ℕ) (n : ℕ) → length found ≡ 256 → length literals ≡ 128 → n ≤ 128 → n ≡ get_or s at 0 →
-    Finding s at c found literals n 0 (at + 1)
-finding-begins s at c found literals n w l h e =
-    record {
-      wide = w;
-      long = l;
-      few = omega arith;
-      small = omega arith;
-      is =
-          λ facts es q m b ok v.
-          let a = first v in
-          (e ∙ a.1, record { least = 0; ok = ok; stands = a.2 }, no-entries c literals found es);
-    }
-
--- the block ends before the count
-pub finding-none : (s : List ℕ) (at : ℕ) (c found literals : List ℕ) → length found ≡ 256 → length literals ≡ 128 → length s ≤ at → FindsConditions s at c found literals 0
-finding-none s at c found literals w l h =
-    record { wide = w; long = l; few = omega arith; is = λ facts es q m b ok v. absurd (omega (arith, (first v).0)) }
-
--- more than any action has
-pub finding-many : (s : List ℕ) (at : ℕ) (c found literals : List ℕ) (n : ℕ) → length found ≡ 256 → length literals ≡ 128 → 128 < n → n ≡ get_or s at 0 → FindsConditions s at c found literals 0
-finding-many s at c found literals n w l h e =
-    record { wide = w; long = l; few = omega arith; is = λ facts es q m b ok v. absurd (omega (arith, (first v).1)) }
-
 module _ (s : List ℕ) (at : ℕ) (c found literals : List ℕ) (n e p : ℕ) (F : Finding s at c found literals n e p) where
   -- the bytes end before an entry
   pub finding-short : e < n → length s ≤ p → FindsConditions s at c found literals e
-  unfolding effectsBytes
+  unfolding effects_bytes
   finding-short h l =
       record {
         wide = F.wide;
@@ -78,7 +53,7 @@ module _ (s : List ℕ) (at : ℕ) (c found literals : List ℕ) (n e p : ℕ) (
         is =
             λ facts es q m b ok v.
             let (i, r, x) = F.is facts es q m b ok v in
-            absurd (omega (arith, (first (subst (λ (d : List Effect). Span s (length s) p (effectsBytes d) q) (drop-entry es e (omega arith)) r.stands)).0));
+            absurd (omega (arith, (first (subst (λ (d : List Effect). Span s (length s) p (effects_bytes d) q) (drop-entry es e (omega arith)) r.stands)).0));
       }
 
   pub finding-ends : n ≤ e → FindsConditions s at c found literals e
@@ -120,7 +95,7 @@ module _ (s : List ℕ) (at : ℕ) (c found literals : List ℕ) (n e p : ℕ) (
     sure-word = get_or-set_same found₁ (2 * e + 1) r.sure 0 (omega (arith, wide₁, F.small))
 
     next-entry :
-        (facts : ℕ) (es : List Effect) (q : ℕ) → facts ≤ maxFacts → e < length es → Left s facts es q e p → Entries c literals found es e →
+        (facts : ℕ) (es : List Effect) (q : ℕ) → facts ≤ max_facts → e < length es → Left s facts es q e p → Entries c literals found es e →
         Left s facts es q (e + 1) r.next × Entries c literals' found' es (e + 1)
     next-entry facts es q m l left old =
         let (_, v, _, o, at, rest) = entry-stands s facts es q e p l left in
@@ -165,7 +140,7 @@ pub record Settling (n : ℕ) (literals found c : List ℕ) (e : ℕ) (d : List 
   pub size : length d ≡ 256
   pub few : e ≤ n
   pub is :
-      (facts : ℕ) (es : List Effect) → facts ≤ maxFacts → EffectsOk facts 0 es → n ≡ length es → Entries c literals found es n →
+      (facts : ℕ) (es : List Effect) → facts ≤ max_facts → EffectsOk facts 0 es → n ≡ length es → Entries c literals found es n →
       (case : ℕ → List Kleene) → Sized facts case → Table c case → Table d (λ j. settled (case j) (drop e es))
 
 drop_all : (es : List Effect) (n : ℕ) → length es ≤ n → drop n es ≡ []
@@ -188,22 +163,22 @@ settling-ends n literals found c e d S h =
     let z : e ≡ 0 = omega arith in
     record { size = S.size; is = λ facts es m ok i x case y t. subst (λ (k : ℕ). Table d (λ j. settled (case j) (drop k es))) z (S.is facts es m ok i x case y t) }
 
-byte_small : (facts : ℕ) (l : Literal) → facts ≤ maxFacts → Declared facts l → literalByte l < 128
+byte_small : (facts : ℕ) (l : Literal) → facts ≤ max_facts → Declared facts l → literal_byte l < 128
 byte_small facts (fact f) h d = omega arith
 byte_small facts (denial f) h d = omega arith
 
 -- the literal with a literal's byte
-literal-of : (facts : ℕ) (m : Literal) → facts ≤ maxFacts → Declared facts m → literalOf (literalByte m) ≡ m
+literal-of : (facts : ℕ) (m : Literal) → facts ≤ max_facts → Declared facts m → literal_of (literal_byte m) ≡ m
 literal-of facts (fact f) h d = literal-fact f (omega arith)
 literal-of facts (denial f) h d = literal-denial (f + 64) (omega arith) ∙ ap denial (omega arith)
 
 -- the entry's literal holds where it did, or where its condition does
-settled-value : (facts : ℕ) (m : Literal) (t : Kleene) (v : List Kleene) → Declared facts m → length v ≡ facts → value_of three (settledBy m t v) m ≡ either t (value_of three v m)
+settled-value : (facts : ℕ) (m : Literal) (t : Kleene) (v : List Kleene) → Declared facts m → length v ≡ facts → value_of three (settled_by m t v) m ≡ either t (value_of three v m)
 settled-value facts (fact f) t v d z = get_or-set_same v f _ No (omega arith)
 settled-value facts (denial f) t v d z = ap denied (get_or-set_same v f _ No (omega arith)) ∙ denied-both t (get_or v f No)
 
 -- every other fact has the value that it had
-settled-other : (m : Literal) (t : Kleene) (v : List Kleene) (g : ℕ) → (g ≡ literalByte m → ⊥) → (g + 64 ≡ literalByte m → ⊥) → get_or (settledBy m t v) g No ≡ get_or v g No
+settled-other : (m : Literal) (t : Kleene) (v : List Kleene) (g : ℕ) → (g ≡ literal_byte m → ⊥) → (g + 64 ≡ literal_byte m → ⊥) → get_or (settled_by m t v) g No ≡ get_or v g No
 settled-other (fact f) t v g n n' = get_or-set_other v f g _ No n
 settled-other (denial f) t v g n n' = get_or-set_other v f g _ No (λ e. n' (omega arith))
 
@@ -215,7 +190,7 @@ entry-settles d l some sure d' some' sure' es eu small x =
       size = x.size;
       is =
           λ facts m case t h dec b z table lanes.
-          let e : literalOf l ≡ m = ap literalOf b ∙ literal-of facts m h dec in
+          let e : literal_of l ≡ m = ap literal_of b ∙ literal-of facts m h dec in
           x.is case _ (λ j. either (t j) (value_of three (case j) m)) table
           (record { lane = λ j i. rw (es, eu) (lane-either j (lanes.lane j i) (rw e at ((table.literal l small).lane j i))) })
           (λ j g n n'. settled-other m (t j) (case j) g (λ i. n (i ∙ sym b)) (λ i. n' (i ∙ sym b)))
@@ -238,7 +213,7 @@ settling-next n literals found c e d d' S pos l l-is x =
           let m = entry_at es (e - 1) in
           let dec = declared-at facts 0 es (e - 1) ok b in
           let u = y.literal (e - 1) (omega arith) in
-          let o : l ≡ literalByte m.literal = l-is ∙ rw u (mod-eq_of_lt (byte_small facts m.literal h dec)) in
+          let o : l ≡ literal_byte m.literal = l-is ∙ rw u (mod-eq_of_lt (byte_small facts m.literal h dec)) in
           let q : drop (e - 1) es ≡ m ∷ drop e es = drop-entry es (e - 1) b ∙ ap (λ (w : ℕ). m ∷ drop w es) k in
           rw (q, settled)
           (x.is facts m.literal (λ j. settled (case j) (drop e es)) (λ j. eval three (case j) m.condition) h dec o
@@ -250,7 +225,7 @@ settling-next n literals found c e d d' S pos l l-is x =
 -- the table after the action whose conditions were found
 pub applies :
     (c found literals : List ℕ) (n : ℕ) (d : List ℕ) → Settles n literals found c d →
-    (facts : ℕ) (a : Action) → facts ≤ maxFacts → EffectsOk facts 0 a.effects → n ≡ length a.effects → Entries c literals found a.effects n →
+    (facts : ℕ) (a : Action) → facts ≤ max_facts → EffectsOk facts 0 a.effects → n ≡ length a.effects → Entries c literals found a.effects n →
     (case : ℕ → List Kleene) → Sized facts case → Table c case → Table d (λ j. step three facts a (case j))
 applies c found literals n d S facts a h ok i x case z t =
     table_same d (λ j. settled (case j) a.effects) (λ j. step three facts a (case j)) (S.is facts a.effects h ok i x case z t)

@@ -10,15 +10,15 @@ use lib.ListN.{length, get_or, length-set, get_or-eq_default}
 use lib.Seq.{get_or-set_same, get_or-set_other}
 use lib.Dec.{eqb}
 use borrow.Author.Tests.{eq-eqb, eqb-true}
-use Rattle.model.specs.Limits.{maxFacts}
+use Rattle.model.specs.Limits.{max_facts}
 use Rattle.model.specs.Kleene.{Kleene, No, Unknown, Yes, both, either, denied, three}
 use Rattle.model.specs.Formula.{Literal, fact, denial, Formula, any, none, eval}
-use Rattle.model.specs.Action.{Effect, Action, sameLiteral, conditionIn, conditionOf, next, step}
+use Rattle.model.specs.Action.{Effect, Action, same_literal, condition_in, condition_of, next, step}
 use Rattle.model.specs.Relevance.{fact_of}
-use Rattle.model.specs.FormulaBytes.{literalByte}
+use Rattle.model.specs.FormulaBytes.{literal_byte}
 use Rattle.model.specs.WellFormed.{Declared, EffectsOk}
 use Rattle.model.proofs.Laws.Tabulate.{get_d_tabulate, getD-tabulate-past}
-use Rattle.effects.specs.Effects.{settledBy, settled}
+use Rattle.effects.specs.Effects.{settled_by, settled}
 
 -- ---- literals that rise
 
@@ -29,12 +29,12 @@ eqb-other a b h = go (eqb a b) refl
     go true e = absurd (h (eqb-true a b e))
     go false e = refl
 
-same_self : (l : Literal) → sameLiteral l l ≡ true
+same_self : (l : Literal) → same_literal l l ≡ true
 same_self (fact f) = eq-eqb f f refl
 same_self (denial f) = eq-eqb f f refl
 
 -- literals of declared facts whose bytes differ
-same-other : (facts : ℕ) (l m : Literal) → facts ≤ maxFacts → Declared facts l → Declared facts m → (literalByte l ≡ literalByte m → ⊥) → sameLiteral l m ≡ false
+same-other : (facts : ℕ) (l m : Literal) → facts ≤ max_facts → Declared facts l → Declared facts m → (literal_byte l ≡ literal_byte m → ⊥) → same_literal l m ≡ false
 same-other facts (fact f) (fact g) h d d' n = eqb-other f g n
 same-other facts (fact f) (denial g) h d d' n = refl
 same-other facts (denial f) (fact g) h d d' n = refl
@@ -42,43 +42,43 @@ same-other facts (denial f) (denial g) h d d' n = eqb-other f g (λ e. n (omega 
 
 -- a literal below the least has no entry
 no-entry :
-    (facts least : ℕ) (es : List Effect) (l : Literal) (φ : Formula) → facts ≤ maxFacts → EffectsOk facts least es → Declared facts l →
-    literalByte l < least → conditionIn φ l es ≡ φ
-unfolding conditionIn
+    (facts least : ℕ) (es : List Effect) (l : Literal) (φ : Formula) → facts ≤ max_facts → EffectsOk facts least es → Declared facts l →
+    literal_byte l < least → condition_in φ l es ≡ φ
+unfolding condition_in
 no-entry facts least [] l φ h ok d b = refl
 no-entry facts least (e ∷ es) l φ h ok d b =
     rw (same-other facts l e.literal h d ok.0 (λ i. omega (arith, ok.1)))
-    (no-entry facts (literalByte e.literal + 1) es l φ h ok.3 d (omega (arith, ok.1)))
+    (no-entry facts (literal_byte e.literal + 1) es l φ h ok.3 d (omega (arith, ok.1)))
 
 -- the condition of the first entry's own literal, and of another
 pub own-condition :
-    (facts least : ℕ) (e : Effect) (es : List Effect) → facts ≤ maxFacts → EffectsOk facts least (e ∷ es) →
-    conditionOf e.literal (e ∷ es) ≡ e.condition
-unfolding conditionIn
+    (facts least : ℕ) (e : Effect) (es : List Effect) → facts ≤ max_facts → EffectsOk facts least (e ∷ es) →
+    condition_of e.literal (e ∷ es) ≡ e.condition
+unfolding condition_in
 own-condition facts least e es h ok =
-    rw (same_self e.literal) (no-entry facts (literalByte e.literal + 1) es e.literal e.condition h ok.3 ok.0 (omega arith))
+    rw (same_self e.literal) (no-entry facts (literal_byte e.literal + 1) es e.literal e.condition h ok.3 ok.0 (omega arith))
 
 pub other-condition :
-    (facts least : ℕ) (e : Effect) (es : List Effect) (l : Literal) → facts ≤ maxFacts → EffectsOk facts least (e ∷ es) → Declared facts l →
-    (literalByte l ≡ literalByte e.literal → ⊥) → conditionOf l (e ∷ es) ≡ conditionOf l es
-unfolding conditionIn
+    (facts least : ℕ) (e : Effect) (es : List Effect) (l : Literal) → facts ≤ max_facts → EffectsOk facts least (e ∷ es) → Declared facts l →
+    (literal_byte l ≡ literal_byte e.literal → ⊥) → condition_of l (e ∷ es) ≡ condition_of l es
+unfolding condition_in
 other-condition facts least e es l h ok d n = rw (same-other facts l e.literal h d ok.0 n)
 
-no-condition : (facts least : ℕ) (es : List Effect) (l : Literal) → facts ≤ maxFacts → EffectsOk facts least es → Declared facts l → literalByte l < least → conditionOf l es ≡ any none
+no-condition : (facts least : ℕ) (es : List Effect) (l : Literal) → facts ≤ max_facts → EffectsOk facts least es → Declared facts l → literal_byte l < least → condition_of l es ≡ any none
 no-condition facts least es l h ok d b = no-entry facts least es l (any none) h ok d b
 
 -- ---- equation 2
 
 -- what equation 2 makes of the value of f
 abbrev due : List Kleene → List Effect → ℕ → Kleene
-due v es f = either (eval three v (conditionOf (fact f) es)) (both (get_or v f No) (denied (eval three v (conditionOf (denial f) es))))
+due v es f = either (eval three v (condition_of (fact f) es)) (both (get_or v f No) (denied (eval three v (condition_of (denial f) es))))
 
 both_yes : (x : Kleene) → both x Yes ≡ x
 both_yes No = refl
 both_yes Unknown = refl
 both_yes Yes = refl
 
-length-by : (l : Literal) (t : Kleene) (v : List Kleene) → length (settledBy l t v) ≡ length v
+length-by : (l : Literal) (t : Kleene) (v : List Kleene) → length (settled_by l t v) ≡ length v
 length-by (fact f) t v = length-set v f _
 length-by (denial f) t v = length-set v f _
 
@@ -88,20 +88,20 @@ length-settled v [] = refl
 length-settled v (e ∷ es) = length-by e.literal _ (settled v es) ∙ length-settled v es
 
 -- an entry for another fact changes nothing of f
-other-fact : (l : Literal) (t : Kleene) (v : List Kleene) (f : ℕ) → (f ≡ fact_of l → ⊥) → get_or (settledBy l t v) f No ≡ get_or v f No
+other-fact : (l : Literal) (t : Kleene) (v : List Kleene) (f : ℕ) → (f ≡ fact_of l → ⊥) → get_or (settled_by l t v) f No ≡ get_or v f No
 other-fact (fact g) t v f h = get_or-set_other v g f _ No h
 other-fact (denial g) t v f h = get_or-set_other v g f _ No h
 
 -- a declared literal by its byte
-pub fact-at : (facts f : ℕ) (l : Literal) → facts ≤ maxFacts → f < facts → Declared facts l → f ≡ literalByte l → l ≡ fact f
+pub fact-at : (facts f : ℕ) (l : Literal) → facts ≤ max_facts → f < facts → Declared facts l → f ≡ literal_byte l → l ≡ fact f
 fact-at facts f (fact g) h b d e = ap fact (sym e)
 fact-at facts f (denial g) h b d e = absurd (omega arith)
 
-pub denial-at : (facts f : ℕ) (l : Literal) → facts ≤ maxFacts → Declared facts l → f + 64 ≡ literalByte l → l ≡ denial f
+pub denial-at : (facts f : ℕ) (l : Literal) → facts ≤ max_facts → Declared facts l → f + 64 ≡ literal_byte l → l ≡ denial f
 denial-at facts f (fact g) h d e = absurd (omega arith)
 denial-at facts f (denial g) h d e = let i : g ≡ f = omega arith in ap denial i
 
-module _ (facts : ℕ) (h : facts ≤ maxFacts) (v : List Kleene) (n : length v ≡ facts) (f : ℕ) (b : f < facts) where
+module _ (facts : ℕ) (h : facts ≤ max_facts) (v : List Kleene) (n : length v ≡ facts) (f : ℕ) (b : f < facts) where
   abbrev Due : List Effect → Type 0
   Due es = get_or (settled v es) f No ≡ due v es f
 
@@ -122,7 +122,7 @@ module _ (facts : ℕ) (h : facts ≤ maxFacts) (v : List Kleene) (n : length v 
   due-set : (least : ℕ) (φ : Formula) (es : List Effect) → EffectsOk facts least (record { literal = fact f; condition = φ } ∷ es) → Due es → Due (record { literal = fact f; condition = φ } ∷ es)
   unfolding settled eval
   due-set least φ es ok i =
-      let k : get_or (settled v es) f No ≡ both (get_or v f No) (denied (eval three v (conditionOf (denial f) es))) = i ∙ rw (no-condition facts (f + 1) es (fact f) h ok.3 b (omega arith)) in
+      let k : get_or (settled v es) f No ≡ both (get_or v f No) (denied (eval three v (condition_of (denial f) es))) = i ∙ rw (no-condition facts (f + 1) es (fact f) h ok.3 b (omega arith)) in
       get_or-set_same (settled v es) f _ No (within es) ∙ ap (either (eval three v φ)) k ∙
       rw (
         own-condition facts least (record { literal = fact f; condition = φ }) es h ok,
@@ -145,12 +145,12 @@ module _ (facts : ℕ) (h : facts ≤ maxFacts) (v : List Kleene) (n : length v 
 
   -- the value of f after the entries
   settled-due : (least : ℕ) (es : List Effect) → EffectsOk facts least es → Due es
-  unfolding settled conditionIn eval
+  unfolding settled condition_in eval
   settled-due least [] ok = sym (both_yes (get_or v f No))
   settled-due least (e ∷ es) ok =
       elim (ℕ_discrete f (fact_of e.literal)) [
-        | yes d ↦ here e.literal e.condition d ok (settled-due (literalByte e.literal + 1) es ok.3)
-        | no d ↦ due-other least e es ok d (settled-due (literalByte e.literal + 1) es ok.3)
+        | yes d ↦ here e.literal e.condition d ok (settled-due (literal_byte e.literal + 1) es ok.3)
+        | no d ↦ due-other least e es ok d (settled-due (literal_byte e.literal + 1) es ok.3)
       ]
     where
       here : (l : Literal) (φ : Formula) → f ≡ fact_of l → EffectsOk facts least (record { literal = l; condition = φ } ∷ es) → Due es → Due (record { literal = l; condition = φ } ∷ es)
@@ -159,7 +159,7 @@ module _ (facts : ℕ) (h : facts ≤ maxFacts) (v : List Kleene) (n : length v 
 
 -- the values after the action
 pub settled-step :
-    (facts : ℕ) (a : Action) (v : List Kleene) → facts ≤ maxFacts → EffectsOk facts 0 a.effects → length v ≡ facts → (g : ℕ) →
+    (facts : ℕ) (a : Action) (v : List Kleene) → facts ≤ max_facts → EffectsOk facts 0 a.effects → length v ≡ facts → (g : ℕ) →
     get_or (step three facts a v) g No ≡ get_or (settled v a.effects) g No
 unfolding step next
 settled-step facts a v h ok n g =
