@@ -9,14 +9,14 @@ use lib.ListN.{length, get_or, get_or-eq_default}
 use lib.Bits.{bit_and, bit_or, bit_xor}
 use lib.Dec.{eqb}
 use borrow.Author.Tests.{eq-eqb, eqb-true}
-use Rattle.model.specs.Limits.{maxFacts}
+use Rattle.model.specs.Limits.{max_facts}
 use Rattle.model.specs.Kleene.{is_yes, known, two, three}
 use Rattle.model.specs.Formula.{fact, Formula, eval}
-use Rattle.model.specs.Action.{Action, sets, conditionOf}
+use Rattle.model.specs.Action.{Action, sets, condition_of}
 use Rattle.model.specs.Case.{bit}
-use Rattle.model.specs.Relevance.{names, some, setAndCleared, setNames, clearNames, restsOn, mattersBefore}
-use Rattle.model.specs.FormulaBytes.{encodeFormula}
-use Rattle.model.specs.ProblemBytes.{actionBytes}
+use Rattle.model.specs.Relevance.{names, some, set_and_cleared, set_names, clear_names, rests_on, matters_before}
+use Rattle.model.specs.FormulaBytes.{encode_formula}
+use Rattle.model.specs.ProblemBytes.{action_bytes}
 use Rattle.model.proofs.Laws.Truth.{same_truth, and-true, or_assoc}
 use Rattle.model.proofs.Laws.Reading.{split}
 use Rattle.model.proofs.Laws.Relevance.{some_at}
@@ -103,17 +103,17 @@ module _ (n : ℕ) (a : Action) (st m : List Bool) (size : length m ≡ n) where
   past-kept f l = let z : length m ≤ f = omega arith in rw (get_or-eq_default m false z)
 
   abbrev asked : ℕ → ℕ → Bool
-  asked f g = ((get_or m g false || setAndCleared a g) && setNames a g f) || ((kept g || setAndCleared a g) && clearNames a g f)
+  asked f g = ((get_or m g false || set_and_cleared a g) && set_names a g f) || ((kept g || set_and_cleared a g) && clear_names a g f)
 
-  by-sets : (f : ℕ) → ((names a.precondition f || kept f) || some n (asked f)) ≡ mattersBefore a n st m f
-  unfolding mattersBefore
+  by-sets : (f : ℕ) → ((names a.precondition f || kept f) || some n (asked f)) ≡ matters_before a n st m f
+  unfolding matters_before
   by-sets f =
       or_assoc (names a.precondition f) (kept f) (some n (asked f)) ∙
       ap (λ b. names a.precondition f || b)
       (ap (λ b. b || some n (asked f)) (sym (some_one n f kept (past-kept f))) ∙
       some_or n (λ g. eqb g f && kept g) (asked f) ∙
-      some_below n _ _ (λ g l. sym (one-rule (get_or m g false) (sets two a st g) (setAndCleared a g) (eqb g f) (setNames a g f) (clearNames a g f))) ∙
-      sym (some_or n (λ g. setAndCleared a g && (setNames a g f || clearNames a g f)) (λ g. get_or m g false && restsOn a st g f)))
+      some_below n _ _ (λ g l. sym (one-rule (get_or m g false) (sets two a st g) (set_and_cleared a g) (eqb g f) (set_names a g f) (clear_names a g f))) ∙
+      sym (some_or n (λ g. set_and_cleared a g && (set_names a g f || clear_names a g f)) (λ g. get_or m g false && rests_on a st g f)))
 
 once : (x y : Bool) → (x && not (x && y)) ≡ (x && not y)
 once true y = refl
@@ -121,14 +121,14 @@ once false y = refl
 
 kept_set :
     (n : ℕ) (a : Action) (st m : List Bool) (z : length m ≡ n) (after sure : ℕ) → FactSet after (λ f. get_or m f false) →
-    ((g : ℕ) → g < n → bit maxFacts sure g ≡ (bit maxFacts after g && is_yes (eval three (map known st) (conditionOf (fact g) a.effects)))) → n ≤ maxFacts →
+    ((g : ℕ) → g < n → bit max_facts sure g ≡ (bit max_facts after g && is_yes (eval three (map known st) (condition_of (fact g) a.effects)))) → n ≤ max_facts →
     FactSet (bit_and after (bit_xor ones sure)) (kept n a st m z)
 kept_set n a st m z after sure h e few =
     set_same (set-and h (set-not (own_bits sure)))
     (λ g l.
     elim (dec_lt g n) [
       | yes b ↦
-          ap (λ x. get_or m g false && not x) (e g b ∙ ap₂ ◌&&◌ (h.at g (omega arith)) (holds_same st (conditionOf (fact g) a.effects))) ∙
+          ap (λ x. get_or m g false && not x) (e g b ∙ ap₂ ◌&&◌ (h.at g (omega arith)) (holds_same st (condition_of (fact g) a.effects))) ∙
           once (get_or m g false) (sets two a st g)
       | no b ↦ let i : length m ≤ g = omega arith in rw (get_or-eq_default m false i)
     ])
@@ -137,12 +137,12 @@ pub matters-by-sets :
     (s : List ℕ) (p : ℕ) (c : List ℕ) (after : ℕ) (r : Named) → NamesFacts s p r → (e : Entered) → FindsEntries s r.next c after e → (more : ℕ) →
     GathersFacts s r.next (bit_or after (bit_and e.set e.cleared)) (bit_or (bit_and after (bit_xor ones e.sure)) (bit_and e.set e.cleared)) more →
     MattersBefore s p c after (bit_or (bit_or r.facts (bit_and after (bit_xor ones e.sure))) more)
-unfolding actionBytes
+unfolding action_bytes
 matters-by-sets s p c after r N e E more G =
     record {
       is =
           λ facts a q few at st size t m z h.
-          split (encodeFormula a.precondition) at.bytes λ k v w.
+          split (encode_formula a.precondition) at.bytes λ k v w.
           let (i, pre) = N.is facts a.precondition k few (record { ok = at.precondition; bytes = v }) in
           let u = rw (← i) at w in
           let (set, cleared, sure) = E.is facts a.effects q few at.effects u (λ j. map known st) t in

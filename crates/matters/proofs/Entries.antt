@@ -7,10 +7,10 @@ use Prim.Native.Nat.{ℕ, zero, suc, ◌≤◌, ◌<◌}
 use native.Mathlib.Omega.{arith}
 use lib.ListN.{length}
 use borrow.Author.Tests.{eq-eqb, eqb-true}
-use Rattle.model.specs.Limits.{maxFacts}
+use Rattle.model.specs.Limits.{max_facts}
 use Rattle.model.specs.Formula.{Literal, fact, denial, Formula, any, none}
-use Rattle.model.specs.Action.{Effect, sameLiteral, conditionOf}
-use Rattle.model.specs.Relevance.{some, hasEntry}
+use Rattle.model.specs.Action.{Effect, same_literal, condition_of}
+use Rattle.model.specs.Relevance.{some, has_entry}
 use Rattle.model.specs.WellFormed.{Declared, EffectsOk}
 use Rattle.model.proofs.Laws.Truth.{same_truth, and-true, or-first, or-second, or_cases}
 use Rattle.model.proofs.Laws.Relevance.{some_at, without-entry}
@@ -30,12 +30,12 @@ some_of (suc n) p e =
 
 -- ---- one of the entries
 
-unfoldable pub someEntry : (Effect → Bool) → List Effect → Bool
-someEntry p [] = false
-someEntry p (e ∷ es) = p e || someEntry p es
+unfoldable pub some_entry : (Effect → Bool) → List Effect → Bool
+some_entry p [] = false
+some_entry p (e ∷ es) = p e || some_entry p es
 
-entry_of : (p : Effect → Bool) (es : List Effect) → someEntry p es ≡ true → (i : ℕ) × (i < length es) × (p (entry_at es i) ≡ true)
-unfolding someEntry
+entry_of : (p : Effect → Bool) (es : List Effect) → some_entry p es ≡ true → (i : ℕ) × (i < length es) × (p (entry_at es i) ≡ true)
+unfolding some_entry
 entry_of p [] e = absurd (false≢true e)
 entry_of p (x ∷ es) e =
     elim (or_cases (p x) _ e) [
@@ -43,92 +43,92 @@ entry_of p (x ∷ es) e =
       | inr h ↦ let (i, l, k) = entry_of p es h in (suc i, omega arith, k)
     ]
 
-entry-some : (p : Effect → Bool) (es : List Effect) (i : ℕ) → i < length es → p (entry_at es i) ≡ true → someEntry p es ≡ true
-unfolding someEntry
+entry-some : (p : Effect → Bool) (es : List Effect) (i : ℕ) → i < length es → p (entry_at es i) ≡ true → some_entry p es ≡ true
+unfolding some_entry
 entry-some p [] i l e = absurd (omega arith)
 entry-some p (x ∷ es) zero l e = or-first (p x) _ e
 entry-some p (x ∷ es) (suc i) l e = or-second (p x) _ (entry-some p es i (omega arith) e)
 
 -- a literal's entry
-same_self : (l : Literal) → sameLiteral l l ≡ true
+same_self : (l : Literal) → same_literal l l ≡ true
 same_self (fact f) = eq-eqb f f refl
 same_self (denial f) = eq-eqb f f refl
 
-pub same-is : (l m : Literal) → sameLiteral l m ≡ true → l ≡ m
+pub same-is : (l m : Literal) → same_literal l m ≡ true → l ≡ m
 same-is (fact f) (fact g) e = ap fact (eqb-true f g e)
 same-is (fact f) (denial g) e = absurd (false≢true e)
 same-is (denial f) (fact g) e = absurd (false≢true e)
 same-is (denial f) (denial g) e = ap denial (eqb-true f g e)
 
-pub entry_has : (l : Literal) (es : List Effect) → someEntry (λ e. sameLiteral l e.literal) es ≡ hasEntry l es
-unfolding someEntry hasEntry
+pub entry_has : (l : Literal) (es : List Effect) → some_entry (λ e. same_literal l e.literal) es ≡ has_entry l es
+unfolding some_entry has_entry
 entry_has l [] = refl
-entry_has l (e ∷ es) = ap (λ b. sameLiteral l e.literal || b) (entry_has l es)
+entry_has l (e ∷ es) = ap (λ b. same_literal l e.literal || b) (entry_has l es)
 
-pub no-entry : (l : Literal) (es : List Effect) → ((i : ℕ) → i < length es → (entry_at es i).literal ≡ l → ⊥) → hasEntry l es ≡ false
-no-entry l es h = by-entry (hasEntry l es) refl
+pub no-entry : (l : Literal) (es : List Effect) → ((i : ℕ) → i < length es → (entry_at es i).literal ≡ l → ⊥) → has_entry l es ≡ false
+no-entry l es h = by-entry (has_entry l es) refl
   where
-    by-entry : (b : Bool) → hasEntry l es ≡ b → b ≡ false
+    by-entry : (b : Bool) → has_entry l es ≡ b → b ≡ false
     by-entry true e =
-        let (i, k, s) = entry_of (λ e. sameLiteral l e.literal) es (entry_has l es ∙ e) in
+        let (i, k, s) = entry_of (λ e. same_literal l e.literal) es (entry_has l es ∙ e) in
         absurd (h i k (sym (same-is l (entry_at es i).literal s)))
     by-entry false e = refl
 
 -- ---- of sound entries
 
-module _ (facts : ℕ) (few : facts ≤ maxFacts) (es : List Effect) (ok : EffectsOk facts 0 es) (q : Formula → Bool) (never : q (any none) ≡ false) where
+module _ (facts : ℕ) (few : facts ≤ max_facts) (es : List Effect) (ok : EffectsOk facts 0 es) (q : Formula → Bool) (never : q (any none) ≡ false) where
   -- a literal whose condition is so has an entry of which it is so
-  with-condition : (l : Literal) → q (conditionOf l es) ≡ true → (i : ℕ) × (i < length es) × ((entry_at es i).literal ≡ l) × (q (entry_at es i).condition ≡ true)
-  with-condition l e = by-entry (hasEntry l es) refl
+  with-condition : (l : Literal) → q (condition_of l es) ≡ true → (i : ℕ) × (i < length es) × ((entry_at es i).literal ≡ l) × (q (entry_at es i).condition ≡ true)
+  with-condition l e = by-entry (has_entry l es) refl
     where
-      by-entry : (b : Bool) → hasEntry l es ≡ b → (i : ℕ) × (i < length es) × ((entry_at es i).literal ≡ l) × (q (entry_at es i).condition ≡ true)
+      by-entry : (b : Bool) → has_entry l es ≡ b → (i : ℕ) × (i < length es) × ((entry_at es i).literal ≡ l) × (q (entry_at es i).condition ≡ true)
       by-entry true h =
-          let (i, k, s) = entry_of (λ e. sameLiteral l e.literal) es (entry_has l es ∙ h) in
+          let (i, k, s) = entry_of (λ e. same_literal l e.literal) es (entry_has l es ∙ h) in
           let m = same-is l (entry_at es i).literal s in
-          (i, k, sym m, ap q (sym (condition-at facts few 0 es i ok k) ∙ ap (λ (x : Literal). conditionOf x es) (sym m)) ∙ e)
+          (i, k, sym m, ap q (sym (condition-at facts few 0 es i ok k) ∙ ap (λ (x : Literal). condition_of x es) (sym m)) ∙ e)
       by-entry false h = absurd (false≢true (sym never ∙ ap q (sym (without-entry l es h (any none))) ∙ e))
 
   -- the entry of one literal
-  pub entry-condition : (l : Literal) → someEntry (λ e. sameLiteral l e.literal && q e.condition) es ≡ q (conditionOf l es)
+  pub entry-condition : (l : Literal) → some_entry (λ e. same_literal l e.literal && q e.condition) es ≡ q (condition_of l es)
   entry-condition l =
       same_truth _ _
       (λ h.
-      let (i, k, s) = entry_of (λ e. sameLiteral l e.literal && q e.condition) es h in
-      let (a, b) = and-true (sameLiteral l (entry_at es i).literal) _ s in
-      ap (λ (x : Literal). q (conditionOf x es)) (same-is l (entry_at es i).literal a) ∙ ap q (condition-at facts few 0 es i ok k) ∙ b)
+      let (i, k, s) = entry_of (λ e. same_literal l e.literal && q e.condition) es h in
+      let (a, b) = and-true (same_literal l (entry_at es i).literal) _ s in
+      ap (λ (x : Literal). q (condition_of x es)) (same-is l (entry_at es i).literal a) ∙ ap q (condition-at facts few 0 es i ok k) ∙ b)
       (λ h.
       let (i, k, s, b) = with-condition l h in
-      entry-some (λ e. sameLiteral l e.literal && q e.condition) es i k (rw (s, same_self l, b)))
+      entry-some (λ e. same_literal l e.literal && q e.condition) es i k (rw (s, same_self l, b)))
 
   -- the entries of the literals of which W says so, fact by fact
   pub entries-by-fact :
       (W : Literal → Bool) →
-      someEntry (λ e. W e.literal && q e.condition) es ≡
-      some facts (λ g. (W (fact g) && q (conditionOf (fact g) es)) || (W (denial g) && q (conditionOf (denial g) es)))
+      some_entry (λ e. W e.literal && q e.condition) es ≡
+      some facts (λ g. (W (fact g) && q (condition_of (fact g) es)) || (W (denial g) && q (condition_of (denial g) es)))
   entries-by-fact W = same_truth _ _ to from
     where
       asked : ℕ → Bool
-      asked g = (W (fact g) && q (conditionOf (fact g) es)) || (W (denial g) && q (conditionOf (denial g) es))
+      asked g = (W (fact g) && q (condition_of (fact g) es)) || (W (denial g) && q (condition_of (denial g) es))
 
-      of-literal : (l : Literal) → Declared facts l → W l ≡ true → q (conditionOf l es) ≡ true → some facts asked ≡ true
+      of-literal : (l : Literal) → Declared facts l → W l ≡ true → q (condition_of l es) ≡ true → some facts asked ≡ true
       of-literal (fact g) d a b = some_at facts asked g d (rw (a, b))
-      of-literal (denial g) d a b = some_at facts asked g d (or-second (W (fact g) && q (conditionOf (fact g) es)) _ (rw (a, b)))
+      of-literal (denial g) d a b = some_at facts asked g d (or-second (W (fact g) && q (condition_of (fact g) es)) _ (rw (a, b)))
 
-      to : someEntry (λ e. W e.literal && q e.condition) es ≡ true → some facts asked ≡ true
+      to : some_entry (λ e. W e.literal && q e.condition) es ≡ true → some facts asked ≡ true
       to h =
           let (i, k, s) = entry_of (λ e. W e.literal && q e.condition) es h in
           let (a, b) = and-true (W (entry_at es i).literal) _ s in
           of-literal (entry_at es i).literal (declared-at facts 0 es i ok k) a (ap q (condition-at facts few 0 es i ok k) ∙ b)
 
-      of-condition : (l : Literal) → W l ≡ true → q (conditionOf l es) ≡ true → someEntry (λ e. W e.literal && q e.condition) es ≡ true
+      of-condition : (l : Literal) → W l ≡ true → q (condition_of l es) ≡ true → some_entry (λ e. W e.literal && q e.condition) es ≡ true
       of-condition l a b =
           let (i, k, s, c) = with-condition l b in
           entry-some (λ e. W e.literal && q e.condition) es i k (rw (s, a, c))
 
-      from : some facts asked ≡ true → someEntry (λ e. W e.literal && q e.condition) es ≡ true
+      from : some facts asked ≡ true → some_entry (λ e. W e.literal && q e.condition) es ≡ true
       from h =
           let (g, k, s) = some_of facts asked h in
-          elim (or_cases (W (fact g) && q (conditionOf (fact g) es)) _ s) [
+          elim (or_cases (W (fact g) && q (condition_of (fact g) es)) _ s) [
             | inl x ↦ let (a, b) = and-true (W (fact g)) _ x in of-condition (fact g) a b
             | inr x ↦ let (a, b) = and-true (W (denial g)) _ x in of-condition (denial g) a b
           ]

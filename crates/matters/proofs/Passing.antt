@@ -9,16 +9,16 @@ use lib.ListN.{length, get_or, drop, drop_of_length-le}
 use lib.Bits.{bit_or}
 use lib.Dec.{eqb}
 use borrow.Author.Tests.{lt-ltb, le-ltb, ne_eqb}
-use Rattle.model.specs.Limits.{maxFacts}
+use Rattle.model.specs.Limits.{max_facts}
 use Rattle.model.specs.Kleene.{Kleene, No, is_yes, three}
 use Rattle.model.specs.Formula.{Literal, fact, denial, eval}
-use Rattle.model.specs.Action.{Effect, sameLiteral}
+use Rattle.model.specs.Action.{Effect, same_literal}
 use Rattle.model.specs.Case.{bit}
 use Rattle.model.specs.Relevance.{names, some}
-use Rattle.model.specs.FormulaBytes.{literalByte}
-use Rattle.model.specs.ProblemBytes.{effectsBytes}
+use Rattle.model.specs.FormulaBytes.{literal_byte}
+use Rattle.model.specs.ProblemBytes.{effects_bytes}
 use Rattle.model.specs.WellFormed.{Declared, EffectsOk}
-use Rattle.model.specs.Planes.{sureBit, Table}
+use Rattle.model.specs.Planes.{sure_bit, Table}
 use Rattle.model.specs.Stands.{Span, FormulaAt}
 use Rattle.model.proofs.Laws.Truth.{and_one, and_none, or_assoc, or-none}
 use Rattle.model.proofs.Laws.Reading.{first}
@@ -33,7 +33,7 @@ use Rattle.names.proofs.Sets.{set-none, set_same, set-or}
 use Rattle.matters.specs.declared.Entered.{Entered}
 use Rattle.matters.specs.declared.Told.{Told}
 use Rattle.matters.specs.Matters.{asks, AddsEntry, TellsEntry, FindsEntries, EntryFacts, GathersFacts}
-use Rattle.matters.proofs.Entries.{someEntry, same-is, entry_has, entry-condition, entries-by-fact}
+use Rattle.matters.proofs.Entries.{some_entry, same-is, entry_has, entry-condition, entries-by-fact}
 
 -- ---- one entry
 
@@ -43,7 +43,7 @@ set-with-none h e = set_same h (λ f l. sym (rw (e f) (or-none _)))
 
 -- the literal of a byte, and its fact
 literal-cases :
-    (facts : ℕ) (m : Literal) (b : ℕ) → facts ≤ maxFacts → Declared facts m → b ≡ literalByte m →
+    (facts : ℕ) (m : Literal) (b : ℕ) → facts ≤ max_facts → Declared facts m → b ≡ literal_byte m →
     {C : Type 0} → ((f : ℕ) → m ≡ fact f → b < 64 → b % 64 ≡ f → C) → ((f : ℕ) → m ≡ denial f → 64 ≤ b → b % 64 ≡ f → C) → C
 literal-cases facts (fact f) b few d e k n = k f refl (omega arith) (omega arith)
 literal-cases facts (denial f) b few d e k n = n f refl (omega arith) (omega arith)
@@ -69,7 +69,7 @@ module _ (before : Entered) (b sure x w : ℕ) (e : w ≡ b % 64) (one : FactSet
     -- what is added to the facts whose set condition is true
     adds-fact :
         (sure' : ℕ) →
-        ((f : ℕ) → b % 64 ≡ f → (u : ℕ → Bool) → FactSet before.sure u → (t : Kleene) → sure % 2 ≡ sureBit t → FactSet sure' (λ g. u g || (eqb g f && is_yes t))) →
+        ((f : ℕ) → b % 64 ≡ f → (u : ℕ → Bool) → FactSet before.sure u → (t : Kleene) → sure % 2 ≡ sure_bit t → FactSet sure' (λ g. u g || (eqb g f && is_yes t))) →
         AddsEntry before b sure (record { set = bit_or before.set x; cleared = before.cleared; sure = sure' })
     adds-fact sure' tells =
         record {
@@ -89,11 +89,11 @@ module _ (before : Entered) (b sure x w : ℕ) (e : w ≡ b % 64) (one : FactSet
         (λ f i u hu t y. set-or hu (set_same (one-fact one (e ∙ i)) (λ g l. rw (is-yes t (λ z. n (y ∙ z))) (sym (and_one (eqb g f))))))
 
 -- whether it is asked for
-pub asks-fact : (set cleared b w : ℕ) → w ≡ b % 64 → b < 64 → bit maxFacts set w ≡ asks set cleared b
+pub asks-fact : (set cleared b w : ℕ) → w ≡ b % 64 → b < 64 → bit max_facts set w ≡ asks set cleared b
 unfolding asks
 asks-fact set cleared b w e l = rw (e, lt-ltb b 64 l)
 
-pub asks-denial : (set cleared b w : ℕ) → w ≡ b % 64 → 64 ≤ b → bit maxFacts cleared w ≡ asks set cleared b
+pub asks-denial : (set cleared b w : ℕ) → w ≡ b % 64 → 64 ≤ b → bit max_facts cleared w ≡ asks set cleared b
 unfolding asks
 asks-denial set cleared b w e l = rw (e, le-ltb b 64 l)
 
@@ -108,7 +108,7 @@ module _ (s : List ℕ) (p set cleared : ℕ) where
 
 -- the word has the facts of which pr says so of one of the first e entries
 abbrev Gathered : ℕ → (ℕ → Effect → Bool) → List Effect → ℕ → Type 0
-Gathered word pr es e = (before : ℕ → Bool) × FactSet word before × ((f : ℕ) → someEntry (pr f) es ≡ (before f || someEntry (pr f) (drop e es)))
+Gathered word pr es e = (before : ℕ → Bool) × FactSet word before × ((f : ℕ) → some_entry (pr f) es ≡ (before f || some_entry (pr f) (drop e es)))
 
 gathered-begins : (pr : ℕ → Effect → Bool) (es : List Effect) → Gathered 0 pr es 0
 gathered-begins pr es = ((λ f. false), set-none, λ f. refl)
@@ -116,28 +116,28 @@ gathered-begins pr es = ((λ f. false), set-none, λ f. refl)
 gathered_next :
     (word word' : ℕ) (pr : ℕ → Effect → Bool) (es : List Effect) (e : ℕ) → e < length es →
     ((before : ℕ → Bool) → FactSet word before → FactSet word' (λ f. before f || pr f (entry_at es e))) → Gathered word pr es e → Gathered word' pr es (e + 1)
-unfolding someEntry
+unfolding some_entry
 gathered_next word word' pr es e l adds (before, h, is) = (
   (λ f. before f || pr f (entry_at es e)),
   adds before h,
   λ f. is f ∙ rw (drop-entry es e l) (sym (or_assoc (before f) (pr f (entry_at es e)) _)),
 )
 
-gathered-ends : (word : ℕ) (pr : ℕ → Effect → Bool) (es : List Effect) (e : ℕ) → length es ≤ e → Gathered word pr es e → FactSet word (λ f. someEntry (pr f) es)
-unfolding someEntry
+gathered-ends : (word : ℕ) (pr : ℕ → Effect → Bool) (es : List Effect) (e : ℕ) → length es ≤ e → Gathered word pr es e → FactSet word (λ f. some_entry (pr f) es)
+unfolding some_entry
 gathered-ends word pr es e l (before, h, is) = set_same h (λ f m. sym (is f ∙ rw (drop_of_length-le es l) (or-none (before f))))
 
 -- ---- finding the entries
 
 abbrev setting : ℕ → Effect → Bool
-setting g x = sameLiteral (fact g) x.literal
+setting g x = same_literal (fact g) x.literal
 
 abbrev clearing : ℕ → Effect → Bool
-clearing g x = sameLiteral (denial g) x.literal
+clearing g x = same_literal (denial g) x.literal
 
 -- asked about, and its condition is true
-abbrev settingSurely : ℕ → List Kleene → ℕ → Effect → Bool
-settingSurely after v g x = sameLiteral (fact g) x.literal && is_yes (cond (asks after 0 (literalByte x.literal)) (eval three v x.condition) No)
+abbrev setting_surely : ℕ → List Kleene → ℕ → Effect → Bool
+setting_surely after v g x = same_literal (fact g) x.literal && is_yes (cond (asks after 0 (literal_byte x.literal)) (eval three v x.condition) No)
 
 -- the entries before number e were met, and the next stands at p
 module _ (s : List ℕ) (at n : ℕ) where
@@ -145,7 +145,7 @@ module _ (s : List ℕ) (at n : ℕ) where
   pub record Met (e p : ℕ) (Has : ℕ → List Effect → Type 0) : Type 0 where
     pub few : e ≤ n
     pub is :
-        (facts : ℕ) (es : List Effect) (q : ℕ) → facts ≤ maxFacts → EffectsOk facts 0 es → Span s (length s) at (length es ∷ effectsBytes es) q →
+        (facts : ℕ) (es : List Effect) (q : ℕ) → facts ≤ max_facts → EffectsOk facts 0 es → Span s (length s) at (length es ∷ effects_bytes es) q →
         (n ≡ length es) × Left s facts es q e p × Has facts es
 
   pub met-begins : n ≡ get_or s at 0 → (Has : ℕ → List Effect → Type 0) → ((facts : ℕ) (es : List Effect) → Has facts es) → Met 0 (at + 1) Has
@@ -158,7 +158,7 @@ module _ (s : List ℕ) (at n : ℕ) where
   -- one more
   pub met_next :
       (e p : ℕ) (Has Has' : ℕ → List Effect → Type 0) → Met e p Has → e < n → (next : ℕ) →
-      ((facts : ℕ) (es : List Effect) → facts ≤ maxFacts → e < length es → (get_or s p 0 ≡ byte_at es e) → Declared facts (entry_at es e).literal →
+      ((facts : ℕ) (es : List Effect) → facts ≤ max_facts → e < length es → (get_or s p 0 ≡ byte_at es e) → Declared facts (entry_at es e).literal →
       (m : ℕ) → FormulaAt s facts (p + 1) (entry_at es e).condition m → (next ≡ m) × (Has facts es → Has' facts es)) →
       Met (e + 1) next Has'
   met_next e p Has Has' M l next step =
@@ -176,12 +176,12 @@ module _ (s : List ℕ) (at n : ℕ) where
   -- the block ends before an entry
   pub met-short :
       (e p : ℕ) (Has : ℕ → List Effect → Type 0) → Met e p Has → e < n → length s ≤ p →
-      (facts : ℕ) (es : List Effect) (q : ℕ) → facts ≤ maxFacts → EffectsOk facts 0 es → Span s (length s) at (length es ∷ effectsBytes es) q → ⊥
+      (facts : ℕ) (es : List Effect) (q : ℕ) → facts ≤ max_facts → EffectsOk facts 0 es → Span s (length s) at (length es ∷ effects_bytes es) q → ⊥
   met-short e p Has M l short facts es q few ok v =
       let (i, left, h) = M.is facts es q few ok v in
       omega (arith, (entry-stands s facts es q e p (omega arith) left).0)
 
-pub own_bits : (x : ℕ) → FactSet x (bit maxFacts x)
+pub own_bits : (x : ℕ) → FactSet x (bit max_facts x)
 own_bits x = record { at = λ f l. refl }
 
 -- one that was not asked about counts as not true
@@ -191,45 +191,42 @@ told-asked s p c after h x X =
       is =
           λ facts f q few at.
           let (z, lanes) = X.is facts f q few at in
-          (z, λ case t. rw h (sym (low_bit x.sure) ∙ ((lanes case t).lane 0 (omega arith)).is-sure));
+          (z, λ case t. rw h (sym (low_bit x.sure) ∙ ((lanes case t).lane 0 (omega arith)).is_sure));
     }
 
-pub told-left : (s : List ℕ) (p : ℕ) (c : List ℕ) (after : ℕ) → asks after 0 (get_or s p 0) ≡ false → (next : ℕ) → AfterFormula s (p + 1) next → TellsEntry s p c after (record { sure = 0; next = next })
-told-left s p c after h next A = record { is = λ facts f q few at. (A.is facts f q at, λ case t. rw h) }
-
 -- what is so of the entry of one fact, if that is asked about
-with_fact : (b : Bool) (p : Effect → Bool) (es : List Effect) → someEntry (λ x. b && p x) es ≡ (b && someEntry p es)
-unfolding someEntry
+with_fact : (b : Bool) (p : Effect → Bool) (es : List Effect) → some_entry (λ x. b && p x) es ≡ (b && some_entry p es)
+unfolding some_entry
 with_fact b p [] = sym (and_none b)
 with_fact true p (e ∷ es) = ap (λ c. p e || c) (with_fact true p es)
 with_fact false p (e ∷ es) = with_fact false p es
 
-some-entry-same : (p q : Effect → Bool) (es : List Effect) → ((x : Effect) → p x ≡ q x) → someEntry p es ≡ someEntry q es
-unfolding someEntry
+some-entry-same : (p q : Effect → Bool) (es : List Effect) → ((x : Effect) → p x ≡ q x) → some_entry p es ≡ some_entry q es
+unfolding some_entry
 some-entry-same p q [] h = refl
 some-entry-same p q (e ∷ es) h = ap₂ ◌||◌ (h e) (some-entry-same p q es h)
 
-asked-about : (after : ℕ) (g : ℕ) → g < maxFacts → (v : List Kleene) (x : Effect) → settingSurely after v g x ≡ (bit maxFacts after g && (sameLiteral (fact g) x.literal && is_yes (eval three v x.condition)))
-asked-about after g l v x = by-same (sameLiteral (fact g) x.literal) refl
+asked-about : (after : ℕ) (g : ℕ) → g < max_facts → (v : List Kleene) (x : Effect) → setting_surely after v g x ≡ (bit max_facts after g && (same_literal (fact g) x.literal && is_yes (eval three v x.condition)))
+asked-about after g l v x = by-same (same_literal (fact g) x.literal) refl
   where
     of-asked : (b : Bool) → is_yes (cond b (eval three v x.condition) No) ≡ (b && is_yes (eval three v x.condition))
     of-asked true = refl
     of-asked false = refl
 
     by-same :
-        (b : Bool) → sameLiteral (fact g) x.literal ≡ b →
-        (b && is_yes (cond (asks after 0 (literalByte x.literal)) (eval three v x.condition) No)) ≡ (bit maxFacts after g && (b && is_yes (eval three v x.condition)))
+        (b : Bool) → same_literal (fact g) x.literal ≡ b →
+        (b && is_yes (cond (asks after 0 (literal_byte x.literal)) (eval three v x.condition) No)) ≡ (bit max_facts after g && (b && is_yes (eval three v x.condition)))
     by-same true h =
-        let i : literalByte x.literal ≡ g = ap literalByte (sym (same-is (fact g) x.literal h)) in
-        ap (λ b. is_yes (cond b (eval three v x.condition) No)) (ap (asks after 0) i ∙ sym (asks-fact after 0 g g (omega arith) l)) ∙ of-asked (bit maxFacts after g)
-    by-same false h = sym (and_none (bit maxFacts after g))
+        let i : literal_byte x.literal ≡ g = ap literal_byte (sym (same-is (fact g) x.literal h)) in
+        ap (λ b. is_yes (cond b (eval three v x.condition) No)) (ap (asks after 0) i ∙ sym (asks-fact after 0 g g (omega arith) l)) ∙ of-asked (bit max_facts after g)
+    by-same false h = sym (and_none (bit max_facts after g))
 
 module _ (s : List ℕ) (at : ℕ) (c : List ℕ) (after n : ℕ) where
   -- the sets of the first e entries
   abbrev Found : Entered → ℕ → ℕ → List Effect → Type 0
   Found r e facts es =
       Gathered r.set setting es e × Gathered r.cleared clearing es e ×
-      ((case : ℕ → List Kleene) → Table c case → Gathered r.sure (settingSurely after (case 0)) es e)
+      ((case : ℕ → List Kleene) → Table c case → Gathered r.sure (setting_surely after (case 0)) es e)
 
   abbrev pub Entering : ℕ → ℕ → Entered → Type 0
   Entering e p r = Met s at n e p (Found r e)
@@ -237,7 +234,7 @@ module _ (s : List ℕ) (at : ℕ) (c : List ℕ) (after n : ℕ) where
   pub entering-begins : n ≡ get_or s at 0 → Entering 0 (at + 1) (record { set = 0; cleared = 0; sure = 0 })
   entering-begins i =
       met-begins s at n i (Found _ 0)
-      (λ facts es. (gathered-begins setting es, gathered-begins clearing es, λ case t. gathered-begins (settingSurely after (case 0)) es))
+      (λ facts es. (gathered-begins setting es, gathered-begins clearing es, λ case t. gathered-begins (setting_surely after (case 0)) es))
 
   module _ (e p : ℕ) (r : Entered) (E : Entering e p r) where
     pub entering-next : e < n → (x : Told) → TellsEntry s p c after x → (r' : Entered) → AddsEntry r (get_or s p 0) x.sure r' → Entering (e + 1) x.next r'
@@ -248,12 +245,12 @@ module _ (s : List ℕ) (at : ℕ) (c : List ℕ) (after n : ℕ) where
         let add = A.is facts (entry_at es e).literal few d k in (
           z,
           λ (gs, gc, gu). (
-            gathered_next r.set r'.set setting es e b (λ before h. (add before (bit maxFacts r.cleared) (bit maxFacts r.sure) h (own_bits _) (own_bits _)).0) gs,
+            gathered_next r.set r'.set setting es e b (λ before h. (add before (bit max_facts r.cleared) (bit max_facts r.sure) h (own_bits _) (own_bits _)).0) gs,
             gathered_next r.cleared r'.cleared clearing es e b
-                (λ before h. (add (bit maxFacts r.set) before (bit maxFacts r.sure) (own_bits _) h (own_bits _)).1) gc,
+                (λ before h. (add (bit max_facts r.set) before (bit max_facts r.sure) (own_bits _) h (own_bits _)).1) gc,
             λ case t.
-                gathered_next r.sure r'.sure (settingSurely after (case 0)) es e b
-                (λ before h. (add (bit maxFacts r.set) (bit maxFacts r.cleared) before (own_bits _) (own_bits _) h).2 (cond (asks after 0 (byte_at es e)) (eval three (case 0) (entry_at es e).condition) No) (rw k at (sure case t)))
+                gathered_next r.sure r'.sure (setting_surely after (case 0)) es e b
+                (λ before h. (add (bit max_facts r.set) (bit max_facts r.cleared) before (own_bits _) (own_bits _) h).2 (cond (asks after 0 (byte_at es e)) (eval three (case 0) (entry_at es e).condition) No) (rw k at (sure case t)))
                 (gu case t),
           ),
         ))
@@ -269,21 +266,17 @@ module _ (s : List ℕ) (at : ℕ) (c : List ℕ) (after n : ℕ) where
               λ facts es q few ok v case t.
               let (i, _, hs) = E.is facts es q few ok v in
               let z : length es ≤ e = omega (arith, E.few) in
-              let u = gathered-ends r.sure (settingSurely after (case 0)) es e z (hs.2 case t) in (
+              let u = gathered-ends r.sure (setting_surely after (case 0)) es e z (hs.2 case t) in (
                 set_same (gathered-ends r.set setting es e z hs.0) (λ g m. entry_has (fact g) es),
                 set_same (gathered-ends r.cleared clearing es e z hs.1) (λ g m. entry_has (denial g) es),
                 λ g m.
                     u.at g (omega arith) ∙
-                    some-entry-same (settingSurely after (case 0) g) (λ x. bit maxFacts after g && (sameLiteral (fact g) x.literal && is_yes (eval three (case 0) x.condition))) es
+                    some-entry-same (setting_surely after (case 0) g) (λ x. bit max_facts after g && (same_literal (fact g) x.literal && is_yes (eval three (case 0) x.condition))) es
                     (asked-about after g (omega arith) (case 0)) ∙
-                    with_fact (bit maxFacts after g) (λ x. sameLiteral (fact g) x.literal && is_yes (eval three (case 0) x.condition)) es ∙
-                    ap (λ b. bit maxFacts after g && b) (entry-condition facts few es ok (λ φ. is_yes (eval three (case 0) φ)) refl (fact g)),
+                    with_fact (bit max_facts after g) (λ x. same_literal (fact g) x.literal && is_yes (eval three (case 0) x.condition)) es ∙
+                    ap (λ b. bit max_facts after g && b) (entry-condition facts few es ok (λ φ. is_yes (eval three (case 0) φ)) refl (fact g)),
               );
         }
-
--- the block ends before the count
-pub entering-none : (s : List ℕ) (at : ℕ) (c : List ℕ) (after : ℕ) (r : Entered) → length s ≤ at → FindsEntries s at c after r
-entering-none s at c after r h = record { is = λ facts es q few ok v case t. absurd (omega (arith, (first v).0)) }
 
 -- ---- gathering what they name
 
@@ -293,11 +286,11 @@ some_below zero p q h = refl
 some_below (suc n) p q h = ap₂ ◌||◌ (h zero (omega arith)) (some_below n (λ i. p (suc i)) (λ i. q (suc i)) (λ i l. h (suc i) (omega arith)))
 
 module _ (s : List ℕ) (at set cleared n : ℕ) where
-  abbrev askedFor : Literal → Bool
-  askedFor l = asks set cleared (literalByte l)
+  abbrev asked_for : Literal → Bool
+  asked_for l = asks set cleared (literal_byte l)
 
   abbrev naming : ℕ → Effect → Bool
-  naming f x = askedFor x.literal && names x.condition f
+  naming f x = asked_for x.literal && names x.condition f
 
   abbrev pub Gathering : ℕ → ℕ → ℕ → Type 0
   Gathering e p word = Met s at n e p (λ facts es. Gathered word naming es e)
@@ -325,11 +318,8 @@ module _ (s : List ℕ) (at set cleared n : ℕ) where
               let (i, _, g) = G.is facts es q few ok v in
               set_same (gathered-ends word naming es e (omega (arith, G.few)) g)
               (λ f m.
-              entries-by-fact facts few es ok (λ φ. names φ f) refl askedFor ∙
+              entries-by-fact facts few es ok (λ φ. names φ f) refl asked_for ∙
               some_below facts _ _
               (λ g b.
               rw (sym (asks-fact set cleared g g (omega arith) (omega arith)), sym (asks-denial set cleared (g + 64) g (omega arith) (omega arith)))));
         }
-
-pub gathering-none : (s : List ℕ) (at set cleared r : ℕ) → length s ≤ at → GathersFacts s at set cleared r
-gathering-none s at set cleared r h = record { is = λ facts es q few ok v. absurd (omega (arith, (first v).0)) }

@@ -1,18 +1,19 @@
-// One step of working backward (document 02, W-204): the facts that matter before an action, by those that matter after it. Sets of facts
-// are words, as in `names`.
+// One step of working backward: the facts that matter before an action, by those that matter after it. Sets of facts are words, as in
+// `names`.
+#![tactic(auto)]
+
 ghost use Rattle.std.specs.Prelude.{◌≡◌, ◌<◌, length};
 ghost use Rattle.matters.specs.Matters.{asks, AddsEntry, TellsEntry, FindsEntries, EntryFacts, GathersFacts, MattersBefore};
 
 use evaluate::{ONES, formula_planes};
 use names::{Named, after_formula, fact_bit, has_fact, named_facts};
-use numbers::wide;
 
 // The first literal's byte that is a denial.
 const DENIALS: u8 = 64;
 
 // Of an action's entries: the facts that one sets, those that one clears, and, of the facts that are asked about, those whose set condition
 // is true.
-#[derive(Drop)]
+#[derive(Clone, Copy)]
 pub struct Entered {
     pub set: u64,
     pub cleared: u64,
@@ -23,25 +24,24 @@ pub struct Entered {
 fn with_entry(entries: Entered, literal: u8, sure: u64) -> Entered
     ensures { AddsEntry entries literal sure result }
 {
-    let fact = fact_bit(wide(literal % 64));
+    let fact = fact_bit((literal % 64) as usize);
     if DENIALS <= literal {
         return Entered {
-            set: entries.set,
             cleared: entries.cleared | fact,
-            sure: entries.sure,
+            ..entries
         };
     }
-    if sure % 2 == 0 {
+    let fails = sure % 2 == 0;
+    if fails {
         return Entered {
             set: entries.set | fact,
-            cleared: entries.cleared,
-            sure: entries.sure,
+            ..entries
         };
     }
     Entered {
         set: entries.set | fact,
-        cleared: entries.cleared,
         sure: entries.sure | fact,
+        ..entries
     }
 }
 
@@ -49,7 +49,7 @@ fn with_entry(entries: Entered, literal: u8, sure: u64) -> Entered
 fn is_asked(literal: u8, set: u64, cleared: u64) -> bool
     ensures { result ≡ asks set cleared literal }
 {
-    let fact = wide(literal % 64);
+    let fact = (literal % 64) as usize;
     if literal < DENIALS {
         return has_fact(set, fact);
     }
@@ -57,7 +57,7 @@ fn is_asked(literal: u8, set: u64, cleared: u64) -> bool
 }
 
 // An entry's condition in lane 0, where it was asked about, and the position after the entry.
-#[derive(Drop)]
+#[derive(Clone, Copy)]
 pub struct Told {
     pub sure: u64,
     pub next: usize,
@@ -93,17 +93,15 @@ fn find_entries(problem: &[u8], at: usize, c: &[u64; 256], after: u64) -> Entere
     if problem.len() <= at {
         return entries;
     }
-    let n = wide(problem[at]);
+    let n = problem[at] as usize;
     let mut p = at + 1;
-    let mut e: usize = 0;
-    while e < n {
+    for _ in 0..n {
         if problem.len() <= p {
             return entries;
         }
         let told = tell_entry(problem, p, c, after);
         entries = with_entry(entries, problem[p], told.sure);
         p = told.next;
-        e = e + 1;
     }
     entries
 }
@@ -130,17 +128,15 @@ fn gather_facts(problem: &[u8], at: usize, set: u64, cleared: u64) -> u64
     if problem.len() <= at {
         return facts;
     }
-    let n = wide(problem[at]);
+    let n = problem[at] as usize;
     let mut p = at + 1;
-    let mut e: usize = 0;
-    while e < n {
+    for _ in 0..n {
         if problem.len() <= p {
             return facts;
         }
         let named = entry_facts(problem, p, set, cleared);
         facts = facts | named.facts;
         p = named.next;
-        e = e + 1;
     }
     facts
 }
