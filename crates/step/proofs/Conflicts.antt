@@ -8,15 +8,15 @@ use native.Mathlib.Omega.{arith}
 use native.Mathlib.Decide.{dec_lt, ℕ_discrete}
 use lib.ListN.{length, get_or}
 use lib.Bits.{bit_and, bit_xor, and_le_l}
-use Rattle.model.specs.Limits.{maxFacts}
+use Rattle.model.specs.Limits.{max_facts}
 use Rattle.model.specs.Kleene.{Kleene, No, Unknown, Yes, both, denied, is_yes, three}
 use Rattle.model.specs.Formula.{Literal, fact, denial, eval}
-use Rattle.model.specs.FormulaBytes.{literalByte}
-use Rattle.model.specs.Action.{Effect, Action, conditionOf, every, exclusive}
-use Rattle.model.specs.Run.{lowestFalse}
+use Rattle.model.specs.FormulaBytes.{literal_byte}
+use Rattle.model.specs.Action.{Effect, Action, condition_of, every, exclusive}
+use Rattle.model.specs.Run.{lowest_false}
 use Rattle.model.specs.Case.{flag}
 use Rattle.model.specs.WellFormed.{Declared, EffectsOk}
-use Rattle.model.specs.Planes.{laneBit, sureBit, Table}
+use Rattle.model.specs.Planes.{lane_bit, sure_bit, Table}
 use Rattle.model.proofs.Laws.Agreement.{by_row}
 use Rattle.model.proofs.Laws.Conflicts.{every-at, every-last, every-same, every-all, lowest-is}
 use Rattle.model.proofs.Laws.Planes.{ones, low_bit, bit-small, bit-and, bit-zero, lane-both, lane-denied}
@@ -25,7 +25,7 @@ use Rattle.step.specs.Conflicts.{WithoutConflicts}
 use Rattle.effects.proofs.Entries.{byte_at, declared-at, rises, rises-from, condition-at, condition-none}
 use Rattle.effects.proofs.Settling.{fact-at, denial-at}
 
-pub sure-flag : (t : Kleene) → sureBit t ≡ flag (is_yes t)
+pub sure-flag : (t : Kleene) → sure_bit t ≡ flag (is_yes t)
 sure-flag No = refl
 sure-flag Unknown = refl
 sure-flag Yes = refl
@@ -51,19 +51,19 @@ flag-fewer m n p l e = go (every n p) refl
     go true h = absurd (omega (arith, ap flag (every-all m p (λ i b. every-at n p h i (omega arith)))))
     go false h = refl
 
-byte-declared : (facts : ℕ) (l : Literal) → Declared facts l → literalByte l < facts + 64
+byte-declared : (facts : ℕ) (l : Literal) → Declared facts l → literal_byte l < facts + 64
 byte-declared facts (fact f) d = omega arith
 byte-declared facts (denial f) d = omega arith
 
 -- ---- one fact
 
-module _ (facts : ℕ) (h : facts ≤ maxFacts) (a : Action) (ok : EffectsOk facts 0 a.effects) (v : List Kleene) (f : ℕ) where
+module _ (facts : ℕ) (h : facts ≤ max_facts) (a : Action) (ok : EffectsOk facts 0 a.effects) (v : List Kleene) (f : ℕ) where
   abbrev es : List Effect
   es = a.effects
 
   not-cleared : f < facts → ((k : ℕ) → k < length es → byte_at es k ≡ f + 64 → ⊥) → exclusive three a v f ≡ true
   unfolding exclusive eval
-  not-cleared l n = rw (condition-none facts h 0 es (denial f) ok l n) (by_row (λ x. is_yes (denied (both x No))) (λ x. true) refl (eval three v (conditionOf (fact f) es)))
+  not-cleared l n = rw (condition-none facts h 0 es (denial f) ok l n) (by_row (λ x. is_yes (denied (both x No))) (λ x. true) refl (eval three v (condition_of (fact f) es)))
 
   not_set : f < facts → ((k : ℕ) → k < length es → byte_at es k ≡ f → ⊥) → exclusive three a v f ≡ true
   unfolding exclusive eval
@@ -87,7 +87,7 @@ module _ (facts : ℕ) (h : facts ≤ maxFacts) (a : Action) (ok : EffectsOk fac
 pub record Passed (facts : ℕ) (a : Action) (case : ℕ → List Kleene) (n alive lanes i e : ℕ) : Type 0 where
   pub limit : ℕ
   pub few : limit ≤ facts
-  pub bits : (j : ℕ) → j < 64 → laneBit j lanes ≡ min (laneBit j alive) (flag (every limit (exclusive three a (case j))))
+  pub bits : (j : ℕ) → j < 64 → lane_bit j lanes ≡ min (lane_bit j alive) (flag (every limit (exclusive three a (case j))))
   pub before : (k : ℕ) → k < e → byte_at a.effects k < limit + 64
   pub from : (k : ℕ) → e ≤ k → k < n → 64 ≤ byte_at a.effects k → limit + 64 ≤ byte_at a.effects k
   pub sets : (k : ℕ) → k < i → (l : ℕ) → e ≤ l → l < n → byte_at a.effects k + 64 < byte_at a.effects l
@@ -98,7 +98,7 @@ pub record Passing (n : ℕ) (literals found : List ℕ) (alive lanes i e : ℕ)
   pub among : lanes ≤ alive
   pub some : lanes ≡ 0 → alive ≡ 0
   pub is :
-      (facts : ℕ) (a : Action) → facts ≤ maxFacts → EffectsOk facts 0 a.effects → n ≡ length a.effects → (c : List ℕ) → Entries c literals found a.effects n →
+      (facts : ℕ) (a : Action) → facts ≤ max_facts → EffectsOk facts 0 a.effects → n ≡ length a.effects → (c : List ℕ) → Entries c literals found a.effects n →
       (case : ℕ → List Kleene) → Table c case → Passed facts a case n alive lanes i e
 
 pub passing_begins : (n : ℕ) (literals found : List ℕ) (alive : ℕ) → Passing n literals found alive alive 0 0
@@ -150,7 +150,7 @@ module _ (n : ℕ) (literals found : List ℕ) (alive lanes i e : ℕ) (P : Pass
             };
       }
 
-  module _ (facts : ℕ) (a : Action) (h : facts ≤ maxFacts) (ok : EffectsOk facts 0 a.effects) (z : n ≡ length a.effects)
+  module _ (facts : ℕ) (a : Action) (h : facts ≤ max_facts) (ok : EffectsOk facts 0 a.effects) (z : n ≡ length a.effects)
       (case : ℕ → List Kleene) (p : Passed facts a case n alive lanes i e) where
     -- entry e
     abbrev b : ℕ
@@ -179,7 +179,7 @@ module _ (n : ℕ) (literals found : List ℕ) (alive lanes i e : ℕ) (P : Pass
 
     -- it was passed, and these lanes are left: where it clears a fact, those in which that is not in conflict
     passed :
-        (lanes' : ℕ) → (b < 64 → lanes' ≡ lanes) → (64 ≤ b → (j : ℕ) → j < 64 → laneBit j lanes' ≡ min (laneBit j lanes) (flag (q j (b - 64)))) →
+        (lanes' : ℕ) → (b < 64 → lanes' ≡ lanes) → (64 ≤ b → (j : ℕ) → j < 64 → lane_bit j lanes' ≡ min (lane_bit j lanes) (flag (q j (b - 64)))) →
         Passed facts a case n alive lanes' i (e + 1)
     passed lanes' low high =
         elim (dec_lt b 64) [
@@ -187,7 +187,7 @@ module _ (n : ℕ) (literals found : List ℕ) (alive lanes i e : ℕ) (P : Pass
               record {
                 limit = p.limit;
                 few = p.few;
-                bits = λ j m. ap (laneBit j) (low l) ∙ p.bits j m;
+                bits = λ j m. ap (lane_bit j) (low l) ∙ p.bits j m;
                 before = λ k d. omega (arith, rises-from facts a.effects k e ok (omega arith) (omega arith));
                 from = λ k d. p.from k (omega arith);
                 sets = λ k d m u. p.sets k d m (omega arith);
@@ -233,7 +233,7 @@ module _ (n : ℕ) (literals found : List ℕ) (alive lanes i e : ℕ) (P : Pass
     fewer : lanes' ≤ alive
     fewer = omega (arith, left, and_le_l lanes (bit_xor ones (bit_and (get_or found (2 * i) 0) (get_or found (2 * e) 0))), P.among)
 
-    module _ (facts : ℕ) (a : Action) (h : facts ≤ maxFacts) (ok : EffectsOk facts 0 a.effects) (z : n ≡ length a.effects) (c : List ℕ)
+    module _ (facts : ℕ) (a : Action) (h : facts ≤ max_facts) (ok : EffectsOk facts 0 a.effects) (z : n ≡ length a.effects) (c : List ℕ)
         (x : Entries c literals found a.effects n) (case : ℕ → List Kleene) (t : Table c case) where
       abbrev f : ℕ
       f = byte_at a.effects i
@@ -244,11 +244,11 @@ module _ (n : ℕ) (literals found : List ℕ) (alive lanes i e : ℕ) (P : Pass
       clears : byte_at a.effects e ≡ f + 64
       clears = omega (arith, x.literal i in_row, x.literal e more)
 
-      pair-bits : (j : ℕ) → j < 64 → laneBit j lanes' ≡ min (laneBit j lanes) (flag (exclusive three a (case j) f))
+      pair-bits : (j : ℕ) → j < 64 → lane_bit j lanes' ≡ min (lane_bit j lanes) (flag (exclusive three a (case j) f))
       pair-bits j l =
-          ap (laneBit j) left ∙ bit-and j lanes _ ∙
-          ap (min (laneBit j lanes))
-          ((lane-denied j (lane-both j ((x.condition case t i in_row).lane j l) ((x.condition case t e more).lane j l)) l).is-sure ∙
+          ap (lane_bit j) left ∙ bit-and j lanes _ ∙
+          ap (min (lane_bit j lanes))
+          ((lane-denied j (lane-both j ((x.condition case t i in_row).lane j l) ((x.condition case t e more).lane j l)) l).is_sure ∙
           sure-flag (denied (both (eval three (case j) (entry_at a.effects i).condition) (eval three (case j) (entry_at a.effects e).condition))) ∙
           ap flag (sym (set-and-cleared facts h a ok (case j) f i e (omega (arith, in_row)) (omega arith) refl clears)))
 
@@ -258,24 +258,24 @@ module _ (n : ℕ) (literals found : List ℕ) (alive lanes i e : ℕ) (P : Pass
       later : Passed facts a case n alive lanes' i (e + 1)
       later =
           let g : byte_at a.effects e - 64 ≡ f = omega (arith, clears) in
-          passed facts a h ok z case now lanes' (λ l. absurd (omega (arith, clears))) (λ l j m. pair-bits j m ∙ ap (λ (y : ℕ). min (laneBit j lanes) (flag (exclusive three a (case j) y))) (sym g))
+          passed facts a h ok z case now lanes' (λ l. absurd (omega (arith, clears))) (λ l j m. pair-bits j m ∙ ap (λ (y : ℕ). min (lane_bit j lanes) (flag (exclusive three a (case j) y))) (sym g))
 
       -- no lane is left
       module _ (none : lanes' ≡ 0) where
-        stopped : (j : ℕ) → j < 64 → laneBit j lanes' ≡ min (laneBit j alive) (flag (every facts (exclusive three a (case j))))
+        stopped : (j : ℕ) → j < 64 → lane_bit j lanes' ≡ min (lane_bit j alive) (flag (every facts (exclusive three a (case j))))
         stopped j l =
-            let k : laneBit j lanes' ≡ 0 = ap (laneBit j) none ∙ bit-zero j in
+            let k : lane_bit j lanes' ≡ 0 = ap (lane_bit j) none ∙ bit-zero j in
             elim (ℕ_discrete (flag (every later.limit (exclusive three a (case j)))) 0) [
               | yes y ↦ k ∙ rw (flag-fewer later.limit facts (exclusive three a (case j)) later.few y) (omega arith)
-              | no y ↦ let d : laneBit j alive ≡ 0 = omega (arith, later.bits j l) in rw (k, d) (omega arith)
+              | no y ↦ let d : lane_bit j alive ≡ 0 = omega (arith, later.bits j l) in rw (k, d) (omega arith)
             ]
 
-        lowest : alive ≡ 1 → get_or literals i 0 ≡ lowestFalse facts (exclusive three a (case 0))
+        lowest : alive ≡ 1 → get_or literals i 0 ≡ lowest_false facts (exclusive three a (case 0))
         lowest one =
             let g : lanes ≡ 1 = elim (ℕ_discrete lanes 0) [ yes u ↦ absurd (omega (arith, P.some u)) | no u ↦ omega (arith, P.among) ] in
-            let w : laneBit 0 lanes ≡ 1 = low_bit lanes ∙ rw g in
+            let w : lane_bit 0 lanes ≡ 1 = low_bit lanes ∙ rw g in
             let o : every now.limit (exclusive three a (case 0)) ≡ true = flag_true _ (λ u. omega (arith, u, now.bits 0 (omega arith))) in
-            let k : exclusive three a (case 0) f ≡ false = flag-false _ (omega (arith, pair-bits 0 (omega arith), ap (laneBit 0) none ∙ bit-zero 0)) in
+            let k : exclusive three a (case 0) f ≡ false = flag-false _ (omega (arith, pair-bits 0 (omega arith), ap (lane_bit 0) none ∙ bit-zero 0)) in
             x.literal i in_row ∙
             sym
             (lowest-is facts (exclusive three a (case 0)) f

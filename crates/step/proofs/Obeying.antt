@@ -6,15 +6,15 @@ use Prim.Native.Nat.{ℕ, ◌≤◌, ◌<◌, min, zero-le}
 use native.Mathlib.Omega.{arith}
 use lib.ListN.{length}
 use lib.Bits.{bit_and, and_le_l}
-use Rattle.model.specs.Limits.{maxFacts}
+use Rattle.model.specs.Limits.{max_facts}
 use Rattle.model.specs.Kleene.{Kleene, three}
 use Rattle.model.specs.Formula.{eval}
 use Rattle.model.specs.Action.{Action, every, exclusive, applicable}
-use Rattle.model.specs.Run.{holdsIn, lowestFalse}
+use Rattle.model.specs.Run.{holds_in, lowest_false}
 use Rattle.model.specs.Case.{flag}
-use Rattle.model.specs.FormulaBytes.{encodeFormula}
-use Rattle.model.specs.ProblemBytes.{effectsBytes, actionBytes}
-use Rattle.model.specs.Planes.{laneBit, Table}
+use Rattle.model.specs.FormulaBytes.{encode_formula}
+use Rattle.model.specs.ProblemBytes.{effects_bytes, action_bytes}
+use Rattle.model.specs.Planes.{lane_bit, Table}
 use Rattle.model.specs.Stands.{Span, ActionAt}
 use Rattle.model.proofs.Laws.Reading.{split}
 use Rattle.model.proofs.Laws.Planes.{low_bit, bit-and, bit-zero}
@@ -30,21 +30,21 @@ use Rattle.step.proofs.Conflicts.{sure-flag, flag-and}
 -- the lanes in which the precondition reads yes, and the effects after it
 met :
     (problem : List ℕ) (p : ℕ) (c : List ℕ) (r : Planes) → FormulaPlanes problem c p r →
-    (facts : ℕ) (a : Action) (q : ℕ) → facts ≤ maxFacts → ActionAt problem facts p a q → (case : ℕ → List Kleene) → Table c case →
-    ((j : ℕ) → j < 64 → laneBit j r.sure ≡ flag (holdsIn three (case j) a.precondition)) ×
-    Span problem (length problem) r.next (length a.effects ∷ effectsBytes a.effects) q
-unfolding actionBytes
+    (facts : ℕ) (a : Action) (q : ℕ) → facts ≤ max_facts → ActionAt problem facts p a q → (case : ℕ → List Kleene) → Table c case →
+    ((j : ℕ) → j < 64 → lane_bit j r.sure ≡ flag (holds_in three (case j) a.precondition)) ×
+    Span problem (length problem) r.next (length a.effects ∷ effects_bytes a.effects) q
+unfolding action_bytes
 met problem p c r x facts a q h at case t =
-    split (encodeFormula a.precondition) at.bytes λ m v w.
+    split (encode_formula a.precondition) at.bytes λ m v w.
     let (e, lanes) = x.is facts a.precondition m h (record { ok = at.precondition; bytes = v }) in (
-      (λ j l. ((lanes case t).lane j l).is-sure ∙ sure-flag (eval three (case j) a.precondition)),
-      subst (λ (y : ℕ). Span problem (length problem) y (length a.effects ∷ effectsBytes a.effects) q) (sym e) w,
+      (λ j l. ((lanes case t).lane j l).is_sure ∙ sure-flag (eval three (case j) a.precondition)),
+      subst (λ (y : ℕ). Span problem (length problem) y (length a.effects ∷ effects_bytes a.effects) q) (sym e) w,
     )
 
 module _ (problem : List ℕ) (p : ℕ) (c : List ℕ) (alive : ℕ) (r : Planes) (x : FormulaPlanes problem c p r) where
-  applies-flag : (facts : ℕ) (a : Action) (v : List Kleene) → flag (applicable three facts a v) ≡ min (flag (holdsIn three v a.precondition)) (flag (every facts (exclusive three a v)))
+  applies-flag : (facts : ℕ) (a : Action) (v : List Kleene) → flag (applicable three facts a v) ≡ min (flag (holds_in three v a.precondition)) (flag (every facts (exclusive three a v)))
   unfolding applicable
-  applies-flag facts a v = flag-and (holdsIn three v a.precondition) (every facts (exclusive three a v))
+  applies-flag facts a v = flag-and (holds_in three v a.precondition) (every facts (exclusive three a v))
 
   -- no lane meets the precondition
   pub obeys-none : length c ≡ 256 → bit_and alive r.sure ≡ 0 → ObeysAction problem p c alive c (record { lanes = 0; fact = 0 })
@@ -56,14 +56,14 @@ module _ (problem : List ℕ) (p : ℕ) (c : List ℕ) (alive : ℕ) (r : Planes
         is = λ facts a q h at case z t. ((λ j l. bit-zero j ∙ rw (applies-flag facts a (case j)) (omega (arith, none facts a q h at case t j l))), λ n. absurd (n refl));
         lowest =
             λ facts a q h at case t one z y.
-            absurd (omega (arith, none facts a q h at case t 0 (omega arith), ap (laneBit 0) one ∙ low_bit 1, ap flag y));
+            absurd (omega (arith, none facts a q h at case t 0 (omega arith), ap (lane_bit 0) one ∙ low_bit 1, ap flag y));
       }
     where
       none :
-          (facts : ℕ) (a : Action) (q : ℕ) → facts ≤ maxFacts → ActionAt problem facts p a q → (case : ℕ → List Kleene) → Table c case → (j : ℕ) → j < 64 →
-          min (laneBit j alive) (flag (holdsIn three (case j) a.precondition)) ≡ 0
+          (facts : ℕ) (a : Action) (q : ℕ) → facts ≤ max_facts → ActionAt problem facts p a q → (case : ℕ → List Kleene) → Table c case → (j : ℕ) → j < 64 →
+          min (lane_bit j alive) (flag (holds_in three (case j) a.precondition)) ≡ 0
       none facts a q h at case t j l =
-          rw (← (met problem p c r x facts a q h at case t).0 j l) (sym (bit-and j alive r.sure) ∙ ap (laneBit j) e ∙ bit-zero j)
+          rw (← (met problem p c r x facts a q h at case t).0 j l) (sym (bit-and j alive r.sure) ∙ ap (lane_bit j) e ∙ bit-zero j)
 
   -- its conditions were found, and the lanes in conflict left out
   module _ (found literals : List ℕ) (n : ℕ) (F : FindsConditions problem r.next c found literals n) (going : Going)
@@ -71,18 +71,18 @@ module _ (problem : List ℕ) (p : ℕ) (c : List ℕ) (alive : ℕ) (r : Planes
     among : going.lanes ≤ alive
     among = omega (arith, W.among, and_le_l alive r.sure)
 
-    module _ (facts : ℕ) (a : Action) (q : ℕ) (h : facts ≤ maxFacts) (at : ActionAt problem facts p a q) (case : ℕ → List Kleene) (t : Table c case) where
+    module _ (facts : ℕ) (a : Action) (q : ℕ) (h : facts ≤ max_facts) (at : ActionAt problem facts p a q) (case : ℕ → List Kleene) (t : Table c case) where
       entries : (n ≡ length a.effects) × Entries c literals found a.effects n
       entries = F.is facts a.effects q h at.few at.effects (met problem p c r x facts a q h at case t).1
 
-      bits : (j : ℕ) → j < 64 → laneBit j going.lanes ≡ min (laneBit j alive) (flag (applicable three facts a (case j)))
+      bits : (j : ℕ) → j < 64 → lane_bit j going.lanes ≡ min (lane_bit j alive) (flag (applicable three facts a (case j)))
       bits j l =
           let e = (W.is facts a h at.effects entries.0 c entries.1 case t).0 j l in
           e ∙ rw (bit-and j alive r.sure, (met problem p c r x facts a q h at case t).0 j l, applies-flag facts a (case j)) (omega arith)
 
-      lowest : alive ≡ 1 → going.lanes ≡ 0 → holdsIn three (case 0) a.precondition ≡ true → going.fact ≡ lowestFalse facts (exclusive three a (case 0))
+      lowest : alive ≡ 1 → going.lanes ≡ 0 → holds_in three (case 0) a.precondition ≡ true → going.fact ≡ lowest_false facts (exclusive three a (case 0))
       lowest one none y =
-          let k : laneBit 0 (bit_and alive r.sure) ≡ 1 =
+          let k : lane_bit 0 (bit_and alive r.sure) ≡ 1 =
           bit-and 0 alive r.sure ∙ rw ((met problem p c r x facts a q h at case t).0 0 (omega arith), y, one, low_bit 1)
           in
           (W.is facts a h at.effects entries.0 c entries.1 case t).1

@@ -16,8 +16,9 @@ pub fn obey_action(
     literals: &mut [u8; 128],
     alive: u64,
 ) -> Going
-    requires { (length c.old ≡ 256) × (length found.old ≡ 256) × (length literals.old ≡ 128) }
-    ensures { ObeysAction problem.now at c.old alive c.new result × (length found.new ≡ 256) × (length literals.new ≡ 128) }
+    ensures obeys { ObeysAction problem.now at c.old alive c.new result }
+    ensures found_size { length found.new ≡ 256 }
+    ensures literals_size { length literals.new ≡ 128 }
 {
     let r = formula_planes(problem, at, c);
     let met = alive & r.sure;
