@@ -1,9 +1,9 @@
 // A plan's run in 64 cases at once: the run to the goal, and one look at a table of cases.
-ghost use Rattle.std.specs.Prelude.{◌≡◌, length};
+#![tactic(auto)]
+
 ghost use Rattle.look.specs.Cases.{RunsCases, LooksAtCases};
 
 use evaluate::formula_planes;
-use numbers::wide;
 use step::obey_action;
 use table::ONES;
 
@@ -16,7 +16,6 @@ fn run_cases(
     lanes: u64,
     c: &[u64; 256],
 ) -> u64
-    requires { length c.now ≡ 256 }
     ensures { RunsCases problem.now steps.now actions.now goal lanes c.now result }
 {
     if steps.len() == 0 {
@@ -27,9 +26,8 @@ fn run_cases(
     let mut found = [0u64; 256];
     let mut literals = [0u8; 128];
     let mut alive = lanes;
-    let mut i: usize = 0;
-    while i < steps.len() {
-        let slot = wide(steps[i] % 64);
+    for s in steps {
+        let slot = (*s % 64) as usize;
         let going = obey_action(
             problem,
             actions[slot],
@@ -42,14 +40,13 @@ fn run_cases(
         if alive == 0 {
             return 0;
         }
-        i = i + 1;
     }
     let r = formula_planes(problem, goal, &current);
     alive & r.sure
 }
 
 // What a visit finds of 64 cases: those that are empty, and those that carry; the others are open.
-#[derive(Drop)]
+#[derive(Clone, Copy)]
 pub struct Looks {
     pub empty: u64,
     pub carries: u64,
@@ -63,7 +60,6 @@ pub fn look_at_cases(
     goal: usize,
     c: &[u64; 256],
 ) -> Looks
-    requires { length c.now ≡ 256 }
     ensures { LooksAtCases problem.now steps.now actions.now initial goal c.now result }
 {
     let r = formula_planes(problem, initial, c);
