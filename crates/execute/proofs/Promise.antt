@@ -10,23 +10,23 @@ use Rattle.model.specs.Answer as Answer
 use Rattle.model.specs.Answer.{Answer, refused, answered}
 use Rattle.model.specs.Run.{Outcome}
 use Rattle.model.specs.Case.{Task}
-use Rattle.model.specs.Operations.{readTask, runState}
-use Rattle.model.proofs.Laws.Tasks.{state-tested, run-answers, run-no-state}
+use Rattle.model.specs.Operations.{read_task, run_state}
+use Rattle.model.proofs.Laws.Tasks.{state-tested, run-answers, run_no_state}
 use Rattle.model.proofs.Demands.{version1-holds}
 use Rattle.execute.specs.Promise.{RunPromised}
 
 module _ (problem plan : List ℕ) (s : ℕ) where
-  refused-run : (n q : ℕ) → readTask version1 problem plan ≡ refused n q → runState version1 problem plan s ≡ refused n q
-  unfolding runState Answer.◌>>=◌
+  refused-run : (n q : ℕ) → read_task version1 problem plan ≡ refused n q → run_state version1 problem plan s ≡ refused n q
+  unfolding run_state Answer.◌>>=◌
   refused-run n q h = rw h
 
-  promised-for : (x : Answer Task) → readTask version1 problem plan ≡ x → (r : Answer Outcome) → r ≡ runState version1 problem plan s → RunPromised problem plan s r
+  promised-for : (x : Answer Task) → read_task version1 problem plan ≡ x → (r : Answer Outcome) → r ≡ run_state version1 problem plan s → RunPromised problem plan s r
   promised-for (refused m p) h (refused n q) e = let k = refused-run m p h in inl (h ∙ cc)
   promised-for (refused m p) h (answered o) e = let k = refused-run m p h in let z : ◌≡◌ {A = ℕ} 0 1 = cc in absurd (omega arith)
   promised-for (answered T) h (refused n q) e =
       elim (state-tested T s) [
         | inl y ↦ let k = run-answers version1 problem plan T h s y.0 in let z : ◌≡◌ {A = ℕ} 0 1 = cc in absurd (omega arith)
-        | inr y ↦ let k = run-no-state version1 problem plan T h s y.0 in inr (T, h, y.0, cc, cc)
+        | inr y ↦ let k = run_no_state version1 problem plan T h s y.0 in inr (T, h, y.0, cc, cc)
       ]
   promised-for (answered T) h (answered r) e =
       elim (state-tested T s) [
@@ -35,11 +35,11 @@ module _ (problem plan : List ℕ) (s : ℕ) where
           h,
           y.0,
           λ o.
-              let m = (version1-holds.demand2 problem plan T h).run-says s y.0 o in
+              let m = (version1-holds.demand2 problem plan T h).run_says s y.0 o in
               ((λ l. m.0 (sym e ∙ ap answered l)), λ l. let k = m.1 l in cc),
         )
-        | inr y ↦ let k = run-no-state version1 problem plan T h s y.0 in let z : ◌≡◌ {A = ℕ} 0 1 = cc in absurd (omega arith)
+        | inr y ↦ let k = run_no_state version1 problem plan T h s y.0 in let z : ◌≡◌ {A = ℕ} 0 1 = cc in absurd (omega arith)
       ]
 
-  pub run-promised : (r : Answer Outcome) → r ≡ runState version1 problem plan s → RunPromised problem plan s r
-  run-promised r e = promised-for (readTask version1 problem plan) refl r e
+  pub run-promised : (r : Answer Outcome) → r ≡ run_state version1 problem plan s → RunPromised problem plan s r
+  run-promised r e = promised-for (read_task version1 problem plan) refl r e

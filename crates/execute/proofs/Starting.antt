@@ -1,6 +1,6 @@
 -- A state's table from its number, the answers of `run` by it, and the run of one state, which goes on as lane 0 does. Assumes nothing.
 use mathlib.Core.Path.{◌≡◌, sym, ap, ap₂, ◌∙◌, subst, refl}
-use mathlib.Core.Bool.{true, false, ◌&&◌, false≢true, Bool}
+use mathlib.Core.Bool.{true, false, ◌&&◌, Bool}
 use mathlib.Core.List.{List}
 use Prim.Native.Nat.{ℕ, ◌-◌, ◌%◌, ◌^◌, ◌≤◌, ◌<◌, suc, ◌+◌, min}
 use native.Mathlib.Nat.{mod-lt, mod-eq_of_lt}
@@ -9,38 +9,36 @@ use native.Mathlib.Decide.{dec_lt}
 use lib.ListN.{length, get_or, take, drop, replicate, length-replicate, get_or-eq_default}
 use lib.Dec.{eqb, ltb}
 use lib.Pow.{pow_pos}
-use borrow.Author.Tests.{lt-ltb, le-ltb}
+use borrow.Author.Tests.{lt-ltb, le-ltb, eq-eqb, ne_eqb}
 use Rattle.model.specs.declared.Limits.{Limits}
 use Rattle.model.specs.declared.Problem.{Problem}
-use Rattle.model.specs.declared.RunAnswer.{RunAnswer}
-use Rattle.model.specs.declared.RunAnswer.TheVariants.{Refused, Ended}
-use Rattle.model.specs.Limits.{version1, maxFacts}
+use Rattle.std.specs.Prelude.{Result, Ok, Err}
+use Rattle.model.specs.declared.Refusal.{Refusal}
+use Rattle.model.specs.Limits.{version1, max_facts}
 use Rattle.model.specs.Kleene.{Kleene, No, Unknown, three}
 use Rattle.model.specs.Answer as Answer
 use Rattle.model.specs.Answer.{answered}
 use Rattle.model.specs.Case.{flag, case_of, Task, run_of}
-use Rattle.model.specs.Operations.{isState, runState}
-use Rattle.model.specs.Read.{headBytes}
+use Rattle.model.specs.Operations.{is_state_number, read_task, run_state}
+use Rattle.model.specs.Read.{head_bytes}
 use Rattle.model.specs.WellFormed.{Sensible}
-use Rattle.model.specs.Answers.{refusal, runAnswer, part, outcome}
+use Rattle.model.specs.Answers.{refusal, run_answer, part, outcome}
 use Rattle.model.specs.declared.Part.{Part}
 use Rattle.model.specs.declared.Outcome.{Outcome}
 use Rattle.model.specs.Planes.{Table}
 use Rattle.model.proofs.Laws.Splitting.{length-case, case-known, case-past}
 use Rattle.model.proofs.Laws.Verdicts.{run-full}
 use Rattle.blocks.specs.declared.plan.Task as blocks
-use Rattle.blocks.specs.Parts.{FindsTask}
 use Rattle.blocks.specs.Standing.{TaskIn, StandsFound}
 use Rattle.table.specs.Tables.{Outside, SetsFacts, NoneFixed, Sized}
 use Rattle.table.specs.Cases.{raised, bits_of}
 use Rattle.table.proofs.Cases.{raised-case}
-use Rattle.execute.specs.declared.start.StateTable.{StateTable}
-use Rattle.execute.specs.Start.{HoldsState, RunsTask, RunsState}
+use Rattle.execute.specs.Start.{numbers_state, IsHeld, RunsTask, RunsState}
 use Rattle.blocks.proofs.Standing.{found_in}
 use native.Mathlib.Numerals.{add-one}
 use Rattle.model.specs.Action.{applicable}
-use Rattle.model.specs.Run.{reached, missed, blocked, atEnd, goesOn}
-use Rattle.model.specs.ProblemBytes.{actionAt}
+use Rattle.model.specs.Run.{reached, missed, blocked, at_end, goes_on}
+use Rattle.model.specs.ProblemBytes.{action_at}
 use Rattle.model.specs.Stands.{TaskStands}
 use Rattle.model.proofs.Laws.Planes.{low_bit}
 use Rattle.evaluate.specs.declared.Planes.{Planes}
@@ -67,64 +65,66 @@ all-fixed s n c d none x =
         sym (get_or-eq_default (replicate n Unknown) No (omega (arith, length-replicate {A = Kleene} n Unknown)))
 
 module _ (F : Limits) (S : Sensible F) (s n w low : ℕ) (e : w ≡ F.width) (l : low ≡ s % 2 ^ w) where
-  pub state-large : (c : List ℕ) → (low ≡ s → ⊥) → HoldsState F s n (record { valid = false; table = c })
-  state-large c h =
+  pub state-large : (low ≡ s → ⊥) → numbers_state F s n ≡ false
+  state-large h =
       let b : 2 ^ w ≤ s = elim (dec_lt s (2 ^ w)) [ yes y ↦ absurd (h (l ∙ mod-eq_of_lt y)) | no y ↦ omega arith ] in
-      record { is = rw (← e, le-ltb s (2 ^ w) b); table = λ i. absurd (false≢true i) }
+      rw (← e, le-ltb s (2 ^ w) b)
 
-  pub state-small : low ≡ s → s < 2 ^ w
-  state-small h = omega (arith, mod-lt s (pow_pos w))
+  module _ (h : low ≡ s) (rest : ℕ) (i : rest ≡ s % 2 ^ (w - n)) where
+    pub state-small : s < 2 ^ w
+    state-small = omega (arith, mod-lt s (pow_pos w))
 
-  pub state-fixed :
-      (c d : List ℕ) (rest word : ℕ) → n ≤ F.facts → low ≡ s → word ≡ raised w s → NoneFixed n c → SetsFacts c 0 n (bits_of word) d →
-      rest ≡ s % 2 ^ (w - n) → HoldsState F s n (record { valid = eqb rest 0; table = d })
-  state-fixed c d rest word few h r none x i =
-      record {
-        is = rw (← e, lt-ltb s (2 ^ w) (state-small h)) (ap (λ (y : ℕ). eqb y 0) i);
-        table =
-            λ v.
-            subst (λ (y : List Kleene). Table d (λ j. y))
-            (ap (case_of 64 n n) r ∙ raised-case w (omega (arith, S.word)) n n s (omega (arith, S.width)) ∙ ap (λ (y : ℕ). case_of y n n s) e)
-            (all-fixed word n c d none x);
-      }
+    pub state-past : (rest ≡ 0 → ⊥) → numbers_state F s n ≡ false
+    state-past z = rw (← e, lt-ltb s (2 ^ w) state-small, ← i, ne_eqb rest 0 z)
+
+    pub state-fixed :
+        (c d : List ℕ) (word : ℕ) → n ≤ F.facts → rest ≡ 0 → word ≡ raised w s → NoneFixed n c → SetsFacts c 0 n (bits_of word) d →
+        IsHeld F s n d
+    state-fixed c d word few z r none x =
+        record {
+          is = rw (← e, lt-ltb s (2 ^ w) state-small, ← i, eq-eqb rest 0 z);
+          table =
+              subst (λ (y : List Kleene). Table d (λ j. y))
+              (ap (case_of 64 n n) r ∙ raised-case w (omega (arith, S.word)) n n s (omega (arith, S.width)) ∙ ap (λ (y : ℕ). case_of y n n s) e)
+              (all-fixed word n c d none x);
+        }
 
 -- ---- the answers
 
-module _ (F : Limits) (problem steps : List ℕ) (parts : Problem) (s n : ℕ) (e : n ≡ parts.facts) (d : StateTable) (D : HoldsState F s n d) where
-  state-is : (T : Task) → TaskIn F problem steps parts T → d.valid ≡ isState T s
-  unfolding isState
-  state-is T p = D.is ∙ ap₂ (λ (w m : ℕ). ltb s (2 ^ w) && eqb (s % 2 ^ (w - m)) 0) (sym p.width) (e ∙ p.facts)
+module _ (F : Limits) (problem steps : List ℕ) (parts : Problem) (s : ℕ) where
+  pub state-tested-is : (T : Task) → TaskIn F problem steps parts T → numbers_state F s parts.facts ≡ is_state_number T s
+  unfolding is_state_number
+  state-tested-is T p = ap₂ (λ (w m : ℕ). ltb s (2 ^ w) && eqb (s % 2 ^ (w - m)) 0) (sym p.width) p.facts
 
-  pub runs-no-state : d.valid ≡ false → RunsTask F problem steps parts s (Refused (record { place = 0; number = 40 }))
-  runs-no-state h = record { is = λ T p. rw (sym (state-is T p) ∙ h) }
+  pub runs-no-state : numbers_state F s parts.facts ≡ false → RunsTask F problem steps parts s (Err (record { place = 0; number = 40 }))
+  runs-no-state h = record { is = λ T p. rw (sym (state-tested-is T p) ∙ h) }
 
   pub runs-state :
-      d.valid ≡ true → (u : Outcome) → RunsState problem steps parts.action parts.goal d.table u → RunsTask F problem steps parts s (Ended u)
+      (c : List ℕ) → IsHeld F s parts.facts c → (u : Outcome) → RunsState problem steps parts.action parts.goal c u →
+      RunsTask F problem steps parts s (Ok u)
   unfolding run_of
-  runs-state h u R =
+  runs-state c D u R =
       record {
         is =
             λ T p.
-            let t : Table d.table (λ j. case_of T.width T.facts T.facts s) =
-            rw (p.width, ← p.facts, ← e) (D.table h)
-            in
-            rw (sym (state-is T p) ∙ h)
+            let t : Table c (λ j. case_of T.width T.facts T.facts s) = rw (p.width, ← p.facts) D.table in
+            rw (sym (state-tested-is T p) ∙ D.is)
             (ap answered
             (R.is parts.initial T p.stands (λ j. case_of T.width T.facts T.facts s) (λ j l. length-case T.width T.facts T.facts s) t ∙
             run-full T.width T.facts T.goal T.plan s));
       }
 
 pub run-refused :
-    (problem plan : List ℕ) (r : blocks.Task) → FindsTask version1 problem plan r → r.refused ≡ true → (s : ℕ) →
-    refusal r.refusal ≡ runState version1 problem plan s
-unfolding runState Answer.◌>>=◌
-run-refused problem plan r f h s = rw (f.refusal h)
+    (problem plan : List ℕ) {y : Refusal} → read_task version1 problem plan ≡ refusal y → (s : ℕ) →
+    refusal y ≡ run_state version1 problem plan s
+unfolding run_state Answer.◌>>=◌
+run-refused problem plan e s = rw e
 
 module _ (problem plan : List ℕ) (r : blocks.Task) (o : StandsFound version1 problem plan r) where
   pub run-found :
-      (s : ℕ) (steps : List ℕ) → steps ≡ take (length plan - headBytes) (drop headBytes plan) → (a : RunAnswer) →
-      RunsTask r.limits problem steps r.problem s a → runAnswer a ≡ runState version1 problem plan s
-  unfolding runState Answer.◌>>=◌
+      (s : ℕ) (steps : List ℕ) → steps ≡ take (length plan - head_bytes) (drop head_bytes plan) → (a : Result Outcome Refusal) →
+      RunsTask r.limits problem steps r.problem s a → run_answer a ≡ run_state version1 problem plan s
+  unfolding run_state Answer.◌>>=◌
   run-found s steps own a R = R.is o.task (found_in version1 problem plan r o steps own) ∙ rw o.read
 
 -- ---- the run of one state
@@ -146,11 +146,11 @@ module _ (problem steps actions : List ℕ) (goal : ℕ) (c : List ℕ) (i : ℕ
     stated :
         (initial : ℕ) (T : Task) → TaskStands problem steps actions initial goal T → (case : ℕ → List Kleene) → Sized T.facts case → Table c case →
         (now' : ℕ → List Kleene) × Table d now' × (b : Bool) × (going.lanes ≡ flag b) × ((going.lanes ≡ 0 → ⊥) → Table d' (λ j. after T i (now' j))) ×
-        (run_from T 0 (case 0) ≡ goesOn b (run_from T (suc i) (after T i (now' 0))) (stop_at T i (now' 0)))
+        (run_from T 0 (case 0) ≡ goes_on b (run_from T (suc i) (after T i (now' 0))) (stop_at T i (now' 0)))
     stated initial T S case z t =
         let (now', y, u, e) = R.is initial T S case z t in
         let (bits, later, turn) = turned problem steps actions goal i more slot named 1 going d d' O initial T S now' y u in
-        let b = applicable three T.facts (actionAt T.plan i) (now' 0) in
+        let b = applicable three T.facts (action_at T.plan i) (now' 0) in
         let f : going.lanes % 2 ≡ flag b = sym (low_bit going.lanes) ∙ bits 0 (omega arith) ∙ rw (low_bit 1) (at_most b) in
         (now', u, b, omega (arith, O.among), later, e ∙ turn (now' 0))
       where
@@ -161,20 +161,20 @@ module _ (problem steps actions : List ℕ) (goal : ℕ) (c : List ℕ) (i : ℕ
     pub stating-blocked :
         going.lanes ≡ 0 → (p : Part) → UnmetPart problem d' (get_or actions slot 0) going.fact p → (r : Outcome) → outcome r ≡ blocked (record { step = i; part = part p }) →
         RunsState problem steps actions goal c r
-    unfolding goesOn
+    unfolding goes_on
     stating-blocked h p U r o =
         record {
           is =
               λ initial T S case z t.
               let (now', u, b, f, later, e) = stated initial T S case z t in
               let (q, at) = acting-at problem steps actions goal i more slot named initial T S in
-              let m : T.facts ≤ maxFacts = omega (arith, S.most) in
+              let m : T.facts ≤ max_facts = omega (arith, S.most) in
               let k = U.is T.facts _ q m at now' (subst (λ (x : List ℕ). Table x now') (sym (O.kept h)) u) (O.lowest T.facts _ q m at now' u refl h) in
               o ∙ ap (λ x. blocked (record { step = i; part = x })) k ∙ sym (e ∙ rw (flag-false b (sym f ∙ h)));
         }
 
     pub stating-next : (going.lanes ≡ 0 → ⊥) → Stating problem steps actions goal c (i + 1) d'
-    unfolding goesOn
+    unfolding goes_on
     stating-next n =
         record {
           size = O.size;
@@ -187,7 +187,7 @@ module _ (problem steps actions : List ℕ) (goal : ℕ) (c : List ℕ) (i : ℕ
 
   -- the goal decides
   module _ (h : length steps ≤ i) (r : Planes) (x : FormulaPlanes problem d goal r) (o : Outcome) where
-    decides : ((b : Bool) → r.sure % 2 ≡ flag b → outcome o ≡ atEnd b) → RunsState problem steps actions goal c o
+    decides : ((b : Bool) → r.sure % 2 ≡ flag b → outcome o ≡ at_end b) → RunsState problem steps actions goal c o
     decides tells =
         record {
           is =

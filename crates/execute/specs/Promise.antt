@@ -4,14 +4,14 @@ use Rattle.model.specs.Limits.{version1}
 use Rattle.model.specs.Answer.{Answer, refused, answered}
 use Rattle.model.specs.Run.{Outcome}
 use Rattle.model.specs.Case.{Task, IsState}
-use Rattle.model.specs.Operations.{readTask}
+use Rattle.model.specs.Operations.{read_task}
 use Rattle.model.specs.Demands.{OutcomeSays}
 
 -- A refusal is the reader's, or 40 for what is no state. Otherwise the problem and the plan are read as some T, s is a state of it, and the
 -- outcome is each one exactly if section 3 of document 004 says so of the belief that holds s alone.
 abbrev pub RunPromised : List ℕ → List ℕ → ℕ → Answer Outcome → Type 0
 RunPromised problem plan s (refused n q) =
-    (readTask version1 problem plan ≡ refused n q) ⊎
-    ((T : Task) × (readTask version1 problem plan ≡ answered T) × (IsState T s → ⊥) × (n ≡ 40) × (q ≡ 0))
+    (read_task version1 problem plan ≡ refused n q) ⊎
+    ((T : Task) × (read_task version1 problem plan ≡ answered T) × (IsState T s → ⊥) × (n ≡ 40) × (q ≡ 0))
 RunPromised problem plan s (answered r) =
-    (T : Task) × (readTask version1 problem plan ≡ answered T) × IsState T s × ((o : Outcome) → (r ≡ o) ↔ OutcomeSays T s o)
+    (T : Task) × (read_task version1 problem plan ≡ answered T) × IsState T s × ((o : Outcome) → (r ≡ o) ↔ OutcomeSays T s o)

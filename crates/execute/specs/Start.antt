@@ -1,11 +1,11 @@
 -- What reading a state's number gives, and how the run of that state is answered.
-use Rattle.std.specs.Prelude.{◌≡◌, true, ◌&&◌, List, ℕ, ◌-◌, ◌%◌, ◌^◌, eqb, ltb}
+use Rattle.std.specs.Prelude.{◌≡◌, Bool, true, false, ◌&&◌, List, ℕ, ◌-◌, ◌%◌, ◌^◌, eqb, ltb, Option, Some, None, Result}
 use Rattle.model.specs.declared.Limits.{Limits}
 use Rattle.model.specs.declared.Problem.{Problem}
-use Rattle.model.specs.declared.RunAnswer.{RunAnswer}
+use Rattle.model.specs.declared.Refusal.{Refusal}
 use Rattle.model.specs.Case.{case_of, Task}
-use Rattle.model.specs.Operations.{stateAnswer}
-use Rattle.model.specs.Answers.{outcome, runAnswer}
+use Rattle.model.specs.Operations.{state_answer}
+use Rattle.model.specs.Answers.{outcome, run_answer}
 use Rattle.model.specs.Kleene.{Kleene, three}
 use Rattle.model.specs.Run.{run}
 use Rattle.model.specs.declared.Outcome.{Outcome}
@@ -13,12 +13,19 @@ use Rattle.model.specs.Planes.{Table}
 use Rattle.model.specs.Stands.{TaskStands}
 use Rattle.table.specs.Tables.{Sized}
 use Rattle.blocks.specs.Standing.{TaskIn}
-use Rattle.execute.specs.declared.start.StateTable.{StateTable}
 
--- whether s is the number of a state over n facts; if so, every lane has that state, with every fact fixed
-pub record HoldsState (F : Limits) (s n : ℕ) (r : StateTable) : Type 0 where
-  pub is : r.valid ≡ (ltb s (2 ^ F.width) && eqb (s % 2 ^ (F.width - n)) 0)
-  pub table : r.valid ≡ true → Table r.table (λ j. case_of F.width n n s)
+-- whether s is the number of a state over n facts
+abbrev pub numbers_state : Limits → ℕ → ℕ → Bool
+numbers_state F s n = ltb s (2 ^ F.width) && eqb (s % 2 ^ (F.width - n)) 0
+
+-- that state in every lane, with every fact fixed
+pub record IsHeld (F : Limits) (s n : ℕ) (c : List ℕ) : Type 0 where
+  pub is : numbers_state F s n ≡ true
+  pub table : Table c (λ j. case_of F.width n n s)
+
+abbrev pub HoldsState : Limits → ℕ → ℕ → Option (List ℕ) → Type 0
+HoldsState F s n None = numbers_state F s n ≡ false
+HoldsState F s n (Some c) = IsHeld F s n c
 
 -- how the run of the case in lane 0 ends
 pub record RunsState (problem steps actions : List ℕ) (goal : ℕ) (c : List ℕ) (r : Outcome) : Type 0 where
@@ -26,6 +33,6 @@ pub record RunsState (problem steps actions : List ℕ) (goal : ℕ) (c : List �
       (initial : ℕ) (T : Task) → TaskStands problem steps actions initial goal T → (case : ℕ → List Kleene) → Sized T.facts case → Table c case →
       outcome r ≡ run three T.facts T.goal T.plan 0 (case 0)
 
--- as `runState` answers of every task that stands in the blocks
-pub record RunsTask (F : Limits) (problem steps : List ℕ) (parts : Problem) (s : ℕ) (r : RunAnswer) : Type 0 where
-  pub is : (T : Task) → TaskIn F problem steps parts T → runAnswer r ≡ stateAnswer T s
+-- as `run_state` answers of every task that stands in the blocks
+pub record RunsTask (F : Limits) (problem steps : List ℕ) (parts : Problem) (s : ℕ) (r : Result Outcome Refusal) : Type 0 where
+  pub is : (T : Task) → TaskIn F problem steps parts T → run_answer r ≡ state_answer T s

@@ -1,41 +1,32 @@
 // One state: its table, from its number, and how its run ends.
-ghost use Rattle.std.specs.Prelude.{◌≡◌, ◌≤◌, length};
+ghost use Rattle.std.specs.Prelude.{◌≡◌, ◌≤◌};
 ghost use Rattle.model.specs.WellFormed.{Sensible};
 ghost use Rattle.execute.specs.Start.{HoldsState, RunsState, RunsTask};
 
-use crate::wide;
 use evaluate::formula_planes;
-use model::{Limits, Outcome, Problem, Refusal, RunAnswer, Stop};
+use model::{Limits, Outcome, Problem, Refusal, Stop};
 use numbers::low_bits;
 use step::obey_action;
 use table::{fix_bits, none_fixed, word_of};
 use unmet::unmet_part;
 
-// A number that was read as a state: whether it is one, and the state in every lane.
-#[derive(Drop)]
-pub struct StateTable {
-    pub valid: bool,
-    pub table: [u64; 256],
-}
-
-// The state numbered `state`, over so many facts: no bit past them may be set.
-pub fn state_table(limits: Limits, state: u64, facts: usize) -> StateTable
-    requires { Sensible limits × (facts ≤ limits.facts) }
+// The state numbered `state`, over so many facts, in every lane; none where the number has a bit past them.
+pub fn state_table(limits: Limits, state: u64, facts: usize) -> Option<[u64; 256]>
+    requires sensible { Sensible limits }
+    requires few { facts ≤ limits.facts }
     ensures { HoldsState limits state facts result }
 {
-    let mut table = none_fixed(facts);
-    let width = wide(limits.width);
+    let width = limits.width as usize;
     if low_bits(state, width) != state {
-        return StateTable {
-            valid: false,
-            table,
-        };
+        return None;
     }
+    let past = low_bits(state, width - facts) != 0;
+    if past {
+        return None;
+    }
+    let mut table = none_fixed(facts);
     fix_bits(&mut table, 0, facts, word_of(width, state));
-    StateTable {
-        valid: low_bits(state, width - facts) == 0,
-        table,
-    }
+    Some(table)
 }
 
 // How the run of the state in lane 0 ends.
@@ -46,15 +37,13 @@ fn run_state(
     goal: usize,
     c: &[u64; 256],
 ) -> Outcome
-    requires { length c.now ≡ 256 }
     ensures { RunsState problem.now steps.now actions.now goal c.now result }
 {
     let mut current = *c;
     let mut found = [0u64; 256];
     let mut literals = [0u8; 128];
-    let mut i: usize = 0;
-    while i < steps.len() {
-        let slot = crate::wide(steps[i] % 64);
+    for i in 0..steps.len() {
+        let slot = steps[i] as usize % 64;
         // lane 0 alone is asked: where it stops no lane goes on, and the table has the values before the step
         let going = obey_action(
             problem,
@@ -68,7 +57,6 @@ fn run_state(
             let part = unmet_part(problem, actions[slot], &current, going.fact);
             return Outcome::Blocked(Stop { step: i, part });
         }
-        i = i + 1;
     }
     let r = formula_planes(problem, goal, &current);
     if r.sure % 2 == 0 {
@@ -84,18 +72,17 @@ pub fn run_task(
     parts: Problem,
     limits: Limits,
     state: u64,
-) -> RunAnswer
-    requires { Sensible limits × (parts.facts ≤ limits.facts) }
+) -> Result<Outcome, Refusal>
+    requires sensible { Sensible limits }
+    requires few { parts.facts ≤ limits.facts }
     ensures { RunsTask limits problem.now steps.now parts state result }
 {
-    let start = state_table(limits, state, wide(parts.facts));
-    if !start.valid {
-        return RunAnswer::Refused(Refusal {
+    let Some(table) = state_table(limits, state, parts.facts as usize) else {
+        return Err(Refusal {
             number: 40,
             place: 0,
         });
-    }
+    };
     let actions = parts.action;
-    let table = start.table;
-    RunAnswer::Ended(run_state(problem, steps, &actions, parts.goal, &table))
+    Ok(run_state(problem, steps, &actions, parts.goal, &table))
 }
