@@ -8,9 +8,9 @@ use lib.ListN.{length, get_or, length-map, get_or-map}
 use lib.Seq.{ext_get_or}
 use Rattle.model.specs.Kleene.{No, both, denied, is_yes, known, two, three}
 use Rattle.model.specs.Formula.{fact, denial, eval}
-use Rattle.model.specs.Action.{Action, conditionOf, every, sets, clears, exclusive, applicable, step}
+use Rattle.model.specs.Action.{Action, condition_of, every, sets, clears, exclusive, applicable, step}
 use Rattle.model.specs.Relevance.{states}
-use Rattle.model.specs.ProblemBytes.{actionAt}
+use Rattle.model.specs.ProblemBytes.{action_at}
 use Rattle.model.proofs.Laws.Agreement.{step_keeps, Exact, exact, yes-exact, known-along, read_known}
 use Rattle.model.proofs.Laws.Relevance.{step-length}
 use Rattle.model.proofs.Laws.Tabulate.{length-tabulate}
@@ -20,7 +20,7 @@ use Rattle.model.proofs.Laws.Tabulate.{length-tabulate}
 module _ (st : List Bool) where
   exclusive-same : (a : Action) (f : ℕ) → exclusive three a (map known st) f ≡ exclusive two a st f
   unfolding exclusive
-  exclusive-same a f = rw (read_known st (conditionOf (fact f) a.effects), read_known st (conditionOf (denial f) a.effects)) (by_values (sets two a st f) (clears two a st f))
+  exclusive-same a f = rw (read_known st (condition_of (fact f) a.effects), read_known st (condition_of (denial f) a.effects)) (by_values (sets two a st f) (clears two a st f))
     where
       by_values : (x y : Bool) → is_yes (denied (both (known x) (known y))) ≡ not (x && y)
       by_values true true = refl
@@ -58,8 +58,8 @@ module _ (n : ℕ) where
   -- and is what the step before it makes of the one before
   pub state-next :
       (plan : List Action) (c : List Bool) (i : ℕ) → i < length plan →
-      get_or (states n plan c) (suc i) [] ≡ step two n (actionAt plan i) (get_or (states n plan c) i [])
-  unfolding states actionAt
+      get_or (states n plan c) (suc i) [] ≡ step two n (action_at plan i) (get_or (states n plan c) i [])
+  unfolding states action_at
   state-next [] c i l = absurd (omega arith)
   state-next (a ∷ []) c zero l = refl
   state-next (a ∷ b ∷ plan) c zero l = refl

@@ -10,23 +10,22 @@ use native.Mathlib.Decide.{ℕ_discrete}
 use lib.ListN.{length, get_or, set, length-set, get_or-map}
 use lib.Seq.{get_or-set_same, get_or-set_other, ext_get_or}
 use lib.Dec.{eqb}
-use Rattle.model.specs.Limits.{maxFacts}
+use Rattle.model.specs.Limits.{max_facts}
 use Rattle.model.specs.Kleene.{known, two}
 use Rattle.model.specs.Formula.{Literal, fact, denial, any, none, eval}
 use Rattle.model.specs.Action.{Effect, Action, next, step}
 use Rattle.model.specs.Case.{flag}
-use Rattle.model.specs.Relevance.{fact_of, hasEntry}
-use Rattle.model.specs.FormulaBytes.{literalByte}
+use Rattle.model.specs.Relevance.{fact_of, has_entry}
+use Rattle.model.specs.FormulaBytes.{literal_byte}
 use Rattle.model.specs.WellFormed.{Declared}
 use Rattle.model.specs.Planes.{InLanes, Table}
-use Rattle.model.proofs.Laws.Reading.{first}
 use Rattle.model.proofs.Laws.Relevance.{without-entry}
 use Rattle.model.proofs.Laws.Tabulate.{get_d_tabulate}
 use Rattle.effects.specs.Effects.{entry_at}
 use Rattle.effects.proofs.Entries.{entry-stands}
 use Rattle.table.specs.Tables.{SetsFact}
 use Rattle.names.specs.Names.{AfterFormula}
-use Rattle.matters.proofs.Passing.{Met, met-begins, met_next}
+use Rattle.matters.proofs.Passing.{Met, met_next}
 use Rattle.matters.proofs.Entries.{no-entry}
 use Rattle.trace.specs.Rows.{RowAt, AgreeElsewhere, UndoesEntries}
 
@@ -48,7 +47,7 @@ step-elsewhere n a st g l s c =
 
 -- ---- the entries one by one
 
-byte-fact : (facts : ℕ) (m : Literal) → facts ≤ maxFacts → Declared facts m → (literalByte m % 64 ≡ fact_of m) × (fact_of m < facts)
+byte-fact : (facts : ℕ) (m : Literal) → facts ≤ max_facts → Declared facts m → (literal_byte m % 64 ≡ fact_of m) × (fact_of m < facts)
 byte-fact facts (fact f) h d = (omega arith, d)
 byte-fact facts (denial f) h d = (omega arith, d)
 
@@ -63,7 +62,7 @@ pub record Undone (facts : ℕ) (es : List Effect) (e : ℕ) (st st' : List Bool
 
 -- one more
 undone-next :
-    (facts : ℕ) (es : List Effect) (e : ℕ) (st st' : List Bool) (c d : List ℕ) (f b value : ℕ) → facts ≤ maxFacts → f < facts → f ≡ fact_of (entry_at es e).literal →
+    (facts : ℕ) (es : List Effect) (e : ℕ) (st st' : List Bool) (c d : List ℕ) (f b value : ℕ) → facts ≤ max_facts → f < facts → f ≡ fact_of (entry_at es e).literal →
     InLanes value value (λ j. known (eqb b 1)) → b ≡ flag (get_or st f false) → SetsFact c f value value d → Undone facts es e st st' c → Undone facts es (e + 1) st st' d
 undone-next facts es e st st' c d f b value few l is lanes row x u =
     let v = get_or st f false in
@@ -97,16 +96,7 @@ module _ (s : List ℕ) (at : ℕ) (c₀ : List ℕ) (facts : ℕ) (work : List 
     pub size : length c ≡ 256
     pub met : Met s at n e p (Has c e)
 
-  pub undoing_begins : length c₀ ≡ 256 → n ≡ get_or s at 0 → Undoing 0 (at + 1) c₀
-  undoing_begins w i =
-      record {
-        size = w;
-        met =
-            met-begins s at n i (Has c₀ 0)
-            (λ facts' es e st st' z z' r t. record { now' = st'; size = z'; shown = t; either = λ g l. inr (refl, λ i k. absurd (omega arith)) });
-      }
-
-  module _ (few : facts ≤ maxFacts) (e p : ℕ) (c : List ℕ) (U : Undoing e p c) where
+  module _ (few : facts ≤ max_facts) (e p : ℕ) (c : List ℕ) (U : Undoing e p c) where
     pub undoing-next :
         e < n → (f b value : ℕ) → f ≡ get_or s p 0 % 64 → f < facts → b ≡ get_or work (row + f) 0 → InLanes value value (λ j. known (eqb b 1)) →
         (d : List ℕ) → SetsFact c f value value d → (next' : ℕ) → AfterFormula s (p + 1) next' → Undoing (e + 1) next' d
@@ -151,13 +141,9 @@ module _ (s : List ℕ) (at : ℕ) (c₀ : List ℕ) (facts : ℕ) (work : List 
               elim (u.either g m) [
                 | inl y ↦ y
                 | inr y ↦
-                    let none' : (m' : Literal) → fact_of m' ≡ g → hasEntry m' es ≡ false = λ m' o. no-entry m' es (λ j w x. y.1 j (omega (arith, U.met.few)) (ap fact_of x ∙ o)) in
+                    let none' : (m' : Literal) → fact_of m' ≡ g → has_entry m' es ≡ false = λ m' o. no-entry m' es (λ j w x. y.1 j (omega (arith, U.met.few)) (ap fact_of x ∙ o)) in
                     y.0 ∙ a g m (none' (fact g) refl) (none' (denial g) refl)
               ])
               in
               subst (λ (y : List Bool). Table c (λ j. map known y)) same u.shown;
         }
-
--- the block ends before the count
-pub undoing-nothing : (s : List ℕ) (at : ℕ) (c : List ℕ) (facts : ℕ) (work : List ℕ) (row : ℕ) → length c ≡ 256 → length s ≤ at → UndoesEntries s at c facts work row c
-undoing-nothing s at c facts work row w h = record { size = w; is = λ es q ok v st st' z z' r a t. absurd (omega (arith, (first v).0)) }

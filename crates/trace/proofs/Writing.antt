@@ -8,14 +8,14 @@ use native.Mathlib.Numerals.{add-one}
 use native.Mathlib.Omega.{arith}
 use lib.ListN.{length, get_or, set, drop, length-map, length-append, get_or-map, get_or-append, drop_of_length-le}
 use lib.Seq.{sets, sets-eq, length-sets, ext_get_or, get_or-append-add}
-use Rattle.model.specs.Limits.{maxFacts}
+use Rattle.model.specs.Limits.{max_facts}
 use Rattle.model.specs.Kleene.{Kleene, known, two}
 use Rattle.model.specs.Action.{Action, tabulate, step}
 use Rattle.model.specs.Run.{reached, run}
 use Rattle.model.specs.Case.{flag, Task}
 use Rattle.model.specs.Relevance.{states, rows}
-use Rattle.model.specs.ProblemBytes.{actionAt}
-use Rattle.model.specs.Planes.{laneBit, sureBit, Table}
+use Rattle.model.specs.ProblemBytes.{action_at}
+use Rattle.model.specs.Planes.{lane_bit, sure_bit, Table}
 use Rattle.model.specs.Stands.{TaskStands}
 use Rattle.model.proofs.Laws.Agreement.{goes-on-reached}
 use Rattle.model.proofs.Laws.Planes.{low_bit, table-fact}
@@ -32,46 +32,43 @@ use Rattle.trace.proofs.States.{applicable-same, step_same, states-length, state
 -- ---- one row
 
 -- the values of the first n facts in lane 0
-abbrev laneValues : List ℕ → ℕ → List ℕ
-laneValues c n = tabulate n (λ g. get_or c (2 * g + 1) 0 % 2)
+abbrev lane_values : List ℕ → ℕ → List ℕ
+lane_values c n = tabulate n (λ g. get_or c (2 * g + 1) 0 % 2)
 
 pub record Putting (c before : List ℕ) (at f : ℕ) (work : List ℕ) : Type 0 where
-  pub is : work ≡ sets before at (laneValues c f)
-
-pub putting-begins : (c before : List ℕ) (at : ℕ) → Putting c before at 0 before
-putting-begins c before at = record { is = refl }
+  pub is : work ≡ sets before at (lane_values c f)
 
 pub putting-length : (c before : List ℕ) (at f : ℕ) (work : List ℕ) → Putting c before at f work → length work ≡ length before
-putting-length c before at f work P = ap length P.is ∙ length-sets before at (laneValues c f)
+putting-length c before at f work P = ap length P.is ∙ length-sets before at (lane_values c f)
 
 pub putting-next : (c before : List ℕ) (at f : ℕ) (work : List ℕ) → Putting c before at f work → Putting c before at (f + 1) (set work (at + f) (get_or c (2 * f + 1) 0 % 2))
 putting-next c before at f work P =
-    let k : at + f ≡ at + length (laneValues c f) = ap (λ (x : ℕ). at + x) (sym (length-tabulate f _)) in
+    let k : at + f ≡ at + length (lane_values c f) = ap (λ (x : ℕ). at + x) (sym (length-tabulate f _)) in
     record {
       is =
           rw (P.is, k, add-one f, tabulate-last f (λ g. get_or c (2 * g + 1) 0 % 2))
-          (sym (sets-append (laneValues c f) (get_or c (2 * f + 1) 0 % 2 ∷ []) before at));
+          (sym (sets-append (lane_values c f) (get_or c (2 * f + 1) 0 % 2 ∷ []) before at));
     }
 
-value-bit : (b : Bool) → sureBit (known b) ≡ flag b
+value-bit : (b : Bool) → sure_bit (known b) ≡ flag b
 value-bit true = refl
 value-bit false = refl
 
-lane-values : (c : List ℕ) (n : ℕ) → n ≤ maxFacts → (st : List Bool) → length st ≡ n → Table c (λ j. map known st) → laneValues c n ≡ map flag st
+lane-values : (c : List ℕ) (n : ℕ) → n ≤ max_facts → (st : List Bool) → length st ≡ n → Table c (λ j. map known st) → lane_values c n ≡ map flag st
 lane-values c n few st z t =
-    ext_get_or 0 (laneValues c n) (map flag st) (length-tabulate n _ ∙ sym (length-map st flag ∙ z))
+    ext_get_or 0 (lane_values c n) (map flag st) (length-tabulate n _ ∙ sym (length-map st flag ∙ z))
     (λ i l.
     let h : i < n = omega (arith, length-tabulate n (λ g. get_or c (2 * g + 1) 0 % 2)) in
     get_d_tabulate n (λ g. get_or c (2 * g + 1) 0 % 2) i 0 h ∙ sym (low_bit (get_or c (2 * i + 1) 0)) ∙
-    (table-fact c (λ j. map known st) i 0 t (omega arith) (omega arith)).is-sure ∙ ap sureBit (get_or-map known st i false) ∙
+    (table-fact c (λ j. map known st) i 0 t (omega arith) (omega arith)).is_sure ∙ ap sure_bit (get_or-map known st i false) ∙
     value-bit (get_or st i false) ∙ sym (get_or-map flag st i false))
 
 pub row_put :
-    (c : List ℕ) (facts : ℕ) (before : List ℕ) (at f : ℕ) (work : List ℕ) → facts ≤ maxFacts → f ≡ facts → Putting c before at f work → PutsRow c facts before at work
+    (c : List ℕ) (facts : ℕ) (before : List ℕ) (at f : ℕ) (work : List ℕ) → facts ≤ max_facts → f ≡ facts → Putting c before at f work → PutsRow c facts before at work
 row_put c facts before at f work few e P =
     record {
       size = putting-length c before at f work P;
-      is = λ st z t. P.is ∙ ap (sets before at) (ap (laneValues c) e ∙ lane-values c facts few st z t);
+      is = λ st z t. P.is ∙ ap (sets before at) (ap (lane_values c) e ∙ lane-values c facts few st z t);
     }
 
 -- ---- the run
@@ -98,25 +95,7 @@ module _ (problem steps actions : List ℕ) (facts : ℕ) (c before : List ℕ) 
         (st : List Bool) → length st ≡ T.facts → Table c (λ j. map known st) → run two T.facts T.goal T.plan 0 st ≡ reached →
         Reaching T st i current work
 
-  pub writing_begins : length c ≡ 256 → Writing 0 0 c before
-  writing_begins w =
-      record {
-        size = w;
-        kept = refl;
-        few = omega arith;
-        place = omega arith;
-        is =
-            λ initial goal T S e st z t r.
-            record { state = st; size = z; shown = t; reaches = r; done = []; count = omega arith; split = refl; written = refl };
-      }
-
   module _ (i at : ℕ) (current work : List ℕ) (W : Writing i at current work) where
-    -- room for a row more
-    pub writing-room : suc (length steps) * facts ≤ length before → at + facts ≤ length work
-    writing-room h =
-        let b : suc i ≤ suc (length steps) = omega (arith, W.few) in
-        omega (arith, W.place, W.kept, mul-le-mul_right facts b, suc-mul i facts)
-
     module _ (work' : List ℕ) (P : PutsRow current facts work at work') where
       -- the state now is written down too
       with_row : (T : Task) (st : List Bool) → facts ≡ T.facts → (R : Reaching T st i current work) → work' ≡ sets before 0 (R.done ++ map flag R.state)
@@ -135,7 +114,7 @@ module _ (problem steps actions : List ℕ) (facts : ℕ) (c before : List ℕ) 
         unfolding run states rows
         next_row T st e initial goal S R =
             let n = T.facts in
-            let a = actionAt T.plan i in
+            let a = action_at T.plan i in
             let (q, stands) = acting-at problem steps actions goal i l slot named initial T S in
             let d = drop-action T.plan i (omega (arith, S.counted)) in
             let (b, r) = goes-on-reached _ _ _ (subst (λ (x : List Action). run two n T.goal x i R.state ≡ reached) d R.reaches) in
@@ -144,8 +123,8 @@ module _ (problem steps actions : List ℕ) (facts : ℕ) (c before : List ℕ) 
             in
             let some : going.lanes ≡ 0 → ⊥ =
             λ z.
-            let k : laneBit 0 going.lanes ≡ 1 = bits 0 (omega arith) ∙ ap₂ (λ (x : ℕ) (y : Bool). min x (flag y)) (low_bit 1) (applicable-same R.state n a ∙ b) in
-            omega (arith, ap (laneBit 0) z, low_bit 0)
+            let k : lane_bit 0 going.lanes ≡ 1 = bits 0 (omega arith) ∙ ap₂ (λ (x : ℕ) (y : Bool). min x (flag y)) (low_bit 1) (applicable-same R.state n a ∙ b) in
+            omega (arith, ap (lane_bit 0) z, low_bit 0)
             in
             let row = map flag R.state in
             record {

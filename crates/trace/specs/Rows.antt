@@ -6,8 +6,8 @@ use Rattle.model.specs.Formula.{fact, denial}
 use Rattle.model.specs.Action.{Effect}
 use Rattle.model.specs.Run.{reached, run}
 use Rattle.model.specs.Case.{flag, Task}
-use Rattle.model.specs.Relevance.{hasEntry, relevant, states, rows}
-use Rattle.model.specs.ProblemBytes.{effectsBytes}
+use Rattle.model.specs.Relevance.{has_entry, relevant, states, rows}
+use Rattle.model.specs.ProblemBytes.{effects_bytes}
 use Rattle.model.specs.WellFormed.{EffectsOk}
 use Rattle.model.specs.Planes.{Table}
 use Rattle.model.specs.Stands.{Span, TaskStands}
@@ -27,8 +27,8 @@ pub record PutsRun (problem steps actions : List ℕ) (facts : ℕ) (c before af
       after ≡ sets before 0 (rows (states T.facts T.plan st))
 
 -- the value of fact f in the row at `at`, in every lane
-abbrev pub rowValue : List ℕ → ℕ → ℕ → ℕ → Kleene
-rowValue work at f j = known (eqb (get_or work (at + f) 0) 1)
+abbrev pub row_value : List ℕ → ℕ → ℕ → ℕ → Kleene
+row_value work at f j = known (eqb (get_or work (at + f) 0) 1)
 
 -- the state st stands in the row at `at`
 abbrev pub RowAt : List ℕ → ℕ → ℕ → List Bool → Type 0
@@ -36,13 +36,13 @@ RowAt work at n st = (f : ℕ) → f < n → get_or work (at + f) 0 ≡ flag (ge
 
 -- the states st and st' agree on the facts for which there is no entry
 abbrev pub AgreeElsewhere : List Effect → ℕ → List Bool → List Bool → Type 0
-AgreeElsewhere es n st st' = (g : ℕ) → g < n → hasEntry (fact g) es ≡ false → hasEntry (denial g) es ≡ false → get_or st' g false ≡ get_or st g false
+AgreeElsewhere es n st st' = (g : ℕ) → g < n → has_entry (fact g) es ≡ false → has_entry (denial g) es ≡ false → get_or st' g false ≡ get_or st g false
 
 -- from the state st' in every lane to st, which stands in the row at `at`, where they agree but for the facts of the entries at p
 pub record UndoesEntries (s : List ℕ) (p : ℕ) (c : List ℕ) (facts : ℕ) (work : List ℕ) (at : ℕ) (d : List ℕ) : Type 0 where
   pub size : length d ≡ 256
   pub is :
-      (es : List Effect) (q : ℕ) → EffectsOk facts 0 es → Span s (length s) p (length es ∷ effectsBytes es) q →
+      (es : List Effect) (q : ℕ) → EffectsOk facts 0 es → Span s (length s) p (length es ∷ effects_bytes es) q →
       (st st' : List Bool) → length st ≡ facts → length st' ≡ facts → RowAt work at facts st → AgreeElsewhere es facts st st' →
       Table c (λ j. map known st') → Table d (λ j. map known st)
 

@@ -1,10 +1,10 @@
 // A run gone through backward: the facts that matter before each step, by the state in its row and the facts that matter after it.
 ghost use Rattle.std.specs.Prelude.{◌≡◌, suc, ◌+◌, ◌*◌, ◌≤◌, length, eqb};
-ghost use Rattle.model.specs.Limits.{maxFacts};
+ghost use Rattle.model.specs.Limits.{max_facts};
 ghost use Rattle.model.specs.Kleene.{known};
 ghost use Rattle.model.specs.Planes.{InLanes};
 ghost use Rattle.table.specs.Tables.{SetsFacts};
-ghost use Rattle.trace.specs.Rows.{rowValue, UndoesEntries, TracesBack};
+ghost use Rattle.trace.specs.Rows.{row_value, UndoesEntries, TracesBack};
 
 use matters::matters_before;
 use names::{after_formula, named_facts};
@@ -22,14 +22,13 @@ fn lanes_of(b: u8) -> u64
 
 // The state in the row at `at`, in every lane.
 fn load_row(c: &mut [u64; 256], facts: usize, work: &[u8], at: usize)
-    requires { (length c.old ≡ 256) × (facts ≤ maxFacts) × (at + facts ≤ length work.now) }
-    ensures { SetsFacts c.old 0 facts (rowValue work.now at) c.new }
+    requires few { facts ≤ max_facts }
+    requires row { at + facts ≤ length work.now }
+    ensures { SetsFacts c.old 0 facts (row_value work.now at) c.new }
 {
-    let mut f: usize = 0;
-    while f < facts {
+    for f in 0..facts {
         let value = lanes_of(work[at + f]);
         set_fact(c, f, value, value);
-        f = f + 1;
     }
 }
 
@@ -43,27 +42,26 @@ fn undo_entries(
     work: &[u8],
     row: usize,
 )
-    requires { (length c.old ≡ 256) × (facts ≤ maxFacts) × (row + facts ≤ length work.now) }
+    requires few { facts ≤ max_facts }
+    requires row { row + facts ≤ length work.now }
     ensures { UndoesEntries problem.now at c.old facts work.now row c.new }
 {
     if problem.len() <= at {
         return;
     }
-    let n = crate::wide(problem[at]);
+    let n = problem[at] as usize;
     let mut p = at + 1;
-    let mut e: usize = 0;
-    while e < n {
+    for _ in 0..n {
         if problem.len() <= p {
             return;
         }
-        let f = crate::wide(problem[p] % 64);
+        let f = (problem[p] % 64) as usize;
         if facts <= f {
             return;
         }
         let value = lanes_of(work[row + f]);
         set_fact(c, f, value, value);
         p = after_formula(problem, p + 1);
-        e = e + 1;
     }
 }
 
@@ -76,19 +74,18 @@ pub fn trace_back(
     facts: usize,
     work: &[u8],
 ) -> u64
-    requires { (facts ≤ maxFacts) × (suc (length steps.now) * facts ≤ length work.now) }
+    requires few { facts ≤ max_facts }
+    requires rows { suc (length steps.now) * facts ≤ length work.now }
     ensures { TracesBack problem.now steps.now actions.now goal facts work.now result }
 {
     let named = named_facts(problem, goal);
     let mut set = named.facts;
-    let mut i = steps.len();
-    let mut at = i * facts;
+    let mut at = steps.len() * facts;
     let mut c = none_fixed(facts);
     load_row(&mut c, facts, work, at);
-    while 0 < i {
-        i = i - 1;
+    for i in (0..steps.len()).rev() {
         let row = at - facts;
-        let slot = crate::wide(steps[i] % 64);
+        let slot = (steps[i] % 64) as usize;
         let entries = after_formula(problem, actions[slot]);
         undo_entries(problem, entries, &mut c, facts, work, row);
         set = matters_before(problem, actions[slot], &c, set);

@@ -1,19 +1,18 @@
 // The states of a run as rows of a work area, one byte (0 or 1) a fact.
 ghost use Rattle.std.specs.Prelude.{◌≡◌, suc, ◌+◌, ◌*◌, ◌≤◌, length};
-ghost use Rattle.model.specs.Limits.{maxFacts};
+ghost use Rattle.model.specs.Limits.{max_facts};
 ghost use Rattle.trace.specs.Rows.{PutsRow, PutsRun};
 
 use step::obey_action;
 
 // The state in lane 0, from `at` on.
 fn put_row(c: &[u64; 256], facts: usize, work: &mut [u8], at: usize)
-    requires { (facts ≤ maxFacts) × (length c.now ≡ 256) × (at + facts ≤ length work.old) }
+    requires few { facts ≤ max_facts }
+    requires room { at + facts ≤ length work.old }
     ensures { PutsRow c.now facts work.old at work.new }
 {
-    let mut f: usize = 0;
-    while f < facts {
+    for f in 0..facts {
         work[at + f] = (c[2 * f + 1] % 2) as u8;
-        f = f + 1;
     }
 }
 
@@ -26,17 +25,17 @@ pub fn put_run(
     c: &[u64; 256],
     work: &mut [u8],
 )
-    requires { (facts ≤ maxFacts) × (length c.now ≡ 256) × (suc (length steps.now) * facts ≤ length work.old) }
+    requires few { facts ≤ max_facts }
+    requires room { suc (length steps.now) * facts ≤ length work.old }
     ensures { PutsRun problem.now steps.now actions.now facts c.now work.old work.new }
 {
     let mut current = *c;
     let mut found = [0u64; 256];
     let mut literals = [0u8; 128];
     let mut at: usize = 0;
-    let mut i: usize = 0;
-    while i < steps.len() {
+    for i in 0..steps.len() {
         put_row(&current, facts, work, at);
-        let slot = crate::wide(steps[i] % 64);
+        let slot = (steps[i] % 64) as usize;
         obey_action(
             problem,
             actions[slot],
@@ -46,7 +45,6 @@ pub fn put_run(
             1,
         );
         at = at + facts;
-        i = i + 1;
     }
     put_row(&current, facts, work, at);
 }
