@@ -4,33 +4,33 @@ use Rattle.model.specs.Limits.{version1}
 use Rattle.model.specs.Answer.{Answer, refused, answered}
 use Rattle.model.specs.Run.{reached}
 use Rattle.model.specs.Case.{Task, run_of, IsState}
-use Rattle.model.specs.Relevance.{workBytes, runRows, AgreeOn}
-use Rattle.model.specs.Operations.{readTask, runState}
+use Rattle.model.specs.Relevance.{work_bytes, run_rows, AgreeOn}
+use Rattle.model.specs.Operations.{read_task, run_state}
 
 -- the problem and the plan are read as T, and s is a state of it
 pub record Runs (problem plan : List ℕ) (s : ℕ) (T : Task) : Type 0 where
-  pub read : readTask version1 problem plan ≡ answered T
+  pub read : read_task version1 problem plan ≡ answered T
   pub state : IsState T s
 
 -- what a refusal is of: the run's own, 41 or 42
 abbrev pub RefusedFor : List ℕ → List ℕ → ℕ → ℕ → ℕ → ℕ → Type 0
 RefusedFor problem plan s room n q =
-    (runState version1 problem plan s ≡ refused n q) ⊎
+    (run_state version1 problem plan s ≡ refused n q) ⊎
     (((T : Task) × Runs problem plan s T × (run_of T s ≢ reached) × (n ≡ 41) × (q ≡ 0)) ⊎
-    ((T : Task) × Runs problem plan s T × (run_of T s ≡ reached) × (room < workBytes T) × (n ≡ 42) × (q ≡ 0)))
+    ((T : Task) × Runs problem plan s T × (run_of T s ≡ reached) × (room < work_bytes T) × (n ≡ 42) × (q ≡ 0)))
 
 -- the set m that is answered, and what the work area holds
 pub record Rests (problem plan : List ℕ) (s : ℕ) (T : Task) (m : ℕ) (before after : List ℕ) : Type 0 where
   pub runs : Runs problem plan s T
-  pub is-reached : run_of T s ≡ reached
+  pub is_reached : run_of T s ≡ reached
   -- it is one of declared facts only
   pub is_state : IsState T m
   -- "any other state which agrees on that set is also reached"
-  pub reached-too : (t : ℕ) → IsState T t → AgreeOn T m s t → runState version1 problem plan t ≡ answered reached
+  pub reached_too : (t : ℕ) → IsState T t → AgreeOn T m s t → run_state version1 problem plan t ≡ answered reached
   -- the first rows hold the states of the run, and the rest is unchanged
-  pub fits : workBytes T ≤ length before
-  pub holds : take (workBytes T) after ≡ runRows T s
-  pub rest : drop (workBytes T) after ≡ drop (workBytes T) before
+  pub fits : work_bytes T ≤ length before
+  pub holds : take (work_bytes T) after ≡ run_rows T s
+  pub rest : drop (work_bytes T) after ≡ drop (work_bytes T) before
 
 -- "A refused call changes no byte."
 abbrev pub RelevantPromised : List ℕ → List ℕ → ℕ → List ℕ → Answer ℕ → List ℕ → Type 0

@@ -1,6 +1,7 @@
 // Which start facts an outcome rests on (document 02, W-204).
 
+#![tactic(auto)]
+
 pub mod operation;
 
-use numbers::wide;
-pub use operation::{Checked, relevant_facts};
+pub use operation::relevant_facts;
