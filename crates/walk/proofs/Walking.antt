@@ -13,25 +13,25 @@ use Rattle.model.specs.Formula.{eval}
 use Rattle.model.specs.Run.{run}
 use Rattle.model.specs.Case.{case_of, Task}
 use Rattle.model.specs.Walk as Walk
-use Rattle.model.specs.Walk.{Kind, empty, carries, kindNumber, line, Line, Walked, covered, failed, visits, join, walkFrom, look_of, lookAt}
-use Rattle.model.specs.Planes.{laneBit, Table}
+use Rattle.model.specs.Walk.{Kind, empty, carries, kind_number, line, Line, Walked, covered, failed, visits, join, walk_from, look_of, look_at}
+use Rattle.model.specs.Planes.{lane_bit, Table}
 use Rattle.model.proofs.Laws.Cover.{Block, pow-half, rescale, next-block, block-of-mod, mod-of-block}
 use Rattle.model.proofs.Laws.Grants.{visits-walk}
 use Rattle.model.proofs.Laws.Planes.{bit-small}
 use Rattle.model.proofs.Laws.Splitting.{length-case, case-unknown, case-no, case-yes}
-use Rattle.table.specs.Blocks.{blockCase, FixesLevels, FixesPath}
+use Rattle.table.specs.Blocks.{block_case, FixesLevels, FixesPath}
 use Rattle.table.proofs.Blocks.{length-block, block-outside, block-root, part_no, part-yes}
 use Rattle.lines.specs.Lines.{width_of}
 use Rattle.lines.specs.Putting.{LinesLaid, AddsLine}
 use Rattle.lines.proofs.Stores.{puts-append}
-use Rattle.look.specs.Cases.{lookBits, LooksAtCases}
+use Rattle.look.specs.Cases.{look_bits, LooksAtCases}
 use Rattle.look.specs.declared.Looks.{Looks}
 use Rattle.blocks.specs.declared.problem.Places.{Places}
 use Rattle.walk.specs.declared.cases.Case.{Case}
 use Rattle.walk.specs.declared.cases.Block as walk
 use Rattle.walk.specs.declared.cases.Ending.{Ending}
 use Rattle.walk.specs.declared.cases.Ending.TheVariants.{Out, Failed, Closed}
-use Rattle.walk.specs.Walks.{Ended, Counted, walk_of, values_of, LevelsOf, BlockFits, WalksBlock, NodeFits, NodeAt, WalksNode, WalksParts, Addable, joins}
+use Rattle.walk.specs.Walks.{Ended, Counted, walk_of, values_of, LevelsOf, BlockFits, WalksBlock, NodeFits, NodeAt, WalksNode, WalksParts, joins}
 
 -- ---- a walk after a walk
 
@@ -57,24 +57,24 @@ join-closed size S g n a next to ls y (Closed m b end) before mid after same c h
 
 -- ---- one visit
 
-zero_bit : (j x : ℕ) → (laneBit j x ≡ 1 → ⊥) → laneBit j x ≡ 0
-zero_bit j x h = elim (ℕ_discrete (laneBit j x) 0) [ yes e ↦ e | no e ↦ absurd (h (omega (arith, bit-small j x))) ]
+zero_bit : (j x : ℕ) → (lane_bit j x ≡ 1 → ⊥) → lane_bit j x ≡ 0
+zero_bit j x h = elim (ℕ_discrete (lane_bit j x) 0) [ yes e ↦ e | no e ↦ absurd (h (omega (arith, bit-small j x))) ]
 
-walk-closed : (w : ℕ) (look : ℕ → ℕ → Walk.Look) (d k v : ℕ) (κ : Kind) → walkFrom w look d (Walk.closed κ) k v ≡ covered (line κ k v ∷ []) 1
-unfolding walkFrom
+walk-closed : (w : ℕ) (look : ℕ → ℕ → Walk.Look) (d k v : ℕ) (κ : Kind) → walk_from w look d (Walk.closed κ) k v ≡ covered (line κ k v ∷ []) 1
+unfolding walk_from
 walk-closed w look zero k v κ = refl
 walk-closed w look (suc d) k v κ = refl
 
-walk-failing : (w : ℕ) (look : ℕ → ℕ → Walk.Look) (k v : ℕ) → walkFrom w look 0 Walk.opened k v ≡ failed v 1
-unfolding walkFrom
+walk-failing : (w : ℕ) (look : ℕ → ℕ → Walk.Look) (k v : ℕ) → walk_from w look 0 Walk.opened k v ≡ failed v 1
+unfolding walk_from
 walk-failing w look k v = refl
 
 walk_split :
     (w : ℕ) (look : ℕ → ℕ → Walk.Look) (d k v : ℕ) → 0 < d →
-    walkFrom w look d Walk.opened k v ≡
-    join (walkFrom w look (d - 1) (look (suc k) v) (suc k) v)
-    (walkFrom w look (d - 1) (look (suc k) (v + 2 ^ (w - suc k))) (suc k) (v + 2 ^ (w - suc k)))
-unfolding walkFrom
+    walk_from w look d Walk.opened k v ≡
+    join (walk_from w look (d - 1) (look (suc k) v) (suc k) v)
+    (walk_from w look (d - 1) (look (suc k) (v + 2 ^ (w - suc k))) (suc k) (v + 2 ^ (w - suc k)))
+unfolding walk_from
 walk_split w look zero k v h = absurd (omega arith)
 walk_split w look (suc d) k v h = let e : suc d - 1 ≡ d = omega arith in rw e
 
@@ -86,21 +86,21 @@ module _ (size : ℕ) (problem steps actions : List ℕ) (at : Places) (c : List
   Node r after = WalksNode size problem steps actions at c b case lane g r before to after
 
   -- what the lane's two bits say is what a visit finds
-  node-look : lane < 64 → (T : Task) → At T → lookAt T case.k case.number ≡ lookBits (laneBit lane b.empty) (laneBit lane b.carries)
-  unfolding lookAt
+  node-look : lane < 64 → (T : Task) → At T → look_at T case.k case.number ≡ look_bits (lane_bit lane b.empty) (lane_bit lane b.carries)
+  unfolding look_at
   node-look l T N =
       sym
       (N.looked lane l ∙
-      ap (λ (x : List Kleene). look_of (eval three x T.initial) (run three T.facts T.goal T.plan 0 x)) N.lane-is)
+      ap (λ (x : List Kleene). look_of (eval three x T.initial) (run three T.facts T.goal T.plan 0 x)) N.lane_is)
 
   pub node-out : g ≡ 0 → Node Out before
   node-out z =
-      record { counted = tt; same = refl; is = λ T N. omega (arith, visits-walk T.width (lookAt T) case.left (lookAt T case.k case.number) case.k case.number) }
+      record { counted = tt; same = refl; is = λ T N. omega (arith, visits-walk T.width (look_at T) case.left (look_at T case.k case.number) case.k case.number) }
 
   -- a lane that is closed
   node-closed :
-      (κ : Kind) (next : ℕ) (after : List ℕ) → 0 < g → AddsLine size before to (kindNumber κ) case.k case.number next after →
-      ((T : Task) → At T → lookAt T case.k case.number ≡ Walk.closed κ) → Node (Closed 1 1 next) after
+      (κ : Kind) (next : ℕ) (after : List ℕ) → 0 < g → AddsLine size before to (kind_number κ) case.k case.number next after →
+      ((T : Task) → At T → look_at T case.k case.number ≡ Walk.closed κ) → Node (Closed 1 1 next) after
   node-closed κ next after h A look =
       record {
         counted = (omega arith, omega arith);
@@ -109,19 +109,19 @@ module _ (size : ℕ) (problem steps actions : List ℕ) (at : Places) (c : List
       }
 
   pub node-empty :
-      lane < 64 → 0 < g → laneBit lane b.empty ≡ 1 → (next : ℕ) (after : List ℕ) → AddsLine size before to 0 case.k case.number next after →
+      lane < 64 → 0 < g → lane_bit lane b.empty ≡ 1 → (next : ℕ) (after : List ℕ) → AddsLine size before to 0 case.k case.number next after →
       Node (Closed 1 1 next) after
   node-empty l h e next after A = node-closed empty next after h A (λ T N. node-look l T N ∙ rw e)
 
   pub node-carries :
-      lane < 64 → 0 < g → (laneBit lane b.empty ≡ 1 → ⊥) → laneBit lane b.carries ≡ 1 → (next : ℕ) (after : List ℕ) →
+      lane < 64 → 0 < g → (lane_bit lane b.empty ≡ 1 → ⊥) → lane_bit lane b.carries ≡ 1 → (next : ℕ) (after : List ℕ) →
       AddsLine size before to 1 case.k case.number next after → Node (Closed 1 1 next) after
   node-carries l h n e next after A =
-      let z : laneBit lane b.empty ≡ 0 = zero_bit lane b.empty n in
+      let z : lane_bit lane b.empty ≡ 0 = zero_bit lane b.empty n in
       node-closed carries next after h A (λ T N. node-look l T N ∙ rw (z, e))
 
-  module _ (l : lane < 64) (h : 0 < g) (n : laneBit lane b.empty ≡ 1 → ⊥) (m : laneBit lane b.carries ≡ 1 → ⊥) where
-    node-open : (T : Task) → At T → lookAt T case.k case.number ≡ Walk.opened
+  module _ (l : lane < 64) (h : 0 < g) (n : lane_bit lane b.empty ≡ 1 → ⊥) (m : lane_bit lane b.carries ≡ 1 → ⊥) where
+    node-open : (T : Task) → At T → look_at T case.k case.number ≡ Walk.opened
     node-open T N = let y = zero_bit lane b.empty n in let z = zero_bit lane b.carries m in node-look l T N ∙ rw (y, z)
 
     pub node-fails : case.left ≡ 0 → Node (Failed case.number 1) before
@@ -141,7 +141,7 @@ module _ (size : ℕ) (problem steps actions : List ℕ) (at : Places) (c : List
           same = P.same;
           is =
               λ T N.
-              rw (node-open T N, walk_split T.width (lookAt T) case.left case.k case.number k)
+              rw (node-open T N, walk_split T.width (look_at T) case.left case.k case.number k)
               (subst (λ (x : ℕ). Ended size x (parts T) r before to after) u (P.is T N));
         }
 
@@ -151,7 +151,7 @@ abbrev pub part_of : Case → ℕ → Case
 part_of case v = record { k = case.k + 1; left = case.left - 1; number = v }
 
 pub lane-small : (size : ℕ) (b : walk.Block) (case : Case) (lane : ℕ) → NodeFits size b case lane → lane < 64
-lane-small size b case lane N = omega (arith, N.lane-to, pow_mono {i = suc (case.k - b.first)} {j = 6} (omega (arith, N.few, N.within)))
+lane-small size b case lane N = omega (arith, N.lane_to, pow_mono {i = suc (case.k - b.first)} {j = 6} (omega (arith, N.few, N.within)))
 
 module _ (size : ℕ) (b : walk.Block) (case : Case) (lane : ℕ) (N : NodeFits size b case lane) (inner : case.k < b.first + b.levels) where
   halves : 2 ^ (width_of size - case.k) ≡ 2 ^ (width_of size - suc case.k) + 2 ^ (width_of size - suc case.k)
@@ -165,17 +165,17 @@ module _ (size : ℕ) (b : walk.Block) (case : Case) (lane : ℕ) (N : NodeFits 
 
   part-fits : (v i : ℕ) → v + 2 ^ (width_of size - suc case.k) ≤ 2 ^ width_of size → 2 * lane ≤ i → i ≤ 2 * lane + 1 → NodeFits size b (part_of case v) i
   part-fits v i h l m =
-      let e : case.k + 1 - b.first ≡ suc (case.k - b.first) = omega (arith, N.below-first) in
+      let e : case.k + 1 - b.first ≡ suc (case.k - b.first) = omega (arith, N.below_first) in
       let p = pow-suc 2 (case.k - b.first) in
       let q = pow-suc 2 (suc (case.k - b.first)) in
       record {
         fits = record { least = N.fits.least; most = N.fits.most; slots = omega (arith, N.fits.slots, N.inside); numbers = subst (λ (x : ℕ). v + 2 ^ (width_of size - x) ≤ 2 ^ width_of size) (omega arith) h };
         few = N.few;
         inside = omega (arith, N.inside);
-        below-first = omega (arith, N.below-first);
+        below_first = omega (arith, N.below_first);
         within = omega arith;
-        lane-from = rw e (omega (arith, N.lane-from));
-        lane-to = rw e (omega (arith, N.lane-to));
+        lane_from = rw e (omega (arith, N.lane_from));
+        lane_to = rw e (omega (arith, N.lane_to));
       }
 
   pub first_fits : NodeFits size b (part_of case case.number) (2 * lane)
@@ -186,10 +186,10 @@ module _ (size : ℕ) (b : walk.Block) (case : Case) (lane : ℕ) (N : NodeFits 
 
   module _ (problem steps actions : List ℕ) (at : Places) (c : List ℕ) (T : Task) (A : NodeAt size problem steps actions at c b case lane T) where
     k<n : case.k < T.facts
-    k<n = omega (arith, N.inside, A.case_at.left-facts)
+    k<n = omega (arith, N.inside, A.case_at.left_facts)
 
     n≤w : T.facts ≤ T.width
-    n≤w = omega (arith, A.case_at.width, A.case_at.left-facts, N.fits.slots)
+    n≤w = omega (arith, A.case_at.width, A.case_at.left_facts, N.fits.slots)
 
     block : Block T.width case.k case.number
     block = block-of-mod T.width case.k case.number A.case_at.begins
@@ -198,42 +198,42 @@ module _ (size : ℕ) (b : walk.Block) (case : Case) (lane : ℕ) (N : NodeFits 
     smaller = rescale T.width case.k (suc case.k) case.number (omega arith) (omega (arith, k<n, n≤w)) block
 
     room : b.first + b.levels ≤ length A.root
-    room = omega (arith, A.sized, N.inside, A.case_at.left-facts)
+    room = omega (arith, A.sized, N.inside, A.case_at.left_facts)
 
     -- the lane of a part has that part's case
     part_at :
         (v i : ℕ) (x : Kleene) → Block T.width (suc case.k) v →
-        blockCase A.root b.first b.levels i ≡ set (blockCase A.root b.first b.levels lane) (b.first + (case.k - b.first)) x →
+        block_case A.root b.first b.levels i ≡ set (block_case A.root b.first b.levels lane) (b.first + (case.k - b.first)) x →
         case_of T.width T.facts (suc case.k) v ≡ set (values_of T case) case.k x → NodeAt size problem steps actions at c b (part_of case v) i T
     part_at v i x B e f =
         let s : suc case.k ≡ case.k + 1 = omega arith in
-        let level : b.first + (case.k - b.first) ≡ case.k = omega (arith, N.below-first) in
+        let level : b.first + (case.k - b.first) ≡ case.k = omega (arith, N.below_first) in
         record {
           stands = A.stands;
           case_at =
               record {
                 width = A.case_at.width;
-                left-facts = omega (arith, A.case_at.left-facts, k<n);
+                left_facts = omega (arith, A.case_at.left_facts, k<n);
                 begins = subst (λ (k : ℕ). v % 2 ^ (T.width - k) ≡ 0) s (mod-of-block T.width (suc case.k) v B);
               };
           root = A.root;
           sized = A.sized;
           table = A.table;
           looked = A.looked;
-          lane-is = e ∙ (λ j. set (A.lane-is j) (level j) x) ∙ sym f ∙ ap (λ (k : ℕ). case_of T.width T.facts k v) s;
+          lane_is = e ∙ (λ j. set (A.lane_is j) (level j) x) ∙ sym f ∙ ap (λ (k : ℕ). case_of T.width T.facts k v) s;
         }
 
     pub first-at : NodeAt size problem steps actions at c b (part_of case case.number) (2 * lane) T
     first-at =
         part_at case.number (2 * lane) No smaller
-        (part_no A.root b.first b.levels (case.k - b.first) lane N.few (omega (arith, N.below-first)) N.lane-from N.lane-to room)
+        (part_no A.root b.first b.levels (case.k - b.first) lane N.few (omega (arith, N.below_first)) N.lane_from N.lane_to room)
         (case-no T.width T.facts case.k case.number k<n n≤w block)
 
     pub second_at : (half : ℕ) → half ≡ 2 ^ (T.width - suc case.k) → NodeAt size problem steps actions at c b (part_of case (case.number + half)) (2 * lane + 1) T
     second_at half e =
         rw e
         (part_at (case.number + 2 ^ (T.width - suc case.k)) (2 * lane + 1) Yes (next-block T.width (suc case.k) case.number smaller)
-        (part-yes A.root b.first b.levels (case.k - b.first) lane N.few (omega (arith, N.below-first)) N.lane-from N.lane-to room)
+        (part-yes A.root b.first b.levels (case.k - b.first) lane N.few (omega (arith, N.below_first)) N.lane_from N.lane_to room)
         (case-yes T.width T.facts case.k case.number k<n n≤w block))
 
 -- ---- both parts
@@ -243,11 +243,6 @@ counted-joins g n a Out h k c = tt
 counted-joins g n a (Failed s b) h k c = omega arith
 counted-joins g n a (Closed m b next) h k c = (omega arith, omega arith)
 
-pub addable : (g n a : ℕ) (r : Ending) → g + 1 < 2 ^ 64 → a ≤ g → n ≤ a → Counted (g - a) r → Addable n a r
-addable g n a Out l h k c = tt
-addable g n a (Failed s b) l h k c = omega arith
-addable g n a (Closed m b next) l h k c = (omega arith, omega arith)
-
 -- the counts of an ending, by its kind
 pub failed-count : (g : ℕ) (r : Ending) (s a : ℕ) → Counted g r → r ≡ Failed s a → a ≤ g
 failed-count g r s a c e = subst (Counted g) e c
@@ -255,34 +250,28 @@ failed-count g r s a c e = subst (Counted g) e c
 pub closed-count : (g : ℕ) (r : Ending) (n a next : ℕ) → Counted g r → r ≡ Closed n a next → (a ≤ g) × (n ≤ a)
 closed-count g r n a next c e = subst (Counted g) e c
 
-pub failed-adds : (n a : ℕ) (r : Ending) (s b : ℕ) → Addable n a r → r ≡ Failed s b → a + b + 1 < 2 ^ 64
-failed-adds n a r s b h e = subst (Addable n a) e h
-
-pub closed-adds : (n a : ℕ) (r : Ending) (m b next : ℕ) → Addable n a r → r ≡ Closed m b next → (a + b + 1 < 2 ^ 64) × (n + m < 2 ^ 64)
-closed-adds n a r m b next h e = subst (Addable n a) e h
-
 module _ (size : ℕ) (problem steps actions : List ℕ) (at : Places) (c : List ℕ) (b : walk.Block) (case : Case) (lane g : ℕ) (before : List ℕ) (to : ℕ)
     (N : NodeFits size b case lane) (inner : case.k < b.first + b.levels) (r₁ : Ending) (mid : List ℕ)
     (W₁ : WalksNode size problem steps actions at c b (part_of case case.number) (2 * lane) g r₁ before to mid) where
   abbrev Joined : Ending → List ℕ → Type 0
   Joined r after = WalksParts size problem steps actions at c b case lane g r before to after
 
-  abbrev partWalk : Task → ℕ → Walked
-  partWalk T v = walk_of T (case.left - 1) (suc case.k) v
+  abbrev part_walk : Task → ℕ → Walked
+  part_walk T v = walk_of T (case.left - 1) (suc case.k) v
 
   -- how a part's walk ended, as the definition counts
   part-ended :
       (T : Task) (g v : ℕ) (r : Ending) (before : List ℕ) (to : ℕ) (after : List ℕ) →
-      Ended size g (walk_of T (case.left - 1) (case.k + 1) v) r before to after → Ended size g (partWalk T v) r before to after
+      Ended size g (walk_of T (case.left - 1) (case.k + 1) v) r before to after → Ended size g (part_walk T v) r before to after
   part-ended T g v r before to after = subst (λ (k : ℕ). Ended size g (walk_of T (case.left - 1) k v) r before to after) (omega arith)
 
-  first_ended : (T : Task) → NodeAt size problem steps actions at c b case lane T → (r : Ending) → r₁ ≡ r → Ended size g (partWalk T case.number) r before to mid
+  first_ended : (T : Task) → NodeAt size problem steps actions at c b case lane T → (r : Ending) → r₁ ≡ r → Ended size g (part_walk T case.number) r before to mid
   first_ended T A r e =
-      subst (λ (q : Ending). Ended size g (partWalk T case.number) q before to mid) e
+      subst (λ (q : Ending). Ended size g (part_walk T case.number) q before to mid) e
       (part-ended T g case.number r₁ before to mid (W₁.is T (first-at size b case lane N inner problem steps actions at c T A)))
 
   pub parts_out : r₁ ≡ Out → Joined Out mid
-  parts_out e = record { counted = tt; same = W₁.same; is = λ T A. omega (arith, first_ended T A Out e, visits-join (partWalk T case.number) (partWalk T (case.number + 2 ^ (T.width - suc case.k)))) }
+  parts_out e = record { counted = tt; same = W₁.same; is = λ T A. omega (arith, first_ended T A Out e, visits-join (part_walk T case.number) (part_walk T (case.number + 2 ^ (T.width - suc case.k)))) }
 
   pub parts-failed : (s a : ℕ) → r₁ ≡ Failed s a → Joined (Failed s (a + 1)) mid
   parts-failed s a e =
@@ -310,19 +299,6 @@ module _ (size : ℕ) (problem steps actions : List ℕ) (at : Places) (c : List
 
 -- ---- a block
 
-pub block-fits : (size : ℕ) (case : Case) (levels x y : ℕ) → BlockFits size case levels → NodeFits size (record { first = case.k; levels = levels; empty = x; carries = y }) case 1
-block-fits size case levels x y B =
-    let z : case.k - case.k ≡ 0 = omega arith in
-    record {
-      fits = B.fits;
-      few = B.levels-of.few;
-      inside = omega (arith, B.levels-of.inside);
-      below-first = omega arith;
-      within = omega arith;
-      lane-from = rw z (omega arith);
-      lane-to = rw z (omega arith);
-    }
-
 pub block-walks :
     (size : ℕ) (problem steps actions : List ℕ) (at : Places) (c : List ℕ) (case : Case) (levels g : ℕ) (before : List ℕ) (to : ℕ) (B : BlockFits size case levels) (found : Looks) →
     LooksAtCases problem steps actions at.initial at.goal c found → (r : Ending) (after : List ℕ) →
@@ -343,11 +319,11 @@ block-walks size problem steps actions at c case levels g before to B found L r 
             table = A.table;
             looked =
                 λ j l.
-                L.is T A.stands (λ i. blockCase (values_of T case) case.k levels i)
+                L.is T A.stands (λ i. block_case (values_of T case) case.k levels i)
                 (λ i m. length-block (values_of T case) case.k levels i ∙ length-case T.width T.facts case.k case.number) A.table j l;
-            lane-is =
+            lane_is =
                 block-root (values_of T case) case.k levels
-                (λ f h l. case-unknown T.width T.facts case.k case.number f h (omega (arith, B.levels-of.inside, A.case_at.left-facts)));
+                (λ f h l. case-unknown T.width T.facts case.k case.number f h (omega (arith, B.levels-of.inside, A.case_at.left_facts)));
           });
     }
 
@@ -368,12 +344,9 @@ node-edge size problem steps actions at c b case lane g before to N path below l
             stands = A.stands;
             case_at = A.case_at;
             table =
-                X.is (values_of T case) (omega (arith, length-case T.width T.facts case.k case.number, L.inside, A.case_at.left-facts))
-                (subst (λ (x : List Kleene). Table path (λ j. x)) A.lane-is
-                (P.is (λ j. blockCase A.root b.first b.levels j) A.table
+                X.is (values_of T case) (omega (arith, length-case T.width T.facts case.k case.number, L.inside, A.case_at.left_facts))
+                (subst (λ (x : List Kleene). Table path (λ j. x)) A.lane_is
+                (P.is (λ j. block_case A.root b.first b.levels j) A.table
                 (λ j f m o. block-outside A.root b.first b.levels j f o ∙ sym (block-outside A.root b.first b.levels lane f o))));
           });
     }
-
-pub edge-fits : (size : ℕ) (b : walk.Block) (case : Case) (lane levels : ℕ) → NodeFits size b case lane → LevelsOf case.left levels → BlockFits size case levels
-edge-fits size b case lane levels N L = record { fits = N.fits; levels-of = L }

@@ -6,14 +6,14 @@ use Rattle.model.specs.Kleene.{Kleene, three}
 use Rattle.model.specs.Formula.{eval}
 use Rattle.model.specs.Run.{run}
 use Rattle.model.specs.Case.{case_of, Task}
-use Rattle.model.specs.Walk.{Line, Walked, covered, failed, visits, join, walkFrom, walked, look_of, lookAt}
-use Rattle.model.specs.Planes.{laneBit, Table}
+use Rattle.model.specs.Walk.{Line, Walked, covered, failed, visits, join, walk_from, walked, look_of, look_at}
+use Rattle.model.specs.Planes.{lane_bit, Table}
 use Rattle.model.specs.Stands.{TaskStands}
 use Rattle.blocks.specs.Standing.{TaskIn}
-use Rattle.table.specs.Blocks.{blockCase}
+use Rattle.table.specs.Blocks.{block_case}
 use Rattle.lines.specs.Lines.{width_of}
 use Rattle.lines.specs.Putting.{LinesLaid}
-use Rattle.look.specs.Cases.{lookBits}
+use Rattle.look.specs.Cases.{look_bits}
 use Rattle.blocks.specs.declared.problem.Places.{Places}
 use Rattle.walk.specs.declared.cases.Case.{Case}
 use Rattle.walk.specs.declared.cases.Block.{Block}
@@ -45,7 +45,7 @@ pub record Walks (size : ℕ) (Given : Task → Type 0) (w : Task → Walked) (g
 
 -- the walk from (k, v), with d facts still open
 abbrev pub walk_of : Task → ℕ → ℕ → ℕ → Walked
-walk_of T d k v = walkFrom T.width (lookAt T) d (lookAt T k v) k v
+walk_of T d k v = walk_from T.width (look_at T) d (look_at T k v) k v
 
 -- no number of a case leaves its range, where a line has so many bytes
 pub record CaseFits (size : ℕ) (case : Case) : Type 0 where
@@ -57,7 +57,7 @@ pub record CaseFits (size : ℕ) (case : Case) : Type 0 where
 -- a case of T, whose states fill the values of such a line
 pub record CaseAt (size : ℕ) (T : Task) (case : Case) : Type 0 where
   pub width : T.width ≡ width_of size
-  pub left-facts : case.k + case.left ≡ T.facts
+  pub left_facts : case.k + case.left ≡ T.facts
   pub begins : case.number % 2 ^ (T.width - case.k) ≡ 0
 
 abbrev pub values_of : Task → Case → List Kleene
@@ -76,7 +76,7 @@ pub record BlockFits (size : ℕ) (case : Case) (levels : ℕ) : Type 0 where
 pub record BlockAt (size : ℕ) (problem steps actions : List ℕ) (at : Places) (c : List ℕ) (case : Case) (levels : ℕ) (T : Task) : Type 0 where
   pub stands : TaskStands problem steps actions at.initial at.goal T
   pub case_at : CaseAt size T case
-  pub table : Table c (λ j. blockCase (values_of T case) case.k levels j)
+  pub table : Table c (λ j. block_case (values_of T case) case.k levels j)
 
 abbrev pub WalksBlock : ℕ → List ℕ → List ℕ → List ℕ → Places → List ℕ → Case → ℕ → ℕ → Ending → List ℕ → ℕ → List ℕ → Type 0
 WalksBlock size problem steps actions at c case levels g r before to after =
@@ -88,10 +88,10 @@ pub record NodeFits (size : ℕ) (b : Block) (case : Case) (lane : ℕ) : Type 0
   pub fits : CaseFits size case
   pub few : b.levels ≤ 5
   pub inside : b.first + b.levels ≤ case.k + case.left
-  pub below-first : b.first ≤ case.k
+  pub below_first : b.first ≤ case.k
   pub within : case.k ≤ b.first + b.levels
-  pub lane-from : 2 ^ (case.k - b.first) ≤ lane
-  pub lane-to : lane < 2 ^ suc (case.k - b.first)
+  pub lane_from : 2 ^ (case.k - b.first) ≤ lane
+  pub lane_to : lane < 2 ^ suc (case.k - b.first)
 
 -- what the block's words say of each lane's case is what a visit finds there, and this lane's case is `case`
 pub record NodeAt (size : ℕ) (problem steps actions : List ℕ) (at : Places) (c : List ℕ) (b : Block) (case : Case) (lane : ℕ) (T : Task) : Type 0 where
@@ -99,13 +99,13 @@ pub record NodeAt (size : ℕ) (problem steps actions : List ℕ) (at : Places) 
   pub case_at : CaseAt size T case
   pub root : List Kleene
   pub sized : length root ≡ T.facts
-  pub table : Table c (λ j. blockCase root b.first b.levels j)
+  pub table : Table c (λ j. block_case root b.first b.levels j)
   pub looked :
       (j : ℕ) → j < 64 →
-      lookBits (laneBit j b.empty) (laneBit j b.carries) ≡
-      look_of (eval three (blockCase root b.first b.levels j) T.initial)
-      (run three T.facts T.goal T.plan 0 (blockCase root b.first b.levels j))
-  pub lane-is : blockCase root b.first b.levels lane ≡ values_of T case
+      look_bits (lane_bit j b.empty) (lane_bit j b.carries) ≡
+      look_of (eval three (block_case root b.first b.levels j) T.initial)
+      (run three T.facts T.goal T.plan 0 (block_case root b.first b.levels j))
+  pub lane_is : block_case root b.first b.levels lane ≡ values_of T case
 
 abbrev pub WalksNode : ℕ → List ℕ → List ℕ → List ℕ → Places → List ℕ → Block → Case → ℕ → ℕ → Ending → List ℕ → ℕ → List ℕ → Type 0
 WalksNode size problem steps actions at c b case lane g r before to after =

@@ -1,7 +1,7 @@
 // The walk over cases, for judging and for writing alike. A block is a case and the cases of its next five facts, looked at in one pass; the
 // walk goes through it depth first, and an open case at its edge begins a block of its own. The grant that is left goes in, the visits come
 // out, and each closed case is a line in the buffer, where that has room.
-ghost use Rattle.std.specs.Prelude.{◌≡◌, ◌+◌, ◌^◌, ◌<◌, length};
+ghost use Rattle.std.specs.Prelude.{◌+◌, ◌^◌, ◌<◌};
 ghost use Rattle.walk.specs.Walks.{LevelsOf, BlockFits, NodeFits, WalksBlock, WalksNode, WalksParts, Addable, Joins};
 
 use blocks::Places;
@@ -16,7 +16,7 @@ const EMPTY: u8 = 0;
 const CARRIES: u8 = 1;
 
 // A case: it fixes the first k facts to the top bits of `number`, and leaves `left` more open.
-#[derive(Drop)]
+#[derive(Clone, Copy)]
 pub struct Case {
     pub k: usize,
     pub left: usize,
@@ -25,7 +25,7 @@ pub struct Case {
 
 // How the walk of a case ended: out of visits, at a failing start state, or with every case closed, a line for each; `next` is the
 // position after the lines that were written.
-#[derive(Drop)]
+#[derive(Clone, Copy)]
 pub enum Ending {
     Out,
     Failed {
@@ -40,7 +40,7 @@ pub enum Ending {
 }
 
 // A block that was looked at: its case fixes `first` facts, it has so many levels below, and these lanes are empty or carry.
-#[derive(Drop)]
+#[derive(Clone, Copy)]
 pub struct Block {
     pub first: usize,
     pub levels: usize,
@@ -82,7 +82,7 @@ fn joined(lines: u64, visits: u64, second: Ending) -> Ending
 }
 
 // The walk from a case whose block this table is.
-#[cycle(walk_block_walk_node_walk_parts)]
+#[cycle(blocks)]
 pub fn walk_block(
     problem: &[u8],
     steps: &[u8],
@@ -96,7 +96,7 @@ pub fn walk_block(
     out: &mut [u8],
     to: usize,
 ) -> Ending
-    requires { (length c.now ≡ 256) × BlockFits size case levels }
+    requires { BlockFits size case levels }
     ensures { WalksBlock size problem.now steps.now actions.now at c.now case levels grant result out.old to out.new }
 {
     let found = look_at_cases(problem, steps, actions, at.initial, at.goal, c);
@@ -112,7 +112,7 @@ pub fn walk_block(
 }
 
 // The walk from a lane's case.
-#[cycle(walk_block_walk_node_walk_parts)]
+#[cycle(blocks)]
 pub fn walk_node(
     problem: &[u8],
     steps: &[u8],
@@ -127,13 +127,15 @@ pub fn walk_node(
     out: &mut [u8],
     to: usize,
 ) -> Ending
-    requires { (length c.now ≡ 256) × NodeFits size block case lane }
+    requires { NodeFits size block case lane }
     ensures { WalksNode size problem.now steps.now actions.now at c.now block case lane grant result out.old to out.new }
 {
-    if grant == 0 {
+    let spent = grant == 0;
+    if spent {
         return Ending::Out;
     }
-    if lane_bit(block.empty, lane) == 1 {
+    let empty = lane_bit(block.empty, lane) == 1;
+    if empty {
         let next = add_line(out, to, size, EMPTY, case.k, case.number);
         return Ending::Closed {
             lines: 1,
@@ -141,7 +143,8 @@ pub fn walk_node(
             next,
         };
     }
-    if lane_bit(block.carries, lane) == 1 {
+    let carries = lane_bit(block.carries, lane) == 1;
+    if carries {
         let next = add_line(out, to, size, CARRIES, case.k, case.number);
         return Ending::Closed {
             lines: 1,
@@ -165,7 +168,8 @@ pub fn walk_node(
             to,
         );
     }
-    if case.left == 0 {
+    let fixed = case.left == 0;
+    if fixed {
         return Ending::Failed {
             state: case.number,
             visits: 1,
@@ -181,7 +185,7 @@ pub fn walk_node(
 }
 
 // The walk of an open case's two parts, its next fact no and then yes.
-#[cycle(walk_block_walk_node_walk_parts)]
+#[cycle(blocks)]
 fn walk_parts(
     problem: &[u8],
     steps: &[u8],
@@ -196,7 +200,9 @@ fn walk_parts(
     out: &mut [u8],
     to: usize,
 ) -> Ending
-    requires { (length c.now ≡ 256) × NodeFits size block case lane × (case.k < block.first + block.levels) × (grant + 1 < 2 ^ 64) }
+    requires fits { NodeFits size block case lane }
+    requires inner { case.k < block.first + block.levels }
+    requires counts { grant + 1 < 2 ^ 64 }
     ensures { WalksParts size problem.now steps.now actions.now at c.now block case lane grant result out.old to out.new }
 {
     let first = Case {

@@ -1,4 +1,5 @@
 // The walk over cases under a grant of visits, for judging and for writing alike.
+#![tactic(auto)]
 
 pub mod cases;
 pub mod task;

@@ -6,7 +6,6 @@ ghost use Rattle.walk.specs.Walks.{LevelsOf, WalksTask};
 use crate::cases::{Case, Ending, walk_block};
 use blocks::Places;
 use model::{Limits, Problem};
-use numbers::wide;
 use table::{fix_levels, none_fixed};
 
 // The levels of the first block: the odd ones, so that all blocks below it are full.
@@ -26,10 +25,11 @@ pub fn walk_task(
     out: &mut [u8],
     to: usize,
 ) -> Ending
-    requires { Sensible limits × (parts.facts ≤ limits.facts) }
+    requires limits { Sensible limits }
+    requires few { parts.facts ≤ limits.facts }
     ensures { WalksTask limits problem.now steps.now parts grant result out.old to out.new }
 {
-    let facts = wide(parts.facts);
+    let facts = parts.facts as usize;
     let at = Places {
         initial: parts.initial,
         goal: parts.goal,
