@@ -8,7 +8,7 @@ use Rattle.model.specs.Answer as Answer
 use Rattle.model.specs.Answer.{Answer, refused, answered}
 use Rattle.model.specs.Case.{Task}
 use Rattle.model.specs.Walk.{Verdict, judged}
-use Rattle.model.specs.Operations.{readTask, lineCount, judge}
+use Rattle.model.specs.Operations.{read_task, line_count, judge}
 use Rattle.model.proofs.Laws.Tasks.{answer-then}
 use Rattle.model.proofs.Demands.{version1-holds}
 use Rattle.judge.specs.Promise.{JudgePromised}
@@ -23,6 +23,6 @@ refused-by-reading (answered T) n q k e = let z : ◌≡◌ {A = ℕ} 0 1 = cc i
 pub judge-promised :
     (problem plan : List ℕ) (g : ℕ) (r : Answer (Verdict ℕ)) → r ≡ judge version1 problem plan g → JudgePromised problem plan g r
 unfolding judge
-judge-promised problem plan g (refused n q) e = refused-by-reading (readTask version1 problem plan) n q (λ T. lineCount (judged T g)) (sym e)
+judge-promised problem plan g (refused n q) e = refused-by-reading (read_task version1 problem plan) n q (λ T. line_count (judged T g)) (sym e)
 judge-promised problem plan g (answered v) e =
-    answer-then (sym e) λ T h k. (T, h, (version1-holds.demand2 problem plan T h).judge-says g v (sym e))
+    answer-then (sym e) λ T h k. (T, h, (version1-holds.demand2 problem plan T h).judge_says g v (sym e))

@@ -4,12 +4,12 @@ use Rattle.model.specs.Limits.{version1}
 use Rattle.model.specs.Answer.{Answer, refused, answered}
 use Rattle.model.specs.Case.{Task}
 use Rattle.model.specs.Walk.{Verdict}
-use Rattle.model.specs.Operations.{readTask}
+use Rattle.model.specs.Operations.{read_task}
 use Rattle.model.specs.Demands.{Says}
 
 -- A refusal is the reader's. Otherwise the problem and the plan are read as some T, and the verdict says what demand 2 asks of it: right
 -- and a solution of document 004; wrong with the lowest failing start state and where it fails; undecided where the walk needs more visits
 -- than granted; and each with the visits of the walk.
 abbrev pub JudgePromised : List ℕ → List ℕ → ℕ → Answer (Verdict ℕ) → Type 0
-JudgePromised problem plan grant (refused n q) = readTask version1 problem plan ≡ refused n q
-JudgePromised problem plan grant (answered v) = (T : Task) × (readTask version1 problem plan ≡ answered T) × Says T grant v
+JudgePromised problem plan grant (refused n q) = read_task version1 problem plan ≡ refused n q
+JudgePromised problem plan grant (answered v) = (T : Task) × (read_task version1 problem plan ≡ answered T) × Says T grant v
