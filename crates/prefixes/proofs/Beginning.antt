@@ -1,7 +1,7 @@
 -- Plans that begin alike share the table after their first steps. Assumes nothing.
 use mathlib.Core.Path.{◌≡◌, refl, sym, ap, ◌∙◌, subst}
 use mathlib.Core.List.{List, [], ◌∷◌, ◌++◌, append-nil}
-use Prim.Native.Nat.{ℕ, ◌+◌, ◌%◌, ◌<◌}
+use Prim.Native.Nat.{ℕ, ◌%◌, ◌<◌}
 use native.Mathlib.Omega.{arith}
 use native.Mathlib.Numerals.{add-one}
 use native.Mathlib.Nat.{mod-eq_of_lt}
@@ -14,7 +14,7 @@ use Rattle.evaluate.specs.Planes.{FormulaPlanes}
 use Rattle.step.specs.declared.conflict.Going.{Going}
 use Rattle.step.specs.Actions.{ObeysAction}
 use Rattle.look.specs.Cases.{Running, RunsCases}
-use Rattle.look.proofs.Lanes.{running-begins, running-stops, running-next, running-ends}
+use Rattle.look.proofs.Lanes.{running-begins, running-stops, running-next, running_ends}
 use Rattle.prefixes.specs.Trying.{Begun, ReachedLanes}
 
 -- before the first step
@@ -71,5 +71,5 @@ reached-some problem goal d alive n r x =
       is =
           λ actions lanes c first B.
           subst (λ (steps : List ℕ). RunsCases problem steps actions goal lanes c (bit_and alive r.sure)) (append-nil first)
-          (running-ends problem (first ++ []) actions goal lanes c (length first) alive d (B.going n []) (omega (arith, length-append {A = ℕ} first [])) r x);
+          (running_ends problem (first ++ []) actions goal lanes c (length first) alive d (B.going n []) (omega (arith, length-append {A = ℕ} first [])) r x);
     }

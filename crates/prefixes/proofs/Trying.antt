@@ -1,6 +1,5 @@
 -- A plan judged with the visits left, and plans one after another. Assumes nothing.
 use mathlib.Core.Path.{◌≡◌, refl, ap, ap₂, ◌∙◌, subst}
-use mathlib.Core.Bool.{true, false}
 use mathlib.Core.List.{List, [], ◌∷◌, ◌++◌, map, append_assoc, map-append}
 use Prim.Native.Nat.{ℕ, suc, ◌+◌, ◌-◌, ◌^◌, ◌≤◌, ◌<◌}
 use native.Mathlib.Omega.{arith}
@@ -10,14 +9,16 @@ use lib.Bits.{bit_xor}
 use lib.Seq.{append_snoc}
 use Rattle.model.specs.declared.Limits.{Limits}
 use Rattle.model.specs.declared.ShortPlan.{ShortPlan}
+use Rattle.model.specs.declared.Search as model
+use Rattle.model.specs.declared.Search.TheVariants.{Found, NoneRight, Undecided}
 use Rattle.model.specs.Case.{Task}
 use Rattle.model.specs.Walk.{covered, failed, visits, walk, walked}
 use Rattle.model.specs.ProblemBytes.{Problem}
 use Rattle.model.specs.Operations.{task_of}
 use Rattle.model.specs.WellFormed.{Each}
-use Rattle.model.specs.Answers.{shortSteps, Room}
+use Rattle.model.specs.Answers.{short_steps, Room}
 use Rattle.model.specs.Planes.{ones}
-use Rattle.model.specs.Search.{Search, firstRight, undecidedAt, eachStep, search}
+use Rattle.model.specs.Search.{Search, first_right, undecided_at, each_step, search}
 use Rattle.model.proofs.Laws.Judging.{judged-in, judged-out}
 use Rattle.look.specs.Cases.{RunsCases, LooksAtCases}
 use Rattle.look.proofs.Lanes.{looks-at}
@@ -25,8 +26,7 @@ use Rattle.walk.specs.declared.cases.Ending.{Ending}
 use Rattle.walk.specs.declared.cases.Ending.TheVariants.{Out, Failed, Closed}
 use Rattle.walk.specs.Walks.{Ended, Counted, walk_of}
 use Rattle.prefixes.specs.declared.plan.Root.{Root}
-use Rattle.prefixes.specs.declared.plan.Progress.{Progress}
-use Rattle.prefixes.specs.Trying.{RootAt, WalksPlan, Extends, TriesPlan}
+use Rattle.prefixes.specs.Trying.{RootAt, WalksPlan, TriesPlan}
 
 -- ---- one plan
 
@@ -59,7 +59,7 @@ module _ (problem steps actions : List ℕ) (root : Root) (c : List ℕ) (carrie
             (w.is T
             (record {
               stands = A.stands steps below;
-              case_at = record { width = A.width; left-facts = omega (arith, A.facts); begins = zero-mod (2 ^ (F.width - 0)) };
+              case_at = record { width = A.width; left_facts = omega (arith, A.facts); begins = zero-mod (2 ^ (F.width - 0)) };
               table = A.table;
             })),
       )
@@ -68,7 +68,7 @@ module _ (problem steps actions : List ℕ) (root : Root) (c : List ℕ) (carrie
   Search-is s ps grant used = search (task_of F P) grant (steps ∷ ps) used ≡ s
 
   -- what its verdict makes of a search
-  search-out : e ≡ Out → (ps : List (List ℕ)) (grant used : ℕ) → g ≡ grant - used → Search-is (undecidedAt steps grant) ps grant used
+  search-out : e ≡ Out → (ps : List (List ℕ)) (grant used : ℕ) → g ≡ grant - used → Search-is (undecided_at steps grant) ps grant used
   unfolding search
   search-out i ps grant used z =
       let (before, after, w) = plan-ended in
@@ -82,7 +82,7 @@ module _ (problem steps actions : List ℕ) (root : Root) (c : List ℕ) (carrie
       let (k, l) = subst (λ (x : Ending). Ended root.size g (walked T) x before 0 after) i w in
       rw (← z, judged-in T plan-fits g (failed s a) k (omega (arith, ap visits k)))
 
-  search-closed : (n a next : ℕ) → e ≡ Closed n a next → (ps : List (List ℕ)) (grant used : ℕ) → g ≡ grant - used → Search-is (firstRight steps (used + a)) ps grant used
+  search-closed : (n a next : ℕ) → e ≡ Closed n a next → (ps : List (List ℕ)) (grant used : ℕ) → g ≡ grant - used → Search-is (first_right steps (used + a)) ps grant used
   unfolding search
   search-closed n a next i ps grant used z =
       let (before, after, w) = plan-ended in
@@ -90,35 +90,35 @@ module _ (problem steps actions : List ℕ) (root : Root) (c : List ℕ) (carrie
       rw (← z, judged-in T plan-fits g (covered ls a) k (omega (arith, ap visits k)))
 
 module _ (problem : List ℕ) (plan : ShortPlan) (actions : List ℕ) (root : Root) (c : List ℕ) (carries used grant : ℕ) (e : Ending)
-    (steps : List ℕ) (own : steps ≡ shortSteps plan) (m : Room plan 0) (u : used ≤ grant) (W : WalksPlan problem steps actions root c carries (grant - used) e) where
-  abbrev Tried-plan : Progress → Type 0
+    (steps : List ℕ) (own : steps ≡ short_steps plan) (m : Room plan 0) (u : used ≤ grant) (W : WalksPlan problem steps actions root c carries (grant - used) e) where
+  abbrev Tried-plan : model.Search → Type 0
   Tried-plan r = TriesPlan problem plan actions root c carries used grant r
 
-  own-walk : WalksPlan problem (shortSteps plan) actions root c carries (grant - used) e
+  own-walk : WalksPlan problem (short_steps plan) actions root c carries (grant - used) e
   own-walk = subst (λ (s : List ℕ). WalksPlan problem s actions root c carries (grant - used) e) own W
 
-  pub tried-out : e ≡ Out → Tried-plan (record { ended = true; right = false; used = grant; plan = plan })
+  pub tried-out : e ≡ Out → Tried-plan (Undecided plan grant)
   tried-out i =
       record {
         within = omega arith;
         room = m;
-        is = λ F P A b R ps. search-out problem (shortSteps plan) actions root c carries (grant - used) e own-walk F P A b R i ps grant used refl;
+        is = λ F P A b R ps. search-out problem (short_steps plan) actions root c carries (grant - used) e own-walk F P A b R i ps grant used refl;
       }
 
-  pub tried-failed : (s a : ℕ) → e ≡ Failed s a → used + a ≤ grant → Tried-plan (record { ended = false; right = false; used = used + a; plan = plan })
+  pub tried-failed : (s a : ℕ) → e ≡ Failed s a → used + a ≤ grant → Tried-plan (NoneRight (used + a))
   tried-failed s a i l =
       record {
         within = l;
-        room = m;
-        is = λ F P A b R ps. search-failed problem (shortSteps plan) actions root c carries (grant - used) e own-walk F P A b R s a i ps grant used refl;
+        room = tt;
+        is = λ F P A b R ps. search-failed problem (short_steps plan) actions root c carries (grant - used) e own-walk F P A b R s a i ps grant used refl;
       }
 
-  pub tried-closed : (n a next : ℕ) → e ≡ Closed n a next → used + a ≤ grant → Tried-plan (record { ended = true; right = true; used = used + a; plan = plan })
+  pub tried-closed : (n a next : ℕ) → e ≡ Closed n a next → used + a ≤ grant → Tried-plan (Found plan (used + a))
   tried-closed n a next i l =
       record {
         within = l;
         room = m;
-        is = λ F P A b R ps. search-closed problem (shortSteps plan) actions root c carries (grant - used) e own-walk F P A b R n a next i ps grant used refl;
+        is = λ F P A b R ps. search-closed problem (short_steps plan) actions root c carries (grant - used) e own-walk F P A b R n a next i ps grant used refl;
       }
 
 pub failed-spends : (used grant s a : ℕ) (e : Ending) → used ≤ grant → Counted (grant - used) e → e ≡ Failed s a → used + a ≤ grant
@@ -132,11 +132,11 @@ closed-spends used grant n a next e u k i = let (l, _) = subst (Counted (grant -
 -- the next step, and then those after it
 pub steps_next :
     (first : List ℕ) (n a : ℕ) (qs ps : List (List ℕ)) →
-    map (λ q. first ++ q) (eachStep (suc n) a qs) ++ ps ≡ map (λ q. first ++ q) (map (λ q. a ∷ q) qs) ++ (map (λ q. first ++ q) (eachStep n (suc a) qs) ++ ps)
-unfolding eachStep
+    map (λ q. first ++ q) (each_step (suc n) a qs) ++ ps ≡ map (λ q. first ++ q) (map (λ q. a ∷ q) qs) ++ (map (λ q. first ++ q) (each_step n (suc a) qs) ++ ps)
+unfolding each_step
 steps_next first n a qs ps =
-    ap (λ (l : List (List ℕ)). l ++ ps) (map-append (λ q. first ++ q) (map (λ q. a ∷ q) qs) (eachStep n (suc a) qs)) ∙
-    append_assoc (map (λ q. first ++ q) (map (λ q. a ∷ q) qs)) (map (λ q. first ++ q) (eachStep n (suc a) qs)) ps
+    ap (λ (l : List (List ℕ)). l ++ ps) (map-append (λ q. first ++ q) (map (λ q. a ∷ q) qs) (each_step n (suc a) qs)) ∙
+    append_assoc (map (λ q. first ++ q) (map (λ q. a ∷ q) qs)) (map (λ q. first ++ q) (each_step n (suc a) qs)) ps
 
 -- a step is the last of what comes first, or the first of what comes after
 pub step-moves : (first : List ℕ) (a : ℕ) (qs : List (List ℕ)) → map (λ q. first ++ (a ∷ []) ++ q) qs ≡ map (λ q. first ++ q) (map (λ q. a ∷ q) qs)
@@ -147,6 +147,3 @@ step-moves first a (q ∷ qs) = ap₂ (λ (x : List ℕ) (l : List (List ℕ)). 
 
 pub room-less : (plan : ShortPlan) (more k : ℕ) → Room plan more → k ≤ more → Room plan k
 room-less plan more k R h = record { size = R.size; fits = omega (arith, R.fits) }
-
-pub room_next : (plan next : ShortPlan) (step more : ℕ) → Extends plan step next → Room plan (more + 1) → Room next more
-room_next plan next step more x R = record { size = x.size ∙ R.size; fits = omega (arith, R.fits, x.length-is) }

@@ -1,17 +1,16 @@
 // The plans of a problem, tried one after another. Those that begin alike share the table of cases after their first steps, so that a plan costs
 // its last step and the goal before the walk goes through the looks.
-ghost use Rattle.std.specs.Prelude.{◌≡◌, ◌+◌, ◌≤◌, ◌<◌, length};
+ghost use Rattle.std.specs.Prelude.{◌+◌, ◌≤◌, ◌<◌};
 ghost use Rattle.model.specs.Answers.{Room};
-ghost use Rattle.model.specs.Limits.{maxLength};
+ghost use Rattle.model.specs.Limits.{max_length};
 ghost use Rattle.prefixes.specs.Trying.{RootFits, TriesBelow, TriesStep, TriesLengths};
 
-use crate::plan::{Progress, Root, extended, reached_lanes, try_plan};
-use crate::wide;
-use model::ShortPlan;
+use crate::plan::{Root, extended, reached_lanes, try_plan};
+use model::{Search, ShortPlan};
 use step::obey_action;
 
 // Every plan that begins with the steps of `plan` and has so many more: `current` is the table after these steps, in the lanes `alive`.
-#[cycle(try_below_try_step)]
+#[cycle(plans)]
 fn try_below(
     problem: &[u8],
     actions: &[usize; 64],
@@ -25,19 +24,19 @@ fn try_below(
     grant: u64,
     found: &mut [u64; 256],
     literals: &mut [u8; 128],
-) -> Progress
-    requires { (length c.now ≡ 256) × (length current.now ≡ 256) × (length found.old ≡ 256) × (length literals.old ≡ 128) × RootFits root × Room plan more × (used ≤ grant) }
-    ensures { TriesBelow problem.now actions.now root c.now current.now alive plan more used grant result × (length found.new ≡ 256) × (length literals.new ≡ 128) }
+) -> Search
+    requires fits { RootFits root }
+    requires room { Room plan more }
+    requires within { used ≤ grant }
+    ensures { TriesBelow problem.now actions.now root c.now current.now alive plan more used grant result }
 {
     if more == 0 {
-        let goal = root.at.goal;
-        let carries = reached_lanes(problem, goal, current, alive);
+        let carries = reached_lanes(problem, root.at.goal, current, alive);
         return try_plan(problem, plan, actions, root, c, carries, used, grant);
     }
     let mut spent = used;
-    let mut step: u8 = 0;
-    while step < root.actions {
-        let came = try_step(
+    for step in 0..root.actions {
+        match try_step(
             problem,
             actions,
             root,
@@ -51,23 +50,20 @@ fn try_below(
             grant,
             found,
             literals,
-        );
-        if came.ended {
-            return came;
+        ) {
+            Search::NoneRight { visits } => {
+                spent = visits;
+            }
+            ended => {
+                return ended;
+            }
         }
-        spent = came.used;
-        step = step + 1;
     }
-    Progress {
-        ended: false,
-        right: false,
-        used: spent,
-        plan,
-    }
+    Search::NoneRight { visits: spent }
 }
 
 // Those whose next step is `step`, with so many more after it. Where no lane goes on there is nothing to obey.
-#[cycle(try_below_try_step)]
+#[cycle(plans)]
 fn try_step(
     problem: &[u8],
     actions: &[usize; 64],
@@ -82,9 +78,12 @@ fn try_step(
     grant: u64,
     found: &mut [u64; 256],
     literals: &mut [u8; 128],
-) -> Progress
-    requires { (length c.now ≡ 256) × (length current.now ≡ 256) × (length found.old ≡ 256) × (length literals.old ≡ 128) × RootFits root × (step < root.actions) × Room plan (more + 1) × (used ≤ grant) }
-    ensures { TriesStep problem.now actions.now root c.now current.now alive plan step more used grant result × (length found.new ≡ 256) × (length literals.new ≡ 128) }
+) -> Search
+    requires fits { RootFits root }
+    requires action { step < root.actions }
+    requires room { Room plan (more + 1) }
+    requires within { used ≤ grant }
+    ensures { TriesStep problem.now actions.now root c.now current.now alive plan step more used grant result }
 {
     let next = extended(plan, step);
     if alive == 0 {
@@ -93,14 +92,8 @@ fn try_step(
         );
     }
     let mut after = *current;
-    let going = obey_action(
-        problem,
-        actions[wide(step)],
-        &mut after,
-        found,
-        literals,
-        alive,
-    );
+    let slot = step as usize;
+    let going = obey_action(problem, actions[slot], &mut after, found, literals, alive);
     try_below(
         problem,
         actions,
@@ -125,8 +118,9 @@ pub fn try_lengths(
     c: &[u64; 256],
     longest: usize,
     grant: u64,
-) -> Progress
-    requires { (length c.now ≡ 256) × RootFits root × (longest ≤ maxLength) }
+) -> Search
+    requires fits { RootFits root }
+    requires few { longest ≤ max_length }
     ensures { TriesLengths problem.now actions.now root c.now longest grant result }
 {
     let mut found = [0u64; 256];
@@ -136,9 +130,8 @@ pub fn try_lengths(
         steps: [0u8; ShortPlan::MAX_STEPS],
     };
     let mut used: u64 = 0;
-    let mut length: usize = 0;
-    while length <= longest {
-        let came = try_below(
+    for length in 0..longest + 1 {
+        match try_below(
             problem,
             actions,
             root,
@@ -151,17 +144,14 @@ pub fn try_lengths(
             grant,
             &mut found,
             &mut literals,
-        );
-        if came.ended {
-            return came;
+        ) {
+            Search::NoneRight { visits } => {
+                used = visits;
+            }
+            ended => {
+                return ended;
+            }
         }
-        used = came.used;
-        length = length + 1;
     }
-    Progress {
-        ended: false,
-        right: false,
-        used,
-        plan,
-    }
+    Search::NoneRight { visits: used }
 }

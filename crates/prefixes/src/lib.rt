@@ -1,8 +1,8 @@
 // The plans of a problem up to a length, tried in order by their prefixes (document 02, W-205).
+#![tactic(auto)]
 
 pub mod below;
 pub mod plan;
 
 pub use below::try_lengths;
-use numbers::wide;
-pub use plan::{Progress, Root};
+pub use plan::Root;
