@@ -1,29 +1,26 @@
 -- The plans up to a length are few enough to be counted. Assumes nothing.
-use mathlib.Core.Path.{◌≡◌, refl, ap, ◌∙◌}
+use mathlib.Core.Path.{◌≡◌, refl}
 use Prim.Native.Nat.{ℕ, zero, suc, ◌+◌, ◌*◌, ◌^◌, ◌≤◌, ◌<◌}
 use native.Mathlib.Omega.{arith}
 use native.Mathlib.Nat.{mul-le-mul}
 use native.Mathlib.Numerals.{add-one}
 use lib.Pow.{pow_pos, pow_mono, pow-add}
-use Rattle.model.specs.Search.{planCount}
+use Rattle.model.specs.Search.{plan_count}
 
-count-bound : (m l : ℕ) → m ≤ 64 → planCount m l ≤ 2 ^ (7 * l)
-unfolding planCount
+count-bound : (m l : ℕ) → m ≤ 64 → plan_count m l ≤ 2 ^ (7 * l)
+unfolding plan_count
 count-bound m zero h = omega arith
 count-bound m (suc l) h =
     let e : 7 * suc l ≡ 7 + 7 * l = omega arith in
-    let i : planCount m (suc l) ≡ m * planCount m l + 1 = refl in
+    let i : plan_count m (suc l) ≡ m * plan_count m l + 1 = refl in
     rw (e, pow-add 2 7 (7 * l), i) (omega (arith, mul-le-mul h (count-bound m l h), pow_pos (7 * l)))
 
-module _ (m l count : ℕ) (e : count ≡ planCount m l) where
+module _ (m l count : ℕ) (e : count ≡ plan_count m l) where
   pub count_room : (longest : ℕ) → m ≤ 64 → l < longest → longest ≤ 4 → m * count + 1 < 2 ^ 64
   count_room longest h k o =
       let b : 2 ^ (7 * l) ≤ 2 ^ 21 = pow_mono {j = 21} (omega arith) in
       rw e (omega (arith, mul-le-mul h (count-bound m l h)))
 
-  pub count_next : m * count + 1 ≡ planCount m (l + 1)
-  unfolding planCount
+  pub count_next : m * count + 1 ≡ plan_count m (l + 1)
+  unfolding plan_count
   count_next = rw (e, add-one l) refl
-
-  pub count-all : (longest : ℕ) → l ≤ longest → longest ≤ l → count ≡ planCount m longest
-  count-all longest h k = let i : l ≡ longest = omega arith in e ∙ ap (planCount m) i

@@ -5,18 +5,18 @@ use mathlib.Core.List.{List}
 use Prim.Native.Nat.{ℕ}
 use Rattle.model.specs.Limits.{version1}
 use Rattle.model.specs.Answer.{Answer, refused, answered}
-use Rattle.model.specs.ProblemBytes.{Problem, problemOf}
+use Rattle.model.specs.ProblemBytes.{Problem, problem_of}
 use Rattle.model.specs.Search.{Search}
-use Rattle.model.specs.Operations.{searchPlans}
+use Rattle.model.specs.Operations.{search_plans}
 use Rattle.model.proofs.Demands.{version1-sensible, version1-holds}
 use Rattle.model.proofs.Laws.Searching.{answers-or-refuses}
 use Rattle.search.specs.Promise.{SearchPromised}
 
 module _ (problem : List ℕ) (longest grant : ℕ) where
   abbrev gives : Answer Search
-  gives = searchPlans version1 problem longest grant
+  gives = search_plans version1 problem longest grant
 
-  read-promised : (p : Problem) → problemOf version1 problem ≡ answered p → (r : Answer Search) → r ≡ gives → SearchPromised problem longest grant r
+  read-promised : (p : Problem) → problem_of version1 problem ≡ answered p → (r : Answer Search) → r ≡ gives → SearchPromised problem longest grant r
   read-promised p h r e =
       elim (answers-or-refuses version1 version1-sensible problem p h longest) [
         | inl (l, f, a) ↦
@@ -26,11 +26,11 @@ module _ (problem : List ℕ) (longest grant : ℕ) where
       ]
 
   pub search-promised : (r : Answer Search) → r ≡ gives → SearchPromised problem longest grant r
-  search-promised r e = by-problem (problemOf version1 problem) refl
+  search-promised r e = by-problem (problem_of version1 problem) refl
     where
-      same : (n q : ℕ) → problemOf version1 problem ≡ refused n q → r ≡ refused n q → SearchPromised problem longest grant r
+      same : (n q : ℕ) → problem_of version1 problem ≡ refused n q → r ≡ refused n q → SearchPromised problem longest grant r
       same n q h k = rw k (inl h)
 
-      by-problem : (x : Answer Problem) → problemOf version1 problem ≡ x → SearchPromised problem longest grant r
-      by-problem (refused n q) h = same n q h (e ∙ version1-holds.demand1.problem-refuses-first problem longest grant n q h)
+      by-problem : (x : Answer Problem) → problem_of version1 problem ≡ x → SearchPromised problem longest grant r
+      by-problem (refused n q) h = same n q h (e ∙ version1-holds.demand1.problem_refuses_first problem longest grant n q h)
       by-problem (answered p) h = read-promised p h r e

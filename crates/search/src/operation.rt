@@ -1,31 +1,29 @@
 // Try every short plan, in order.
 ghost use Rattle.std.specs.Prelude.{◌≡◌, ◌≤◌};
-ghost use Rattle.model.specs.Limits.{version1, maxActions, maxLength};
+ghost use Rattle.model.specs.Limits.{version1, max_actions, max_length};
 ghost use Rattle.model.specs.WellFormed.{Sensible};
-ghost use Rattle.model.specs.Search.{planCount};
-ghost use Rattle.model.specs.Operations.{searchPlans};
-ghost use Rattle.model.specs.Answers.{refusal as refusalOf, Room, searchAnswer};
-ghost use Rattle.search.specs.Problems.{TriesProblem, Ends};
+ghost use Rattle.model.specs.Search.{plan_count};
+ghost use Rattle.model.specs.Operations.{search_plans};
+ghost use Rattle.model.specs.Answers.{search_answer, search_room};
+ghost use Rattle.search.specs.Problems.{TriesProblem};
 ghost use Rattle.search.specs.Promise.{SearchPromised};
 
-use crate::wide;
 use blocks::{Places, find_problem};
 use evaluate::formula_planes;
-use model::{Limits, Problem, Refusal, SearchAnswer, SearchEnd, ShortPlan};
-use prefixes::{Progress, Root, try_lengths};
+use model::{Limits, Problem, Refusal, Search, ShortPlan};
+use prefixes::{Root, try_lengths};
 use table::{fix_levels, none_fixed};
 use walk::first_levels;
 
 // The plans up to a length: the empty one, and each action before every plan that is a step shorter.
 fn plan_count(actions: u64, longest: u64) -> u64
-    requires { (actions ≤ maxActions) × (longest ≤ maxLength) }
-    ensures { result ≡ planCount actions longest }
+    requires few { actions ≤ max_actions }
+    requires short { longest ≤ max_length }
+    ensures { result ≡ plan_count actions longest }
 {
     let mut count: u64 = 1;
-    let mut length: u64 = 0;
-    while length < longest {
+    for _ in 0..longest {
         count = actions * count + 1;
-        length = length + 1;
     }
     count
 }
@@ -37,11 +35,14 @@ fn search_problem(
     limits: Limits,
     longest: usize,
     grant: u64,
-) -> Progress
-    requires { Sensible limits × (parts.facts ≤ limits.facts) × (parts.actions ≤ maxActions) × (longest ≤ maxLength) }
+) -> Search
+    requires limits { Sensible limits }
+    requires facts { parts.facts ≤ limits.facts }
+    requires few { parts.actions ≤ max_actions }
+    requires short { longest ≤ max_length }
     ensures { TriesProblem limits problem.now parts longest grant result }
 {
-    let facts = wide(parts.facts);
+    let facts = parts.facts as usize;
     let levels = first_levels(facts);
     let mut c = none_fixed(facts);
     fix_levels(&mut c, 0, levels);
@@ -61,64 +62,28 @@ fn search_problem(
     try_lengths(problem, &actions, root, &c, longest, grant)
 }
 
-fn refused(refusal: Refusal) -> SearchAnswer
-    ensures { (searchAnswer result ≡ refusalOf refusal) × Room result.plan 0 }
-{
-    let plan = ShortPlan {
-        length: 0,
-        steps: [0u8; ShortPlan::MAX_STEPS],
-    };
-    SearchAnswer {
-        end: SearchEnd::Refused(refusal),
-        visits: 0,
-        plan,
-    }
-}
-
-// How a search that came so far ends.
-fn ended(came: Progress) -> SearchEnd
-    ensures { Ends came result }
-{
-    if came.ended {
-        if came.right {
-            return SearchEnd::Found;
-        }
-        return SearchEnd::Undecided;
-    }
-    SearchEnd::NoneRight
-}
-
 // Try every plan up to a length: the problem's refusals; 43 for a length over 4; 44 for more than 1,000,000 plans; or the first right plan,
 // that none is right, or undecided with the first plan whose walk needs more than the visits left.
-pub fn search_plans(problem: &[u8], longest: u64, grant: u64) -> SearchAnswer
-    ensures result_value { searchAnswer result ≡ searchPlans version1 problem.now longest grant }
-    ensures search_promised { SearchPromised problem.now longest grant (searchAnswer result) }
-    ensures room { Room result.plan 0 }
+pub fn search_plans(problem: &[u8], longest: u64, grant: u64) -> Result<Search, Refusal>
+    ensures answer { search_answer result ≡ search_plans version1 problem.now longest grant }
+    ensures promised { SearchPromised problem.now longest grant (search_answer result) }
+    ensures room { search_room result }
 {
     let limits = Limits::version1();
-    let found = find_problem(problem, limits);
-    if found.refused {
-        let refusal = found.refusal;
-        return refused(refusal);
-    }
-    let parts = found.problem;
-    if longest > ShortPlan::MAX_STEPS as u64 {
-        return refused(Refusal {
+    let parts = find_problem(problem, limits)?;
+    let long = longest > ShortPlan::MAX_STEPS as u64;
+    if long {
+        return Err(Refusal {
             number: 43,
             place: 0,
         });
     }
-    if plan_count(parts.actions as u64, longest) > ShortPlan::MAX_PLANS {
-        return refused(Refusal {
+    let many = plan_count(parts.actions as u64, longest) > ShortPlan::MAX_PLANS;
+    if many {
+        return Err(Refusal {
             number: 44,
             place: 0,
         });
     }
-    let came = search_problem(problem, parts, limits, longest as usize, grant);
-    let plan = came.plan;
-    SearchAnswer {
-        end: ended(came),
-        visits: came.used,
-        plan,
-    }
+    Ok(search_problem(problem, parts, limits, longest as usize, grant))
 }
