@@ -1,15 +1,14 @@
 -- What following one line answers.
-use Rattle.std.specs.Prelude.{◌≡◌, Bool, List, ℕ, ◌+◌, ◌-◌, ◌^◌, ◌≤◌, ◌<◌, length}
+use Rattle.std.specs.Prelude.{◌≡◌, Bool, List, ℕ, ◌+◌, ◌-◌, ◌^◌, ◌≤◌, ◌<◌, length, Result, Ok, Err}
 use Rattle.model.specs.Case.{case_of, Task}
-use Rattle.model.specs.Walk.{lookAt}
+use Rattle.model.specs.Walk.{look_at}
 use Rattle.model.specs.Planes.{Table}
 use Rattle.model.specs.CaseList.{claims, fault}
 use Rattle.model.specs.Stands.{TaskStands}
 use Rattle.blocks.specs.declared.problem.Places.{Places}
-use Rattle.lines.specs.Lines.{width_of, lineNumber}
+use Rattle.lines.specs.Lines.{width_of, line_number}
+use Rattle.model.specs.declared.Refusal.{Refusal}
 use Rattle.claims.specs.declared.Before.{Before}
-use Rattle.claims.specs.declared.Followed.{Followed}
-use Rattle.claims.specs.declared.Followed.TheVariants.{Fault, Next}
 
 -- the lists that are followed, by the bytes of a line: where one of them ends, 2 ^ width, is a word
 pub record Followable (size n : ℕ) : Type 0 where
@@ -31,23 +30,23 @@ Lanes c T k x = Table c (λ j. case_of 64 T.facts k x)
 pub record Claims (problem steps actions : List ℕ) (at : Places) (kind : ℕ) (c : List ℕ) (r : Bool) : Type 0 where
   pub is :
       (T : Task) → TaskStands problem steps actions at.initial at.goal T → (k v : ℕ) → Table c (λ j. case_of T.width T.facts k v) →
-      r ≡ claims kind (lookAt T k v)
+      r ≡ claims kind (look_at T k v)
 
--- the line numbered i, which should begin at x: its first fault, or where it ends, and its case in the table
-abbrev pub LineIs : ℕ → List ℕ → ℕ → ℕ → ℕ → Task → Followed → List ℕ → Type 0
-LineIs size list n i x T (Fault f) d = (fault T.width (lookAt T) n (lineNumber size list i) x ≡ f) × (0 < f)
-LineIs size list n i x T (Next b) d =
-    (fault T.width (lookAt T) n (lineNumber size list i) x ≡ 0) ×
-    (b.end ≡ x + 2 ^ (T.width - (lineNumber size list i).k)) ×
+-- the line numbered i, which should begin at x: its first fault, at the line's number; or where it ends, and its case in the table
+abbrev pub LineIs : ℕ → List ℕ → ℕ → ℕ → ℕ → Task → Result Before Refusal → List ℕ → Type 0
+LineIs size list n i x T (Err r) d = (fault T.width (look_at T) n (line_number size list i) x ≡ r.number) × (0 < r.number) × (r.place ≡ i)
+LineIs size list n i x T (Ok b) d =
+    (fault T.width (look_at T) n (line_number size list i) x ≡ 0) ×
+    (b.end ≡ x + 2 ^ (T.width - (line_number size list i).k)) ×
     Lanes d T b.k b.word
 
 -- the numbers of a line that was followed, whatever stands in the blocks
-abbrev pub NextWithin : ℕ → Followed → Type 0
-NextWithin n (Fault f) = Unit {0}
-NextWithin n (Next b) = b.k ≤ n
+abbrev pub NextWithin : ℕ → Result Before Refusal → Type 0
+NextWithin n (Err r) = Unit {0}
+NextWithin n (Ok b) = b.k ≤ n
 
 -- from the table c, which has the case of the line before, to d
-pub record FollowsLine (size : ℕ) (problem steps actions : List ℕ) (facts : ℕ) (at : Places) (list : List ℕ) (i : ℕ) (b : Before) (c : List ℕ) (r : Followed) (d : List ℕ) : Type 0 where
+pub record FollowsLine (size : ℕ) (problem steps actions : List ℕ) (facts : ℕ) (at : Places) (list : List ℕ) (i : ℕ) (b : Before) (c : List ℕ) (r : Result Before Refusal) (d : List ℕ) : Type 0 where
   pub is :
       (T : Task) → LineTask size problem steps actions facts at T → Lanes c T b.k b.word →
       LineIs size list facts i b.end T r d

@@ -1,17 +1,20 @@
 // One line of a case list: its form, its place, and its claim. A table has the case of the line before in every lane: from one line to the
 // next only the facts in which their cases differ are touched.
-ghost use Rattle.std.specs.Prelude.{◌≡◌, ◌+◌, ◌*◌, ◌≤◌, length};
-ghost use Rattle.model.specs.Read.{headBytes};
+#![tactic(auto)]
+
+ghost use Rattle.std.specs.Prelude.{◌+◌, ◌*◌, ◌≤◌, length};
+ghost use Rattle.model.specs.Read.{head_bytes};
 ghost use Rattle.claims.specs.Claims.{Followable, Claims, FollowsLine};
 
 use blocks::Places;
-use lines::{Checked, check_at};
+use lines::check_at;
 use look::look_at_cases;
-use numbers::{end_of, wide};
+use model::Refusal;
+use numbers::end_of;
 use table::{lane_bit, set_case, word_of};
 
 // The line before: its case, which the table has in every lane, by its number as a word, and where it ended.
-#[derive(Drop)]
+#[derive(Clone, Copy)]
 pub struct Before {
     pub k: usize,
     pub word: u64,
@@ -27,7 +30,6 @@ fn check_claim(
     kind: u8,
     c: &[u64; 256],
 ) -> bool
-    requires { length c.now ≡ 256 }
     ensures { Claims problem.now steps.now actions.now at kind c.now result }
 {
     let looks = look_at_cases(problem, steps, actions, at.initial, at.goal, c);
@@ -40,14 +42,7 @@ fn check_claim(
     false
 }
 
-// What following a line gives: the number of its fault, or the line as the one before the next.
-#[derive(Drop)]
-pub enum Followed {
-    Fault(u8),
-    Next(Before),
-}
-
-// The line numbered `line`: the table goes on to its case, and one look tells.
+// The line numbered `line`: the table goes on to its case, and one look tells. It is the one before the next.
 pub fn follow_line(
     problem: &[u8],
     steps: &[u8],
@@ -59,26 +54,25 @@ pub fn follow_line(
     line: usize,
     before: Before,
     c: &mut [u64; 256],
-) -> Followed
-    requires { Followable size facts × (before.k ≤ facts) × (headBytes + size * line + size ≤ length list.now) × (length c.old ≡ 256) }
+) -> Result<Before, Refusal>
+    requires followable { Followable size facts }
+    requires within { before.k ≤ facts }
+    requires inside { head_bytes + size * line + size ≤ length list.now }
     ensures { FollowsLine size problem.now steps.now actions.now facts at list.now line before c.old result c.new }
 {
-    match check_at(list, line, facts, size) {
-        Checked::Fault(number) => Followed::Fault(number),
-        Checked::Sound(l) => {
-            if l.value != before.end {
-                return Followed::Fault(68);
-            }
-            let k = wide(l.k);
-            let width = 8 * (size - 2);
-            let word = word_of(width, l.value);
-            set_case(c, before.k, before.word, k, word);
-            if check_claim(problem, steps, actions, at, l.kind, c) {
-                let end = end_of(l.value, width, k);
-                Followed::Next(Before { k, word, end })
-            } else {
-                Followed::Fault(69)
-            }
-        }
+    let l = check_at(list, line, facts, size)?;
+    let place = line as u64;
+    if l.value != before.end {
+        return Err(Refusal { place, number: 68 });
     }
+    let k = l.k as usize;
+    let width = 8 * (size - 2);
+    let word = word_of(width, l.value);
+    set_case(c, before.k, before.word, k, word);
+    let holds = check_claim(problem, steps, actions, at, l.kind, c);
+    if !holds {
+        return Err(Refusal { place, number: 69 });
+    }
+    let end = end_of(l.value, width, k);
+    Ok(Before { k, word, end })
 }
