@@ -3,40 +3,40 @@ use Rattle.std.specs.Prelude.{◌≡◌, ◌⊎◌, List, ℕ, ◌≤◌, length
 use Rattle.model.specs.Limits.{version1}
 use Rattle.model.specs.Answer.{Answer, refused, answered}
 use Rattle.model.specs.Case.{Task}
-use Rattle.model.specs.Walk.{Line, lookAt}
+use Rattle.model.specs.Walk.{Line, look_at}
 use Rattle.model.specs.Cover.{CoversTo, FaultAt}
 use Rattle.model.specs.ListBytes.{list_of}
-use Rattle.model.specs.Operations.{readTask, coverAfter}
+use Rattle.model.specs.Operations.{read_task, cover_after}
 use Rattle.model.specs.Demands.{Passing}
 
 -- Demand 1 of the code: a list passes exactly if it is `Passing`. It is an `ensures` of `follow_list`, so that every element is a byte by
 -- the slice's type, and by no hypothesis.
 abbrev pub FollowPromised : List ℕ → List ℕ → List ℕ → Answer ℕ → Type 0
 FollowPromised problem plan list (refused n q) =
-    (T : Task) → readTask version1 problem plan ≡ answered T → (lines : List Line) → Passing version1 T list lines → ⊥
+    (T : Task) → read_task version1 problem plan ≡ answered T → (lines : List Line) → Passing version1 T list lines → ⊥
 FollowPromised problem plan list (answered m) =
-    (T : Task) × (readTask version1 problem plan ≡ answered T) ×
+    (T : Task) × (read_task version1 problem plan ≡ answered T) ×
     (lines : List Line) × Passing version1 T list lines × (m ≡ length lines)
 
--- W-203 of the code. `cover_after` answers `coverAfter` for every count of lines: after the first i of them it has a value, and that is the
+-- W-203 of the code. `cover_after` answers `cover_after` for every count of lines: after the first i of them it has a value, and that is the
 -- end of what they cover together
 pub record EndKept (problem plan list : List ℕ) (T : Task) (lines : List Line) (i : ℕ) : Type 0 where
   pub end : ℕ
-  pub answers : coverAfter version1 problem plan list i ≡ answered end
+  pub answers : cover_after version1 problem plan list i ≡ answered end
   pub covers : CoversTo T.width (take i lines) end
 
 -- so it is for every prefix of lines without a fault: of those asked for, or of those before the first fault. Any other refusal is that of the
 -- problem and the plan, or of the list's block.
 abbrev pub CoverPromised : List ℕ → List ℕ → List ℕ → ℕ → Answer ℕ → Type 0
 CoverPromised problem plan list m (answered e) =
-    (T : Task) × (readTask version1 problem plan ≡ answered T) ×
+    (T : Task) × (read_task version1 problem plan ≡ answered T) ×
     (lines : List Line) × (list_of version1 list ≡ answered lines) ×
     CoversTo T.width (take m lines) e ×
     ((i : ℕ) → i ≤ m → EndKept problem plan list T lines i)
 CoverPromised problem plan list m (refused n q) =
-    (readTask version1 problem plan ≡ refused n q) ⊎
-    ((T : Task) × (readTask version1 problem plan ≡ answered T) ×
+    (read_task version1 problem plan ≡ refused n q) ⊎
+    ((T : Task) × (read_task version1 problem plan ≡ answered T) ×
     ((list_of version1 list ≡ refused n q) ⊎
     ((lines : List Line) × (list_of version1 list ≡ answered lines) ×
-    FaultAt T.width (lookAt T) T.facts (take m lines) n q ×
+    FaultAt T.width (look_at T) T.facts (take m lines) n q ×
     ((i : ℕ) → i ≤ q → EndKept problem plan list T lines i))))
