@@ -3,8 +3,8 @@ use Rattle.std.specs.Prelude.{◌≡◌, List, ◌∷◌, ◌++◌, ℕ, ◌+◌
 use Rattle.model.specs.declared.Limits.{Limits}
 use Rattle.model.specs.Case.{Task}
 use Rattle.model.specs.Walk.{Line, covered, walked}
-use Rattle.model.specs.Read.{headBytes, bytes_of}
-use Rattle.model.specs.ListBytes.{encodeList}
+use Rattle.model.specs.Read.{head_bytes, bytes_of}
+use Rattle.model.specs.ListBytes.{encode_list}
 use Rattle.model.specs.declared.Problem.{Problem}
 use Rattle.blocks.specs.Standing.{TaskIn}
 
@@ -16,4 +16,4 @@ head_of F n = F.version ∷ bytes_of 4 n
 pub record WritesTask (F : Limits) (problem steps : List ℕ) (parts : Problem) (g body : ℕ) (before after : List ℕ) : Type 0 where
   pub is :
       (T : Task) → TaskIn F problem steps parts T → (ls : List Line) (a : ℕ) → walked T ≡ covered ls a → a ≤ g →
-      body ≡ F.line * length ls → after ≡ encodeList F ls ++ drop (headBytes + body) before
+      body ≡ F.line * length ls → after ≡ encode_list F ls ++ drop (head_bytes + body) before

@@ -4,20 +4,20 @@ ghost use Rattle.std.specs.Prelude.{◌≡◌, ◌+◌, ◌≤◌, length};
 ghost use Rattle.std.proofs.lemmas.List.Edits.{sets};
 ghost use Rattle.model.specs.Limits.{version1};
 ghost use Rattle.model.specs.Answer.{refused};
-ghost use Rattle.model.specs.Read.{headBytes};
+ghost use Rattle.model.specs.Read.{head_bytes};
 ghost use Rattle.model.specs.WellFormed.{Sensible};
-ghost use Rattle.model.specs.Operations.{writeList};
-ghost use Rattle.model.specs.Answers.{writeAnswer};
+ghost use Rattle.model.specs.Operations.{write_list};
+ghost use Rattle.model.specs.Answers.{plain_answer};
 ghost use Rattle.certificate.specs.Writing.{head_of, WritesTask};
 
 use blocks::find_task;
-use model::{Limits, Problem, Refusal, WriteAnswer};
+use model::{Limits, Problem, Refusal};
 use numbers::put_number;
 use walk::{Ending, walk_task};
 
 // A block's version and the length of its body.
 fn put_header(out: &mut [u8], limits: Limits, body: u64)
-    requires { headBytes ≤ length out.old }
+    requires { head_bytes ≤ length out.old }
     ensures { out.new ≡ sets out.old 0 (head_of limits body) }
 {
     out[0] = limits.version;
@@ -34,7 +34,9 @@ fn write_task(
     body: usize,
     out: &mut [u8],
 )
-    requires { Sensible limits × (parts.facts ≤ limits.facts) × (headBytes + body ≤ length out.old) }
+    requires sensible { Sensible limits }
+    requires few { parts.facts ≤ limits.facts }
+    requires room { head_bytes + body ≤ length out.old }
     ensures { WritesTask limits problem.now steps.now parts grant body out.old out.new }
 {
     put_header(out, limits, body as u64);
@@ -49,28 +51,24 @@ fn write_task(
     );
 }
 
-fn refusal(number: u8, place: u64) -> WriteAnswer
-    ensures { writeAnswer result ≡ refused number place }
+fn refusal(number: u8, place: u64) -> Result<usize, Refusal>
+    ensures { plain_answer result ≡ refused number place }
 {
-    WriteAnswer::Refused(Refusal { number, place })
+    Err(Refusal { number, place })
 }
 
 // Write the list with a grant: the refusals of problem and plan; 50 undecided and 51 wrong, with the visits; 52 too many lines and 53 too
 // short a buffer, with the lines; or the list block in the first bytes, and its length.
-pub fn write_list(problem: &[u8], plan: &[u8], grant: u64, out: &mut [u8]) -> WriteAnswer
-    ensures result_value { writeAnswer result ≡ (writeList version1 problem.now plan.now grant out.old).answer }
-    ensures out_after { out.new ≡ (writeList version1 problem.now plan.now grant out.old).buffer }
+pub fn write_list(problem: &[u8], plan: &[u8], grant: u64, out: &mut [u8]) -> Result<usize, Refusal>
+    ensures answer { plain_answer result ≡ (write_list version1 problem.now plan.now grant out.old).answer }
+    ensures buffer { out.new ≡ (write_list version1 problem.now plan.now grant out.old).buffer }
 {
-    let task = find_task(problem, plan);
-    if task.refused {
-        let refusal = task.refusal;
-        return WriteAnswer::Refused(refusal);
-    }
+    let task = find_task(problem, plan)?;
+    let steps = &plan[Limits::HEAD_BYTES..];
     let parts = task.problem;
     let limits = task.limits;
-    let head = Limits::HEAD_BYTES;
     let mut room = [0u8; 1];
-    match walk_task(problem, &plan[head..], parts, limits, grant, &mut room, 0) {
+    match walk_task(problem, steps, parts, limits, grant, &mut room, 0) {
         Ending::Out => refusal(50, grant),
         Ending::Failed { state: _, visits } => refusal(51, visits),
         Ending::Closed {
@@ -83,11 +81,12 @@ pub fn write_list(problem: &[u8], plan: &[u8], grant: u64, out: &mut [u8]) -> Wr
             }
             let body = limits.line * lines as usize;
             let length = Limits::HEAD_BYTES + body;
-            if out.len() < length {
+            let short = out.len() < length;
+            if short {
                 return refusal(53, lines);
             }
-            write_task(problem, &plan[head..], parts, limits, grant, body, out);
-            WriteAnswer::Written { length }
+            write_task(problem, steps, parts, limits, grant, body, out);
+            Ok(length)
         }
     }
 }

@@ -1,0 +1,44 @@
+use Rattle.std.proofs.Common.{arith, refl}
+use Rattle.std.proofs.lemmas.Result.{err_from_is_err_and}
+use Rattle.certificate.proofs.Lists.{left_as, list-refused, list-undecided, list-wrong, list_over, list-short, list_written}
+use Rattle.certificate.proofs.write.write_list.Goals as goal
+
+pub returns-in_err-task : goal.returns-in_err-task
+returns-in_err-task c =
+    let p = err_from_is_err_and c.from_residual.result c.from_residual.ensures.1 in
+    let e = list-refused _ _ _ c.in_err-task.ensures c.args.grant c.args.out.now in
+    rw (p.1, p.2) (record { answer = e.0; buffer = e.1 })
+
+pub returns-in-Out : goal.returns-in-Out
+returns-in-Out c =
+    let e = left_as c.refusal.ensures (list-undecided _ _ _ c.in_ok-task.ensures _ c.args.out.now _ refl _ _ _ c.in-Out.ensures) in
+    record { answer = e.0; buffer = e.1 }
+
+pub returns-in-Failed : goal.returns-in-Failed
+returns-in-Failed c =
+    let e = left_as c.refusal-in-Failed.ensures (list-wrong _ _ _ c.in_ok-task.ensures _ c.args.out.now _ refl _ _ _ _ _ c.in-Failed.ensures) in
+    record { answer = e.0; buffer = e.1 }
+
+pub returns-then-lines-limits : goal.returns-then-lines-limits
+returns-then-lines-limits c =
+    let e =
+    left_as c.refusal-then-lines-limits.ensures
+    (list_over _ _ _ c.in_ok-task.ensures _ c.args.out.now _ refl _ _ _ _ _ _ c.in-Closed.ensures (omega arith))
+    in
+    record { answer = e.0; buffer = e.1 }
+
+pub returns-then-short : goal.returns-then-short
+returns-then-short c =
+    let e =
+    left_as c.refusal-then-short.ensures
+    (list-short _ _ _ c.in_ok-task.ensures _ c.args.out.now _ refl _ _ _ _ _ _ c.in-Closed.ensures (omega arith) (omega arith))
+    in
+    record { answer = e.0; buffer = e.1 }
+
+pub returns-else-short : goal.returns-else-short
+returns-else-short c =
+    let e =
+    list_written _ _ _ c.in_ok-task.ensures _ c.args.out.now _ refl _ _ _ _ _ _ c.in-Closed.ensures (omega arith) _ _ refl (omega arith)
+    c.write_task.ensures
+    in
+    record { answer = e.0; buffer = e.1 }
