@@ -20,13 +20,13 @@ filled [] a b = []
 filled (c ∷ form) a b = shown a b c ++ filled form a b
 
 -- a number below 2 ^ 64 has at most so many digits
-abbrev pub maxDigits : ℕ
-maxDigits = 20
+abbrev pub max_digits : ℕ
+max_digits = 20
 
 -- the bytes of a form at most
 abbrev pub room : List ℕ → ℕ
 room [] = 0
-room (c ∷ form) = cond (eqb c 65) maxDigits (cond (eqb c 66) maxDigits 1) + room form
+room (c ∷ form) = cond (eqb c 65) max_digits (cond (eqb c 66) max_digits 1) + room form
 
 -- ---- marks
 
