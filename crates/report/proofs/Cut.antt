@@ -8,29 +8,29 @@ use lib.Dec.{leb}
 use lib.ListN.{length, take}
 use lib.Seq.{take_all, length-take-le}
 use borrow.Author.Tests.{leb-true, leb-false, lt-leb}
-use Rattle.model.specs.Limits.{version1, maxProblemBytes, maxSteps}
+use Rattle.model.specs.Limits.{version1, max_problem_bytes, max_steps}
 use Rattle.model.specs.Answer as Answer
 use Rattle.model.specs.Answer.{Answer, refused, answered}
 use Rattle.model.specs.Read as Read
-use Rattle.model.specs.Read.{reject, and_then, require, answer_of, headBytes, header}
-use Rattle.model.specs.ProblemBytes.{problem, problemOf, plan, plan_of}
-use Rattle.model.specs.Operations.{task_of, readTask}
-use Rattle.model.specs.DeskText.{answerLine, answerRest, firstLine, laterLines, deskText}
+use Rattle.model.specs.Read.{reject, and_then, require, answer_of, head_bytes, header}
+use Rattle.model.specs.ProblemBytes.{problem, problem_of, plan, plan_of}
+use Rattle.model.specs.Operations.{task_of, read_task}
+use Rattle.model.specs.DeskText.{answer_line, answer_rest, first_line, later_lines, desk_text}
 
-abbrev maxPlanBytes : ℕ
-maxPlanBytes = headBytes + maxSteps
+abbrev max_plan_bytes : ℕ
+max_plan_bytes = head_bytes + max_steps
 
 header-over : (s : List ℕ) (number most version p : ℕ) → most < length s → header s number most version p ≡ reject number most
 unfolding header Read.◌>>◌ and_then require
 header-over s number most version p h = rw (lt-leb (length s) most h)
 
-problem-over : (s : List ℕ) → maxProblemBytes < length s → problemOf version1 s ≡ refused 10 maxProblemBytes
-unfolding problemOf problem answer_of Read.◌>>◌ and_then
-problem-over s h = rw (header-over s 10 maxProblemBytes 1 0 h)
+problem-over : (s : List ℕ) → max_problem_bytes < length s → problem_of version1 s ≡ refused 10 max_problem_bytes
+unfolding problem_of problem answer_of Read.◌>>◌ and_then
+problem-over s h = rw (header-over s 10 max_problem_bytes 1 0 h)
 
-plan-over : (m : ℕ) (t : List ℕ) → maxPlanBytes < length t → plan_of t m ≡ refused 30 maxPlanBytes
+plan-over : (m : ℕ) (t : List ℕ) → max_plan_bytes < length t → plan_of t m ≡ refused 30 max_plan_bytes
 unfolding plan_of plan answer_of Read.◌>>◌ and_then
-plan-over m t h = rw (header-over t 30 maxPlanBytes 1 0 h)
+plan-over m t h = rw (header-over t 30 max_plan_bytes 1 0 h)
 
 -- an answer that is the same for all that is over the limit
 cut : {A : Type 0} (f : List ℕ → Answer A) (most : ℕ) (x : Answer A) → ((s : List ℕ) → most < length s → f s ≡ x) → (s : List ℕ) → f (take (most + 1) s) ≡ f s
@@ -41,13 +41,13 @@ cut f most x over s = by (leb (length s) most) refl where
       let h = leb-false (length s) most e in
       over (take (most + 1) s) (omega (arith, h, length-take-le (most + 1) s (omega (arith, h)))) ∙ sym (over s h)
 
-task-cut : (s t : List ℕ) → readTask version1 (take (maxProblemBytes + 1) s) (take (maxPlanBytes + 1) t) ≡ readTask version1 s t
-unfolding readTask
+task-cut : (s t : List ℕ) → read_task version1 (take (max_problem_bytes + 1) s) (take (max_plan_bytes + 1) t) ≡ read_task version1 s t
+unfolding read_task
 task-cut s t =
     λ i.
-    Answer.◌>>=◌ (cut (problemOf version1) maxProblemBytes _ problem-over s i)
-    (λ p. Answer.◌>>=◌ (cut (λ (l : List ℕ). plan_of l (length p.actions)) maxPlanBytes _ (plan-over (length p.actions)) t i) (λ steps. answered (task_of version1 p steps)))
+    Answer.◌>>=◌ (cut (problem_of version1) max_problem_bytes _ problem-over s i)
+    (λ p. Answer.◌>>=◌ (cut (λ (l : List ℕ). plan_of l (length p.actions)) max_plan_bytes _ (plan-over (length p.actions)) t i) (λ steps. answered (task_of version1 p steps)))
 
-pub text-cut : (s t : List ℕ) → deskText version1 (take (maxProblemBytes + 1) s) (take (maxPlanBytes + 1) t) ≡ deskText version1 s t
-unfolding deskText firstLine laterLines
-text-cut s t = ap (λ x. answerLine version1 x ++ answerRest version1 x) (task-cut s t)
+pub text-cut : (s t : List ℕ) → desk_text version1 (take (max_problem_bytes + 1) s) (take (max_plan_bytes + 1) t) ≡ desk_text version1 s t
+unfolding desk_text first_line later_lines
+text-cut s t = ap (λ x. answer_line version1 x ++ answer_rest version1 x) (task-cut s t)

@@ -1,70 +1,63 @@
 -- The page is the definition's text. Assumes nothing.
 use mathlib.Core.Path.{◌≡◌, refl, sym, ap, ap₂, ◌∙◌, subst}
 use mathlib.Core.Bool.{Bool, true, false}
-use mathlib.Core.Logic.{⊎_elim}
-use mathlib.Core.List.{List, [], ◌∷◌, ◌++◌}
-use Prim.Native.Nat.{ℕ, zero, suc, ◌+◌, ◌-◌, ◌*◌, ◌≤◌, ◌<◌}
+use mathlib.Core.List.{List, [], ◌++◌}
+use Prim.Native.Nat.{ℕ, zero, suc, ◌+◌, ◌-◌, ◌*◌, ◌≤◌}
 use native.Mathlib.Nat.{mul-zero, mul-suc, mul-le-mul_left}
 use native.Mathlib.Omega.{arith}
 use lib.Dec.{leb}
 use lib.ListN.{length, take, drop}
 use lib.Seq.{sets, sets-eq, length-take-le}
-use borrow.Author.Tests.{leb-true, le-leb, lt-leb}
-use denote.Enum.Declared.{tag_of}
-use types.Run.{OneOf}
-use Rattle.model.specs.contracts.JudgeAnswer.{the_type}
+use borrow.Author.Tests.{leb-true}
 use Rattle.model.specs.declared.Limits.{Limits}
 use Rattle.model.specs.Limits.{version1}
 use Rattle.model.specs.Answer.{answered}
 use Rattle.model.specs.Case.{Task}
-use Rattle.model.specs.Read.{headBytes}
+use Rattle.model.specs.Read.{head_bytes}
 use Rattle.model.specs.Walk.{Line, walked, Verdict, right, wrong, undecided, judged}
-use Rattle.model.specs.Operations.{lineCount}
-use Rattle.model.specs.ListBytes.{line_at, lines_from, linesBytes}
+use Rattle.model.specs.Operations.{read_task, line_count}
+use Rattle.model.specs.ListBytes.{line_at, lines_from, lines_bytes}
 use Rattle.model.specs.WellFormed.{LineOk, Each, Sensible}
 use Rattle.model.specs.Stands.{Span}
-use Rattle.model.specs.Answers.{judgeAnswer}
-use Rattle.model.specs.declared.JudgeAnswer.{JudgeAnswer}
-use Rattle.model.specs.declared.JudgeAnswer.TheVariants.{Refused, Right, Wrong, Undecided}
-use Rattle.model.specs.DeskText.{lineText, linesText, listText, verdictRest, deskGrant, answerLine, answerRest, firstLine, laterLines}
+use Rattle.model.specs.Answers.{refusal}
+use Rattle.std.specs.Prelude.{Ok, Err}
+use Rattle.model.specs.declared.Refusal.{Refusal}
+use Rattle.model.specs.declared.Verdict as declared
+use Rattle.model.specs.DeskText.{line_text, lines_text, list_text, verdict_rest, desk_grant, answer_line, answer_rest, first_line, later_lines}
 use Rattle.model.proofs.Demands.{version1-sensible}
 use Rattle.model.proofs.Laws.Reading.{split, span-length, is_whole}
 use Rattle.model.proofs.Laws.ListCodec as codec
 use Rattle.model.proofs.Laws.Verdicts.{Means, judged-means, walk-passes}
 use Rattle.model.proofs.Laws.Lists.{follows-ok}
 use Rattle.blocks.specs.declared.plan.Task as blocks
-use Rattle.blocks.specs.Parts.{FindsTask}
-use Rattle.blocks.specs.Standing.{StandsFound}
+use Rattle.blocks.specs.Parts.{TaskFound}
 use Rattle.text.specs.Written.{first_of}
 use Rattle.judge.specs.Verdicts.{LaysLines, JudgesTask}
 use Rattle.blocks.proofs.Standing.{found_in}
-use Rattle.report.specs.Pages.{rest_of, listed, restText, PageOf, count_of, FollowsPage}
-use Rattle.report.specs.declared.page.Page.{Page}
-use Rattle.report.specs.declared.page.Rest.{Rest}
-use Rattle.report.specs.declared.page.Rest.TheVariants.{Nothing, TooLong, Lines}
+use Rattle.report.specs.Pages.{rest_of, listed, rest_text, PageOf}
 
 -- ---- the lines of a list, read back
 
 module _ (F : Limits) (S : Sensible F) where
   -- lines that were put where a list block has them
   lines-read :
-      (before : List ℕ) (ls : List Line) → headBytes + F.line * length ls ≤ length before → Each (LineOk F) ls →
-      lines_from F (sets before headBytes (linesBytes F ls)) (length ls) headBytes ≡ ls
+      (before : List ℕ) (ls : List Line) → head_bytes + F.line * length ls ≤ length before → Each (LineOk F) ls →
+      lines_from F (sets before head_bytes (lines_bytes F ls)) (length ls) head_bytes ≡ ls
   lines-read before ls room ok =
-      let bytes = linesBytes F ls in
-      let fit : headBytes + length bytes ≤ length before = omega (arith, codec.length-lines F S [] ls) in
-      let l = take headBytes before ++ bytes ++ drop (headBytes + length bytes) before in
-      ap (λ (x : List ℕ). lines_from F x (length ls) headBytes) (sets-eq bytes before headBytes fit) ∙
-      (split (take headBytes before ++ bytes) (is_whole {s = l}) λ q a b.
-      split (take headBytes before) a λ p x y.
-      let i : p ≡ headBytes = omega (arith, span-length x, length-take-le headBytes before (omega arith)) in
-      codec.lines_ok F S l ls headBytes q ok (subst (λ (j : ℕ). Span l (length l) j bytes q) i y))
+      let bytes = lines_bytes F ls in
+      let fit : head_bytes + length bytes ≤ length before = omega (arith, codec.length-lines F S [] ls) in
+      let l = take head_bytes before ++ bytes ++ drop (head_bytes + length bytes) before in
+      ap (λ (x : List ℕ). lines_from F x (length ls) head_bytes) (sets-eq bytes before head_bytes fit) ∙
+      (split (take head_bytes before ++ bytes) (is_whole {s = l}) λ q a b.
+      split (take head_bytes before) a λ p x y.
+      let i : p ≡ head_bytes = omega (arith, span-length x, length-take-le head_bytes before (omega arith)) in
+      codec.lines_ok F S l ls head_bytes q ok (subst (λ (j : ℕ). Span l (length l) j bytes q) i y))
 
-  listed-is : (n : ℕ) (list : List ℕ) (c i p : ℕ) → p ≡ headBytes + F.line * i → listed F n list i c ≡ linesText F n (lines_from F list c p)
-  unfolding linesText lines_from listed line_at
+  listed-is : (n : ℕ) (list : List ℕ) (c i p : ℕ) → p ≡ head_bytes + F.line * i → listed F n list i c ≡ lines_text F n (lines_from F list c p)
+  unfolding lines_text lines_from listed line_at
   listed-is n list zero i p h = refl
   listed-is n list (suc c) i p h =
-      ap₂ ◌++◌ (ap (λ (j : ℕ). lineText F n (line_at F list j)) (sym h)) (listed-is n list c (suc i) (p + F.line) (omega (arith, mul-suc F.line i)))
+      ap₂ ◌++◌ (ap (λ (j : ℕ). line_text F n (line_at F list j)) (sym h)) (listed-is n list c (suc i) (p + F.line) (omega (arith, mul-suc F.line i)))
 
   -- a right verdict's lines are sound to write
   lines_fit : (T : Task) → T.facts ≤ F.facts → T.width ≡ F.width → (g : ℕ) (ls : List Line) (a : ℕ) → judged T g ≡ right ls a → Each (LineOk F) ls
@@ -75,82 +68,62 @@ module _ (F : Limits) (S : Sensible F) where
 
   -- ---- what follows the first line
 
-  module _ (n : ℕ) (before after : List ℕ) (room : headBytes + F.line * F.lines ≤ length before) where
+  module _ (n : ℕ) (before after : List ℕ) (room : head_bytes + F.line * F.lines ≤ length before) where
     list-is :
-        (ls : List Line) (b : Bool) → leb (length ls) F.lines ≡ b → Each (LineOk F) ls → (a : ℕ) → LaysLines F (right ls a) before headBytes after →
-        restText F n after (rest_of F (answered (right (length ls) a))) ≡ listText F n ls
-    unfolding listText
+        (ls : List Line) (b : Bool) → leb (length ls) F.lines ≡ b → Each (LineOk F) ls → (a : ℕ) → LaysLines F (right ls a) before head_bytes after →
+        rest_text F n after (rest_of F (answered (right (length ls) a))) ≡ list_text F n ls
+    unfolding list_text
     list-is ls true e ok a lays =
-        let h : headBytes + F.line * length ls ≤ length before = omega (arith, mul-le-mul_left F.line (leb-true (length ls) F.lines e)) in
+        let h : head_bytes + F.line * length ls ≤ length before = omega (arith, mul-le-mul_left F.line (leb-true (length ls) F.lines e)) in
         rw e
-        (listed-is n after (length ls) 0 headBytes (omega (arith, mul-zero F.line)) ∙
-        ap (λ (l : List ℕ). linesText F n (lines_from F l (length ls) headBytes)) ((lays h).bytes F refl) ∙
-        ap (linesText F n) (lines-read before ls h ok))
+        (listed-is n after (length ls) 0 head_bytes (omega (arith, mul-zero F.line)) ∙
+        ap (λ (l : List ℕ). lines_text F n (lines_from F l (length ls) head_bytes)) ((lays h).bytes F refl) ∙
+        ap (lines_text F n) (lines-read before ls h ok))
     list-is ls false e ok a lays = rw e
 
     rest-is :
-        (v : Verdict (List Line)) → ((ls : List Line) (a : ℕ) → v ≡ right ls a → Each (LineOk F) ls) → LaysLines F v before headBytes after →
-        restText F n after (rest_of F (answered (lineCount v))) ≡ verdictRest F n v
-    unfolding verdictRest
+        (v : Verdict (List Line)) → ((ls : List Line) (a : ℕ) → v ≡ right ls a → Each (LineOk F) ls) → LaysLines F v before head_bytes after →
+        rest_text F n after (rest_of F (answered (line_count v))) ≡ verdict_rest F n v
+    unfolding verdict_rest
     rest-is (right ls a) ok lays = list-is ls _ refl (ok ls a refl) a lays
     rest-is (wrong s o a) ok lays = refl
     rest-is (undecided a) ok lays = refl
 
 -- ---- the page
 
-module _ (s t : List ℕ) (r : blocks.Task) (f : FindsTask version1 s t r) (after : List ℕ) (fit : headBytes + version1.line * version1.lines ≤ length after) where
-  room : headBytes + r.limits.line * r.limits.lines ≤ length after
-  room = rw f.limits fit
-
-  pub page-refused : r.refused ≡ true → PageOf s t after (record { limits = r.limits; facts = 0; answer = Refused r.refusal })
-  unfolding firstLine answerLine laterLines answerRest
-  page-refused e =
+module _ (s t after : List ℕ) (fit : head_bytes + version1.line * version1.lines ≤ length after) where
+  pub page-refused :
+      {y : Refusal} → read_task version1 s t ≡ refusal y → (l : Limits) → l ≡ version1 →
+      PageOf s t after (record { limits = l; facts = 0; answer = Err y })
+  unfolding first_line answer_line later_lines answer_rest
+  page-refused e l v =
       record {
-        sensible = rw f.limits version1-sensible;
+        sensible = rw v version1-sensible;
         most = omega arith;
-        room = room;
-        first = rw (f.refusal e);
-        later = rw (f.refusal e);
+        room = rw v fit;
+        first = rw e;
+        later = rw e;
       }
 
   pub page-found :
-      (found : StandsFound version1 s t r) (steps : List ℕ) → steps ≡ take (length t - headBytes) (drop headBytes t) →
-      (a : JudgeAnswer) (before : List ℕ) → JudgesTask r.limits s steps r.problem deskGrant a before headBytes after →
-      PageOf s t after (record { limits = r.limits; facts = r.problem.facts; answer = a })
-  unfolding firstLine answerLine laterLines answerRest
-  page-found found steps own a before J =
+      (r : blocks.Task) → TaskFound version1 s t r → (steps : List ℕ) → steps ≡ take (length t - head_bytes) (drop head_bytes t) →
+      (a : declared.Verdict) (before : List ℕ) → JudgesTask r.limits s steps r.problem desk_grant a before head_bytes after →
+      PageOf s t after (record { limits = r.limits; facts = r.problem.facts; answer = Ok a })
+  unfolding first_line answer_line later_lines answer_rest
+  page-found r f steps own a before J =
+      let found = f.stands in
       let T = found.task in
       let S = found.sensible in
       let n = r.problem.facts in
       let j = J.is T (found_in version1 s t r found steps own) in
+      let room : head_bytes + r.limits.line * r.limits.lines ≤ length after = rw f.limits fit in
       record {
         sensible = S;
         most = omega (arith, found.facts, found.few);
         room = room;
-        first = ap (first_of r.limits n) j.answer ∙ rw (found.read, found.facts, f.limits);
+        first = ap (λ v. first_of r.limits n (answered v)) j.answer ∙ rw (found.read, found.facts, f.limits);
         later =
-            ap (λ x. restText r.limits n after (rest_of r.limits x)) j.answer ∙
-            rest-is r.limits S n before after (omega (arith, room, J.size)) (judged T deskGrant) (lines_fit r.limits S T found.few found.width deskGrant) j.lays ∙
+            ap (λ v. rest_text r.limits n after (rest_of r.limits (answered v))) j.answer ∙
+            rest-is r.limits S n before after (omega (arith, room, J.size)) (judged T desk_grant) (lines_fit r.limits S T found.few found.width desk_grant) j.lays ∙
             rw (found.read, found.facts, f.limits);
       }
-
--- ---- what follows, by the judge's answer
-
-module _ (p : Page) where
-  rest-by : (a : JudgeAnswer) → p.answer ≡ a → (r : Rest) → r ≡ rest_of p.limits (judgeAnswer a) → count_of r ≤ p.limits.lines → FollowsPage p r
-  rest-by a e r i h = record { is = i ∙ ap (λ x. rest_of p.limits (judgeAnswer x)) (sym e); few = h }
-
-  -- the tag is none of a right plan's answer
-  pub none-follows : OneOf (0 ∷ 2 ∷ 3 ∷ []) (tag_of the_type p.answer) → FollowsPage p Nothing
-  none-follows k = by p.answer refl k where
-    by : (a : JudgeAnswer) → p.answer ≡ a → OneOf (0 ∷ 2 ∷ 3 ∷ []) (tag_of the_type a) → FollowsPage p Nothing
-    by (Right n v) e k = absurd (⊎_elim (λ i. omega arith) (⊎_elim (λ i. omega arith) (λ i. omega arith)) k)
-    by (Refused r) e k = rest-by (Refused r) e Nothing refl (omega arith)
-    by (Wrong s o v) e k = rest-by (Wrong s o v) e Nothing refl (omega arith)
-    by (Undecided v) e k = rest-by (Undecided v) e Nothing refl (omega arith)
-
-  pub too-long-follows : (n v : ℕ) → p.answer ≡ Right n v → p.limits.lines < n → FollowsPage p TooLong
-  too-long-follows n v e h = rest-by (Right n v) e TooLong (rw (lt-leb n p.limits.lines h)) (omega arith)
-
-  pub lines-follow : (n v : ℕ) → p.answer ≡ Right n v → n ≤ p.limits.lines → FollowsPage p (Lines n)
-  lines-follow n v e h = rest-by (Right n v) e (Lines n) (rw (le-leb n p.limits.lines h)) h
