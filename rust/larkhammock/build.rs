@@ -11,13 +11,13 @@ fn main() {
     let folder = match env::var_os("LARKHAMMOCK_LIB") {
         Some(folder) => PathBuf::from(folder),
         None => PathBuf::from(env::var_os("CARGO_MANIFEST_DIR").expect("cargo sets it"))
-            .join("../../target/staticlib"),
+            .join("../../crates/larkhammock/out"),
     };
     let archive = folder.join("liblarkhammock.a");
     println!("cargo:rerun-if-changed={}", archive.display());
     let Ok(archive) = archive.canonicalize() else {
         eprintln!(
-            "no archive at {}: build it with `rt staticlib larkhammock`, \
+            "no archive at {}: build it with `rt lib` in crates/larkhammock, \
              or name its folder, as an absolute path, in LARKHAMMOCK_LIB",
             archive.display()
         );

@@ -18,7 +18,7 @@ pub fn head(root: &Path) -> io::Result<String> {
         "# Benchmarks\n\n\
          Written by `rust/bench/run`; every figure is of one run of it.\n\n\
          - Machine: {cpu}, {cores} cores, {memory}, Linux {}\n\
-         - Compilers: {kit}, which compiles at -O3; {rustc}, at opt-level 3\n\
+         - Compilers: {kit}, which compiles at -O2; {rustc}, at opt-level 3\n\
          - Commit: {commit}\n\n\
          A time is the median of {} samples of {} ms, or of one call where that is longer, unless a table says otherwise.\n",
         kernel.trim(),

@@ -17,10 +17,10 @@ const NO_PROBLEM: &str = "refused problem 11 at 0\n";
 const NO_PLAN: &str = "refused plan 31 at 0\n";
 
 fn program() -> PathBuf {
-    let program = Path::new(env!("CARGO_MANIFEST_DIR")).join("../../target/bin/desk");
+    let program = Path::new(env!("CARGO_MANIFEST_DIR")).join("../../crates/desk/out/desk");
     assert!(
         program.is_file(),
-        "no program at {}: build it with `rt check desk`",
+        "no program at {}: build it with `rt run` in crates/desk",
         program.display()
     );
     program

@@ -148,7 +148,7 @@ pub fn files() -> BTreeMap<String, Vec<u8>> {
 const INDEX: &str = "\
 # Examples
 
-Problems and plans for the desk program, `target/bin/desk PROBLEM PLAN`:
+Problems and plans for the desk program, `./larkhammock PROBLEM PLAN`:
 
 - [trial](trial/README.md): the problem of document 01
 - [store](store/README.md): carriages brought home after a stoppage
@@ -178,7 +178,7 @@ fn readme(example: &Example) -> String {
             lines.len()
         };
         page += &format!("\n{}\n\n```\n", trial.story);
-        page += &format!("$ target/bin/desk {folder}/{problem} {folder}/{plan}\n");
+        page += &format!("$ ./larkhammock {folder}/{problem} {folder}/{plan}\n");
         page += &lines[..shown].join("\n");
         page += "\n```\n\n";
         page += &match lines.len() - shown {
