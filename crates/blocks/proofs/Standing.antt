@@ -99,6 +99,3 @@ pub found_in :
 found_in F problem plan r o steps e =
     let all = take_all (length plan - head_bytes) (drop head_bytes plan) (omega (arith, length-drop head_bytes plan)) in
     record { width = o.width; few = o.few; facts = o.facts; stands = rw (e, all) o.stands }
-
-pub few-facts : (F : Limits) (problem plan : List ℕ) (r : found.Task) → StandsFound F problem plan r → r.problem.facts ≤ r.limits.facts
-few-facts F problem plan r o = omega (arith, o.facts, o.few)

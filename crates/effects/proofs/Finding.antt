@@ -38,9 +38,6 @@ pub record Finding (s : List ℕ) (at : ℕ) (c found literals : List ℕ) (n e 
       (facts : ℕ) (es : List Effect) (q : ℕ) → facts ≤ max_facts → length es ≤ max_effects → EffectsOk facts 0 es → Span s (length s) at (length es ∷ effects_bytes es) q →
       (n ≡ length es) × Left s facts es q e p × Entries c literals found es e
 
-no-entries : (c literals found : List ℕ) (es : List Effect) → Entries c literals found es 0
-no-entries c literals found es = record { literal = λ i h. absurd (omega arith); condition = λ case t i h. absurd (omega arith) }
-
 module _ (s : List ℕ) (at : ℕ) (c found literals : List ℕ) (n e p : ℕ) (F : Finding s at c found literals n e p) where
   -- the bytes end before an entry
   pub finding-short : e < n → length s ≤ p → FindsConditions s at c found literals e

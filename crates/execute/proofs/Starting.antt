@@ -3,13 +3,13 @@ use mathlib.Core.Path.{◌≡◌, sym, ap, ap₂, ◌∙◌, subst, refl}
 use mathlib.Core.Bool.{true, false, ◌&&◌, Bool}
 use mathlib.Core.List.{List}
 use Prim.Native.Nat.{ℕ, ◌-◌, ◌%◌, ◌^◌, ◌≤◌, ◌<◌, suc, ◌+◌, min}
-use native.Mathlib.Nat.{mod-lt, mod-eq_of_lt}
+use native.Mathlib.Nat.{mod-lt}
 use native.Mathlib.Omega.{arith}
 use native.Mathlib.Decide.{dec_lt}
 use lib.ListN.{length, get_or, take, drop, replicate, length-replicate, get_or-eq_default}
 use lib.Dec.{eqb, ltb}
 use lib.Pow.{pow_pos}
-use borrow.Author.Tests.{lt-ltb, le-ltb, eq-eqb, ne_eqb}
+use borrow.Author.Tests.{lt-ltb, eq-eqb}
 use Rattle.model.specs.declared.Limits.{Limits}
 use Rattle.model.specs.declared.Problem.{Problem}
 use Rattle.std.specs.Prelude.{Result, Ok, Err}
@@ -65,17 +65,9 @@ all-fixed s n c d none x =
         sym (get_or-eq_default (replicate n Unknown) No (omega (arith, length-replicate {A = Kleene} n Unknown)))
 
 module _ (F : Limits) (S : Sensible F) (s n w low : ℕ) (e : w ≡ F.width) (l : low ≡ s % 2 ^ w) where
-  pub state-large : (low ≡ s → ⊥) → numbers_state F s n ≡ false
-  state-large h =
-      let b : 2 ^ w ≤ s = elim (dec_lt s (2 ^ w)) [ yes y ↦ absurd (h (l ∙ mod-eq_of_lt y)) | no y ↦ omega arith ] in
-      rw (← e, le-ltb s (2 ^ w) b)
-
   module _ (h : low ≡ s) (rest : ℕ) (i : rest ≡ s % 2 ^ (w - n)) where
     pub state-small : s < 2 ^ w
     state-small = omega (arith, mod-lt s (pow_pos w))
-
-    pub state-past : (rest ≡ 0 → ⊥) → numbers_state F s n ≡ false
-    state-past z = rw (← e, lt-ltb s (2 ^ w) state-small, ← i, ne_eqb rest 0 z)
 
     pub state-fixed :
         (c d : List ℕ) (word : ℕ) → n ≤ F.facts → rest ≡ 0 → word ≡ raised w s → NoneFixed n c → SetsFacts c 0 n (bits_of word) d →
@@ -135,9 +127,6 @@ pub record Stating (problem steps actions : List ℕ) (goal : ℕ) (c : List ℕ
   pub is :
       (initial : ℕ) (T : Task) → TaskStands problem steps actions initial goal T → (case : ℕ → List Kleene) → Sized T.facts case → Table c case →
       (now' : ℕ → List Kleene) × Sized T.facts now' × Table d now' × (run_from T 0 (case 0) ≡ run_from T i (now' 0))
-
-pub stating-begins : (problem steps actions : List ℕ) (goal : ℕ) (c : List ℕ) → length c ≡ 256 → Stating problem steps actions goal c 0 c
-stating-begins problem steps actions goal c w = record { size = w; few = omega arith; is = λ initial T S case z t. (case, z, t, refl) }
 
 module _ (problem steps actions : List ℕ) (goal : ℕ) (c : List ℕ) (i : ℕ) (d : List ℕ) (R : Stating problem steps actions goal c i d) where
   module _ (more : i < length steps) (slot : ℕ) (named : slot ≡ get_or steps i 0 % 64)

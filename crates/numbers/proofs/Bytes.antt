@@ -1,12 +1,11 @@
 -- Numbers in bytes, one byte more at a time. Assumes nothing.
-use mathlib.Core.Path.{◌≡◌, refl, ◌∙◌}
+use mathlib.Core.Path.{◌≡◌, refl}
 use mathlib.Core.List.{List, [], ◌∷◌, ◌++◌}
 use Prim.Native.Nat.{ℕ, suc, ◌+◌, ◌-◌, ◌*◌, ◌/◌, ◌%◌, ◌^◌, ◌≤◌, ◌<◌}
 use native.Mathlib.Nat.{pow-suc, pow-le-pow_right, div-div-eq-div-mul}
 use native.Mathlib.Numerals.{add-one}
 use native.Mathlib.Omega.{arith}
 use lib.ListN.{length, get_or, take, drop, set, length-drop}
-use lib.Pow.{shl_exact}
 use lib.Seq.{sets, set_comm, take-suc, get_or-drop}
 use Rattle.model.specs.Read.{big_endian_from, big_endian, bytes_of}
 
@@ -49,8 +48,3 @@ byte-before l at i n x rest p q e =
       rw (sets-before (bytes_of (n - i) x) l (at + i) (at + (i - 1)) (rest % 256) (omega arith), m, o, e),
       rw (m, pow-suc 256 (n - i), e) (div-div-eq-div-mul x (256 ^ (n - i)) 256),
     )
-
--- ---- bits
-
-pub one_shifted : (n : ℕ) → n < 64 → 1 * 2 ^ n % 2 ^ 64 ≡ 2 ^ n
-one_shifted n h = shl_exact {a = 1} 1 n 64 (omega arith) (omega arith) ∙ omega arith
