@@ -1,5 +1,5 @@
--- The desk program's text, as bytes (document 01, "The desk program").
-use Rattle.std.specs.Prelude.{cond, List, [], ◌∷◌, ◌++◌, ℕ, zero, suc, ◌+◌, ◌/◌, ◌%◌, length, ltb, leb}
+-- The desk program's text, as bytes: first what each part of an answer is shown as, then each line, and last the whole page.
+use Rattle.std.specs.Prelude.{cond, List, [], ◌∷◌, ◌++◌, ℕ, zero, suc, length, ltb, leb, codes, decimal}
 use Rattle.model.specs.declared.Limits.{Limits}
 use Rattle.model.specs.Answer.{Answer, refused, answered}
 use Rattle.model.specs.Action.{tabulate}
@@ -7,82 +7,85 @@ use Rattle.model.specs.Run.{Part, at_member, at_fact, Outcome, reached, missed, 
 use Rattle.model.specs.Case.{bit, Task}
 use Rattle.model.specs.Walk.{Line, Verdict, right, wrong, undecided, judged}
 use Rattle.model.specs.Operations.{line_count, read_task}
-use Rattle.model.specs.Text.{ascii}
 
--- ---- numbers, values and words
+-- ---- words, values and numbers: "Numbers are written in decimal, leading digit first", which is the library's `decimal`
 
--- "Numbers are written in decimal, leading digit first": at most so many digits
-unfoldable pub digits : ℕ → ℕ → List ℕ
-digits zero n = []
-digits (suc most) n =
-    let above = digits most (n / 10) ++ ((48 + n % 10) ∷ []) in
-    cond (ltb n 10) ((48 + n) ∷ []) above
+-- "Words stand one space apart": words, or texts of several
+abbrev pub words : List (List ℕ) → List ℕ
+words [] = []
+words (w ∷ []) = w
+words (w ∷ v ∷ ws) = w ++ (32 ∷ words (v ∷ ws))
 
--- a number below 2 ^ 64 has at most 20 digits
-unfoldable pub decimal : ℕ → List ℕ
-decimal n = digits 20 n
-
--- "Words stand one space apart, and each line ends with a line feed."
-unfoldable pub sentence : List (List ℕ) → List ℕ
+-- "and each line ends with a line feed"
+abbrev pub sentence : List (List ℕ) → List ℕ
 sentence [] = 10 ∷ []
 sentence (w ∷ []) = w ++ (10 ∷ [])
 sentence (w ∷ v ∷ ws) = w ++ (32 ∷ sentence (v ∷ ws))
 
--- "one mark per fact"; "A value is 0, 1, or ? past k."
+-- "A value is 0, 1, or ? past k.": fact i's mark in a number w bits wide
+abbrev pub mark : ℕ → ℕ → ℕ → ℕ → ℕ
+mark w k v i = cond (ltb i k) (cond (bit w v i) 49 48) 63
+
+-- "one mark per fact"
 unfoldable pub marks : ℕ → ℕ → ℕ → ℕ → List ℕ
-marks w n k v = tabulate n (λ i. cond (ltb i k) (cond (bit w v i) 49 48) 63)
+marks w n k v = tabulate n (mark w k v)
 
 -- ---- the first line
 
 -- "It writes "refused", "problem" or "plan", number, "at", place": the refusals of a plan are numbered from 30 on
 abbrev pub block_text : ℕ → List ℕ
-block_text number = cond (ltb number 30) (ascii "problem") (ascii "plan")
+block_text number = cond (ltb number 30) (codes "problem") (codes "plan")
 
-unfoldable pub refusal_line : ℕ → ℕ → List ℕ
-refusal_line number place = sentence (ascii "refused" ∷ block_text number ∷ decimal number ∷ ascii "at" ∷ decimal place ∷ [])
+abbrev pub refusal_line : ℕ → ℕ → List ℕ
+refusal_line number place = sentence (codes "refused" ∷ block_text number ∷ decimal number ∷ codes "at" ∷ decimal place ∷ [])
 
 -- "right lines 3 visited 5"; "Line count and visits follow their words"
-unfoldable pub right_line : ℕ → ℕ → List ℕ
-right_line lines a = sentence (ascii "right" ∷ ascii "lines" ∷ decimal lines ∷ ascii "visited" ∷ decimal a ∷ [])
+abbrev pub right_line : ℕ → ℕ → List ℕ
+right_line lines a = sentence (codes "right" ∷ codes "lines" ∷ decimal lines ∷ codes "visited" ∷ decimal a ∷ [])
 
--- "member 0" (W-201) or "fact 2" (W-202)
-abbrev pub part_text : Part → List (List ℕ) → List (List ℕ)
-part_text (at_member m) rest = ascii "member" ∷ decimal m ∷ rest
-part_text (at_fact f) rest = ascii "fact" ∷ decimal f ∷ rest
+-- "member 0" or "fact 2"
+abbrev pub part_text : Part → List ℕ
+part_text (at_member m) = words (codes "member" ∷ decimal m ∷ [])
+part_text (at_fact f) = words (codes "fact" ∷ decimal f ∷ [])
 
--- "at end", or "at step 0 member 0" for a block (W-201)
-abbrev pub where_text : Outcome → List (List ℕ) → List (List ℕ)
-where_text reached rest = ascii "at" ∷ ascii "end" ∷ rest
-where_text missed rest = ascii "at" ∷ ascii "end" ∷ rest
-where_text (blocked s) rest = ascii "at" ∷ ascii "step" ∷ decimal s.step ∷ part_text s.part rest
+-- "at end", or "at step 0 member 0" for a block
+abbrev pub where_text : Outcome → List ℕ
+where_text reached = words (codes "at" ∷ codes "end" ∷ [])
+where_text missed = words (codes "at" ∷ codes "end" ∷ [])
+where_text (blocked s) = words (codes "at" ∷ codes "step" ∷ decimal s.step ∷ part_text s.part ∷ [])
 
 -- "Wrong is "wrong 010 at end visited 5"": the state's values over n facts
-unfoldable pub wrong_line : Limits → ℕ → ℕ → Outcome → ℕ → List ℕ
-wrong_line F n s o a = sentence (ascii "wrong" ∷ marks F.width n n s ∷ where_text o (ascii "visited" ∷ decimal a ∷ []))
+abbrev pub wrong_line : Limits → ℕ → ℕ → Outcome → ℕ → List ℕ
+wrong_line F n s o a = sentence (codes "wrong" ∷ marks F.width n n s ∷ where_text o ∷ codes "visited" ∷ decimal a ∷ [])
 
 -- "undecided is "undecided visited 1000000""
-unfoldable pub undecided_line : ℕ → List ℕ
-undecided_line a = sentence (ascii "undecided" ∷ ascii "visited" ∷ decimal a ∷ [])
+abbrev pub undecided_line : ℕ → List ℕ
+undecided_line a = sentence (codes "undecided" ∷ codes "visited" ∷ decimal a ∷ [])
 
 -- "or the verdict", over n facts
-unfoldable pub verdict_line : Limits → ℕ → Verdict ℕ → List ℕ
+abbrev pub verdict_line : Limits → ℕ → Verdict ℕ → List ℕ
 verdict_line F n (right lines a) = right_line lines a
 verdict_line F n (wrong s o a) = wrong_line F n s o a
 verdict_line F n (undecided a) = undecided_line a
+
+-- the refusal, or the verdict over n facts
+abbrev pub judged_line : Limits → ℕ → Answer (Verdict ℕ) → List ℕ
+judged_line F n (refused number place) = refusal_line number place
+judged_line F n (answered v) = verdict_line F n v
 
 -- ---- the lines after it
 
 -- "a kind (0 as no-start, 1 as carries)"
 abbrev pub kind_text : ℕ → List ℕ
-kind_text zero = ascii "no-start"
-kind_text (suc d) = ascii "carries"
+kind_text zero = codes "no-start"
+kind_text (suc d) = codes "carries"
 
 abbrev pub too_long : List ℕ
-too_long = sentence (ascii "list" ∷ ascii "too" ∷ ascii "long" ∷ [])
+too_long = sentence (codes "list" ∷ codes "too" ∷ codes "long" ∷ [])
 
 module _ (F : Limits) (n : ℕ) where
   -- "each later line is a kind .. and one mark per fact"
-  unfoldable pub line_text : Line → List ℕ
+  abbrev pub line_text : Line → List ℕ
   line_text l = sentence (kind_text l.kind ∷ marks F.width n l.k l.value ∷ [])
 
   unfoldable pub lines_text : List Line → List ℕ

@@ -1,12 +1,7 @@
--- Texts as bytes.
+-- Blocks as a reviewer writes them: bytes in hexadecimal.
 use Rattle.std.specs.Prelude.{Bool, true, false, cond, List, ℕ, ◌+◌, ◌-◌, ◌*◌, eqb, ltb}
 use Prim.Native.Char.{code}
 use Prim.Native.String.{String, [], ◌∷◌}
-
--- the characters' codes, one byte each for ASCII
-unfoldable pub ascii : String → List ℕ
-ascii [] = List.[]
-ascii (c ∷ t) = List.◌∷◌ (code c) (ascii t)
 
 abbrev nibble : ℕ → ℕ
 nibble c = cond (ltb c 97) (c - 48) (c - 87)

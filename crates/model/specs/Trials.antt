@@ -1,6 +1,7 @@
 -- The trial cases of document 01 that are to be proved, on their bytes, each refusal at and inside its edge, and what the requests of
 -- document 02 add: a call and what it gives. What no row can say, for every plan or for walks of a million visits, is a statement beside the tables.
-use Rattle.std.specs.Prelude.{◌≡◌, List, [], ◌∷◌, ◌++◌, ℕ, zero, suc, ◌≤◌, ◌<◌, length, drop, replicate, map}
+use Rattle.std.specs.Prelude.{◌≡◌, List, [], ◌∷◌, ◌++◌, ℕ, zero, suc, ◌≤◌, ◌<◌, length, drop, replicate, map, codes}
+use Rattle.std.specs.Fmt.{digits}
 use Rattle.model.specs.declared.Limits.{Limits}
 use Rattle.model.specs.Limits.{version1}
 use Rattle.model.specs.Formula.{eval}
@@ -18,8 +19,8 @@ use Rattle.model.specs.Read.{and_then, ◌>>=◌, ◌>>◌, done, position, requ
 use Rattle.model.specs.FormulaBytes.{is_literal, literal_of, group_head, head_from, head, members, whole, item, stated, formula}
 use Rattle.model.specs.ProblemBytes.{effect, effects, effect_list, action, actions, ending, parts, body, problem, problem_of, steps, plan, plan_of, action_at}
 use Rattle.model.specs.ListBytes.{line_at, lines_from, case_list, list_of, line_bytes, lines_bytes, encode_list}
-use Rattle.model.specs.Text.{ascii, hex}
-use Rattle.model.specs.DeskText.{digits, decimal, sentence, marks, refusal_line, right_line, wrong_line, undecided_line, verdict_line, line_text, lines_text, list_text, verdict_rest, answer_line, answer_rest, first_line, later_lines, desk_text}
+use Rattle.model.specs.Text.{hex}
+use Rattle.model.specs.DeskText.{marks, verdict_line, lines_text, list_text, verdict_rest, answer_line, answer_rest, first_line, later_lines, desk_text}
 use Rattle.model.specs.declared.Counts.{Counts}
 use Rattle.model.specs.Operations.{Written, is_state_number, line_count, read_problem, read_plan, task_of, read_task, run_state, judge, list_bytes, lines_for, written, list_for, write_list, follow_list, cover_after, reached_task, relevant_facts, search_plans}
 
@@ -46,7 +47,7 @@ pub data Reply : Type 0 where
 
 -- what the definitions give; a proof that unfolds this computes with all of them
 unfoldable pub reply : Call → Reply
-unfolding eval condition_in every exclusive applicable next step first_false unmet lowest_false part_of goes_on run bit state_of case_of run_of walk_from walk look_at walked judged Answer.◌>>=◌ first refuse_at ends fault follow cover_end and_then ◌>>=◌ ◌>>◌ done position require answer_of big_endian_from bytes_of block byte counted header count is_literal literal_of group_head head_from head members whole item stated formula effect effects effect_list action actions ending parts body problem problem_of steps plan plan_of action_at line_at lines_from case_list list_of line_bytes lines_bytes encode_list is_state_number read_problem read_plan task_of read_task run_state judge list_bytes lines_for written list_for write_list follow_list cover_after names some has_entry matters_before relevant states number_of rows relevant_to run_rows reached_task relevant_facts each_step plans_of plans_from plans_up_to plan_count search search_plans ascii hex digits decimal sentence marks refusal_line right_line wrong_line undecided_line verdict_line line_text lines_text list_text verdict_rest answer_line answer_rest first_line later_lines desk_text
+unfolding eval condition_in every exclusive applicable next step first_false unmet lowest_false part_of goes_on run bit state_of case_of run_of walk_from walk look_at walked judged Answer.◌>>=◌ first refuse_at ends fault follow cover_end and_then ◌>>=◌ ◌>>◌ done position require answer_of big_endian_from bytes_of block byte counted header count is_literal literal_of group_head head_from head members whole item stated formula effect effects effect_list action actions ending parts body problem problem_of steps plan plan_of action_at line_at lines_from case_list list_of line_bytes lines_bytes encode_list is_state_number read_problem read_plan task_of read_task run_state judge list_bytes lines_for written list_for write_list follow_list cover_after names some has_entry matters_before relevant states number_of rows relevant_to run_rows reached_task relevant_facts each_step plans_of plans_from plans_up_to plan_count search search_plans hex digits marks lines_text list_text verdict_rest answer_line answer_rest first_line later_lines desk_text
 reply (read-problem p) = counts (read_problem version1 p)
 reply (read-plan p q) = number (read_plan version1 p q)
 reply (run-state p q s) = outcome (run_state version1 p q s)
@@ -291,26 +292,26 @@ edges =
     ∷ (follow-list P both_steps (lines (hex "00 03 000000000000 00 03 200000000000")) ⇒ number (refused 70 2))
     ∷ (follow-list P both_steps (the_list ++ hex "00") ⇒ number (refused 63 1))
     -- the desk program
-    ∷ (desk version1 P both_steps ⇒ text (ascii "right lines 3 visited 5\nno-start 00?\ncarries 01?\ncarries 1??\n"))
-    ∷ (desk version1 P step-0 ⇒ text (ascii "wrong 010 at end visited 5\n"))
-    ∷ (desk version1 P_guarded both_steps ⇒ text (ascii "wrong 010 at step 0 member 0 visited 5\n"))
-    ∷ (desk version1 [] both_steps ⇒ text (ascii "refused problem 11 at 0\n"))
-    ∷ (desk version1 P (hex "01 00000002 01 02") ⇒ text (ascii "refused plan 34 at 6\n"))
+    ∷ (desk version1 P both_steps ⇒ text (codes "right lines 3 visited 5\nno-start 00?\ncarries 01?\ncarries 1??\n"))
+    ∷ (desk version1 P step-0 ⇒ text (codes "wrong 010 at end visited 5\n"))
+    ∷ (desk version1 P_guarded both_steps ⇒ text (codes "wrong 010 at step 0 member 0 visited 5\n"))
+    ∷ (desk version1 [] both_steps ⇒ text (codes "refused problem 11 at 0\n"))
+    ∷ (desk version1 P (hex "01 00000002 01 02") ⇒ text (codes "refused plan 34 at 6\n"))
     -- its numbers of one, two and three digits
-    ∷ (desk version1 P (hex "01 00000005 01 01 01 01 02") ⇒ text (ascii "refused plan 34 at 9\n"))
-    ∷ (desk version1 nine no_step ⇒ text (ascii "right lines 10 visited 19\nno-start 0????????\nno-start 10???????\nno-start 110??????\nno-start 1110?????\nno-start 11110????\nno-start 111110???\nno-start 1111110??\nno-start 11111110?\nno-start 111111110\ncarries 111111111\n"))
+    ∷ (desk version1 P (hex "01 00000005 01 01 01 01 02") ⇒ text (codes "refused plan 34 at 9\n"))
+    ∷ (desk version1 nine no_step ⇒ text (codes "right lines 10 visited 19\nno-start 0????????\nno-start 10???????\nno-start 110??????\nno-start 1110?????\nno-start 11110????\nno-start 111110???\nno-start 1111110??\nno-start 11111110?\nno-start 111111110\ncarries 111111111\n"))
     -- the last refusal of a problem, the first of a plan, and a list that just fits or is too long
-    ∷ (desk version1 (block1 (hex "01 00 0001 00 0001 00 00")) [] ⇒ text (ascii "refused problem 25 at 13\n"))
-    ∷ (desk version1 P (replicate 262 0) ⇒ text (ascii "refused plan 30 at 261\n"))
-    ∷ (desk two_lines (initially (hex "0001 00")) no_step ⇒ text (ascii "right lines 2 visited 3\nno-start 0\ncarries 1\n"))
-    ∷ (desk two_lines P both_steps ⇒ text (ascii "right lines 3 visited 5\nlist too long\n"))
+    ∷ (desk version1 (block1 (hex "01 00 0001 00 0001 00 00")) [] ⇒ text (codes "refused problem 25 at 13\n"))
+    ∷ (desk version1 P (replicate 262 0) ⇒ text (codes "refused plan 30 at 261\n"))
+    ∷ (desk two_lines (initially (hex "0001 00")) no_step ⇒ text (codes "right lines 2 visited 3\nno-start 0\ncarries 1\n"))
+    ∷ (desk two_lines P both_steps ⇒ text (codes "right lines 3 visited 5\nlist too long\n"))
     ∷ []
 
 -- "a grant fixed at 1,000,000"; "undecided is "undecided visited 1000000"": every problem and plan that are read
 abbrev pub DeskGrant : Type 0
 DeskGrant =
     (problem plan : List ℕ) (T : Task) → read_task version1 problem plan ≡ answered T →
-    (1000000 < visits (walked T) → desk_text version1 problem plan ≡ ascii "undecided visited 1000000\n") ×
+    (1000000 < visits (walked T) → desk_text version1 problem plan ≡ codes "undecided visited 1000000\n") ×
     (visits (walked T) ≤ 1000000 →
     let v = found T (walked T) in
     desk_text version1 problem plan ≡ verdict_line version1 T.facts (line_count v) ++ verdict_rest version1 T.facts v)
@@ -340,7 +341,7 @@ unmet_members =
     ∷ (run-state guards (block1 (4 ∷ [])) 0x900000000000 ⇒ blocks_at 0 1)
     ∷ (run-state guards (block1 (5 ∷ 0 ∷ [])) 0x400000000000 ⇒ blocks_at 1 2)
     ∷ (judge_with guards (block1 (5 ∷ 0 ∷ [])) grant ⇒ verdict (answered (wrong 0 (blocked (record { step = 1; part = at_member 1 })) 5)))
-    ∷ (desk version1 guards (block1 (5 ∷ 0 ∷ [])) ⇒ text (ascii "wrong 0000 at step 1 member 1 visited 5\n"))
+    ∷ (desk version1 guards (block1 (5 ∷ 0 ∷ [])) ⇒ text (codes "wrong 0000 at step 1 member 1 visited 5\n"))
     ∷ []
 
 -- "An action that always sets and always clears 2", in P
@@ -366,7 +367,7 @@ abbrev pub conflicts : List Row
 conflicts =
     (run-state P_both step-0 0 ⇒ outcome (answered (stalls_at 0 2)))
     ∷ (judge_with P_both step-0 grant ⇒ verdict (answered (wrong 0x400000000000 (stalls_at 0 2) 5)))
-    ∷ (desk version1 P_both step-0 ⇒ text (ascii "wrong 010 at step 0 fact 2 visited 5\n"))
+    ∷ (desk version1 P_both step-0 ⇒ text (codes "wrong 010 at step 0 fact 2 visited 5\n"))
     ∷ (run-state stalls (block1 (0 ∷ [])) 0 ⇒ outcome (answered (stalls_at 0 1)))
     ∷ (run-state stalls (block1 (1 ∷ [])) 0 ⇒ blocks_at 0 0)
     ∷ (run-state stalls (block1 (1 ∷ [])) 0x400000000000 ⇒ outcome (answered (stalls_at 0 2)))
@@ -375,7 +376,7 @@ conflicts =
     ∷ (judge_with stalls (block1 (2 ∷ [])) grant ⇒ verdict (answered (right 2 3)))
     ∷ (run-state stalls (block1 (3 ∷ 2 ∷ [])) 0 ⇒ outcome (answered (stalls_at 1 1)))
     ∷ (judge_with stalls (block1 (3 ∷ 2 ∷ [])) grant ⇒ verdict (answered (wrong 0 (stalls_at 1 1) 4)))
-    ∷ (desk version1 stalls (block1 (4 ∷ [])) ⇒ text (ascii "right lines 3 visited 5\ncarries 00?\ncarries 01?\nno-start 1??\n"))
+    ∷ (desk version1 stalls (block1 (4 ∷ [])) ⇒ text (codes "right lines 3 visited 5\ncarries 00?\ncarries 01?\nno-start 1??\n"))
     ∷ (follow-list stalls (block1 (4 ∷ [])) (lines (hex "01 02 000000000000 01 02 400000000000 00 01 800000000000")) ⇒ number (answered 3))
     ∷ (follow-list stalls (block1 (4 ∷ [])) (lines (hex "01 01 000000000000 00 01 800000000000")) ⇒ number (refused 69 0))
     ∷ (judge_with stalls (block1 (3 ∷ 5 ∷ [])) grant ⇒ verdict (answered (right 1 1)))

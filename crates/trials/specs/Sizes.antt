@@ -1,10 +1,10 @@
 -- Rows of the trial tables at the formats' full sizes. They take longer to compute than all of model's own, so they stand apart.
-use Rattle.std.specs.Prelude.{List, [], ◌∷◌, ◌++◌, ℕ, zero, suc, ◌+◌, replicate}
+use Rattle.std.specs.Prelude.{List, [], ◌∷◌, ◌++◌, ℕ, zero, suc, ◌+◌, replicate, codes}
 use Prim.Native.String.{String}
 use Rattle.model.specs.Limits.{version1}
 use Rattle.model.specs.Answer.{answered}
 use Rattle.model.specs.Walk.{right, wrong}
-use Rattle.model.specs.Text.{ascii, hex}
+use Rattle.model.specs.Text.{hex}
 use Rattle.model.specs.Trials.{Hold, read-problem, judge_with, cover-after, relevant-facts, desk, number, verdict, text, Row, ◌⇒◌, wrote, no_step, step-0, grant, block1, accepts, refuses, initially, stalls_at, idle}
 
 -- so many effects, each on condition fact 0, from a literal byte on
@@ -43,13 +43,13 @@ bushy = block1 (hex "06 02 0004 81 02 02 03 0004 81 02 05 45 0002 80 00 00 0008 
 -- a "carries" line with the values v and each of the endings
 abbrev carrying : String → List String → List ℕ
 carrying v [] = []
-carrying v (e ∷ es) = ascii "carries " ++ (ascii v ++ (ascii e ++ (ascii "\n" ++ carrying v es)))
+carrying v (e ∷ es) = codes "carries " ++ (codes v ++ (codes e ++ (codes "\n" ++ carrying v es)))
 
 -- the thirteen lines of `bushy`, with no step, whose first two values are v
 abbrev quarter : String → List ℕ
 quarter v =
-    ascii "no-start " ++
-    (ascii v ++ (ascii "00??\n" ++
+    codes "no-start " ++
+    (codes v ++ (codes "00??\n" ++
     carrying v ("0100" ∷ "0101" ∷ "0110" ∷ "0111" ∷ "1000" ∷ "1001" ∷ "1010" ∷ "1011" ∷ "1100" ∷ "1101" ∷ "1110" ∷ "1111" ∷ [])))
 
 -- for `wide` and its action once: two lines of one number each, and one of the two after them
@@ -68,8 +68,8 @@ sizes =
     ∷ (read-problem (block1 (hex "30 01 0001 00 0001 00 0001 00 60" ++ (rising 48 0 ++ rising 48 64))) ⇒ accepts 48 1)
     ∷ (judge_with wide (long_plan 256) grant ⇒ verdict (answered (right 1 1)))
     ∷ (judge_with deep no_step grant ⇒ verdict (answered (right 49 97)))
-    ∷ (desk version1 bushy no_step ⇒ text (ascii "right lines 52 visited 103\n" ++ (quarter "00" ++ (quarter "01" ++ (quarter "10" ++ quarter "11")))))
-    ∷ (desk version1 bushy (hex "01 0000000b 00 00 00 00 00 00 00 00 00 00 01") ⇒ text (ascii "wrong 111111 at step 10 member 0 visited 103\n"))
+    ∷ (desk version1 bushy no_step ⇒ text (codes "right lines 52 visited 103\n" ++ (quarter "00" ++ (quarter "01" ++ (quarter "10" ++ quarter "11")))))
+    ∷ (desk version1 bushy (hex "01 0000000b 00 00 00 00 00 00 00 00 00 00 01") ⇒ text (codes "wrong 111111 at step 10 member 0 visited 103\n"))
     ∷ (judge_with wide_both step-0 grant ⇒ verdict (answered (wrong 0 (stalls_at 0 47) 49)))
     ∷ (cover-after wide step-0 single_numbers 1 ⇒ number (answered 1))
     ∷ (cover-after wide step-0 single_numbers 2 ⇒ number (answered 2))

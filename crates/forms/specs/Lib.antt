@@ -1,2 +1,0 @@
--- What is written, in the words of model/specs.
-pub mod Written

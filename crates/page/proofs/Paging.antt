@@ -1,0 +1,118 @@
+-- The page of a problem and a plan is the definition's text. Assumes nothing.
+use mathlib.Core.Path.{◌≡◌, refl, ap, ap₂, ◌∙◌, subst}
+use mathlib.Core.Bool.{Bool, true, false}
+use mathlib.Core.List.{List, [], ◌++◌}
+use Prim.Native.Nat.{ℕ, ◌+◌, ◌-◌, ◌*◌, ◌≤◌}
+use native.Mathlib.Nat.{mul-le-mul_left}
+use native.Mathlib.Omega.{arith}
+use lib.Dec.{leb}
+use lib.ListN.{length, take, drop}
+use lib.Seq.{sets, sets-eq, length-take-le}
+use borrow.Author.Tests.{leb-true}
+use Rattle.std.specs.Prelude.{Ok, Err}
+use Rattle.model.specs.declared.Limits.{Limits}
+use Rattle.model.specs.declared.Refusal.{Refusal}
+use Rattle.model.specs.declared.Verdict as declared
+use Rattle.model.specs.Limits.{version1}
+use Rattle.model.specs.Answer.{answered}
+use Rattle.model.specs.Answers.{refusal, verdict, judge_answer}
+use Rattle.model.specs.Case as model
+use Rattle.model.specs.Read.{head_bytes}
+use Rattle.model.specs.Walk.{Line, walked, Verdict, right, wrong, undecided, judged}
+use Rattle.model.specs.Operations.{read_task, line_count}
+use Rattle.model.specs.ListBytes.{lines_from, lines_bytes}
+use Rattle.model.specs.WellFormed.{LineOk, Each, Sensible}
+use Rattle.model.specs.Stands.{Span}
+use Rattle.model.specs.DeskText.{judged_line, lines_text, list_text, verdict_rest, desk_grant, answer_line, answer_rest, first_line, later_lines, desk_text}
+use Rattle.model.proofs.Laws.Reading.{split, span-length, is_whole}
+use Rattle.model.proofs.Laws.ListCodec as codec
+use Rattle.model.proofs.Laws.Verdicts.{Means, judged-means, walk-passes}
+use Rattle.model.proofs.Laws.Lists.{follows-ok}
+use Rattle.look.specs.declared.task.Task.{Task}
+use Rattle.look.specs.Tasks.{facts_of, ReadTask}
+use Rattle.look.proofs.Tasks.{task-width, task-facts, task-few}
+use Rattle.lines.specs.Putting.{LinesLaid}
+use Rattle.walk.specs.declared.page.Page.{Page}
+use Rattle.walk.specs.Pages.{PutsLines}
+use Rattle.judge.specs.Verdicts.{HasLines, JudgesTask}
+use Rattle.page.specs.Pages.{following, page_of}
+
+-- ---- the lines of a list, read back
+
+module _ (F : Limits) (S : Sensible F) where
+  -- lines that were put where a list block has them
+  lines-read :
+      (before : List ℕ) (ls : List Line) → head_bytes + F.line * length ls ≤ length before → Each (LineOk F) ls →
+      lines_from F (sets before head_bytes (lines_bytes F ls)) (length ls) head_bytes ≡ ls
+  lines-read before ls room ok =
+      let bytes = lines_bytes F ls in
+      let fit : head_bytes + length bytes ≤ length before = omega (arith, codec.length-lines F S [] ls) in
+      let l = take head_bytes before ++ bytes ++ drop (head_bytes + length bytes) before in
+      ap (λ (x : List ℕ). lines_from F x (length ls) head_bytes) (sets-eq bytes before head_bytes fit) ∙
+      (split (take head_bytes before ++ bytes) (is_whole {s = l}) λ q a b.
+      split (take head_bytes before) a λ p x y.
+      let i : p ≡ head_bytes = omega (arith, span-length x, length-take-le head_bytes before (omega arith)) in
+      codec.lines_ok F S l ls head_bytes q ok (subst (λ (j : ℕ). Span l (length l) j bytes q) i y))
+
+  -- a right verdict's lines are sound to write
+  lines_fit : (T : model.Task) → T.facts ≤ F.facts → T.width ≡ F.width → (g : ℕ) (ls : List Line) (a : ℕ) → judged T g ≡ right ls a → Each (LineOk F) ls
+  lines_fit T h w g ls a e =
+      let n≤w : T.facts ≤ T.width = omega (arith, S.width) in
+      let m = subst (Means T n≤w g (walked T)) e (judged-means T n≤w g) in
+      (follows-ok F S T.width _ T.facts (omega (arith, S.facts)) w ls 0 (walk-passes T n≤w ls a m.0)).1
+
+  -- ---- what follows the first line
+
+  module _ (n : ℕ) (before after : List ℕ) (room : head_bytes + F.line * F.lines ≤ length before) where
+    list-is :
+        (ls : List Line) (b : Bool) → leb (length ls) F.lines ≡ b → Each (LineOk F) ls → (next : ℕ) → LinesLaid F.line before head_bytes ls next after → (a : ℕ) →
+        following F n after (answered (right (length ls) a)) ≡ list_text F n ls
+    unfolding list_text
+    list-is ls true e ok next laid a =
+        let h : head_bytes + F.line * length ls ≤ length before = omega (arith, mul-le-mul_left F.line (leb-true (length ls) F.lines e)) in
+        rw e
+        (ap (λ (l : List ℕ). lines_text F n (lines_from F l (length ls) head_bytes)) ((laid h).bytes F refl) ∙
+        ap (lines_text F n) (lines-read before ls h ok))
+    list-is ls false e ok next laid a = rw e
+
+    following-is :
+        (v : Verdict (List Line)) → ((ls : List Line) (a : ℕ) → v ≡ right ls a → Each (LineOk F) ls) →
+        (closed : List Line) → HasLines closed v → (next : ℕ) → LinesLaid F.line before head_bytes closed next after →
+        following F n after (answered (line_count v)) ≡ verdict_rest F n v
+    unfolding verdict_rest
+    following-is (right ls a) ok closed h next laid =
+        list-is ls _ refl (ok ls a refl) next (subst (λ (x : List Line). LinesLaid F.line before head_bytes x next after) h laid) a
+    following-is (wrong s o a) ok closed h next laid = refl
+    following-is (undecided a) ok closed h next laid = refl
+
+-- ---- the page
+
+-- a refusal's, over however many facts
+pub refused-text :
+    (F : Limits) (n : ℕ) (s t list : List ℕ) (y : Refusal) → read_task version1 s t ≡ refusal y → page_of F n list (judge_answer (Err y)) ≡ desk_text version1 s t
+unfolding desk_text first_line answer_line later_lines answer_rest
+refused-text F n s t list y e = rw e
+
+-- a verdict's
+pub judged-text :
+    (s t after : List ℕ) → head_bytes + version1.line * version1.lines ≤ length after → (task : Task) → ReadTask s t task →
+    (a : declared.Verdict) (p q : Page) → JudgesTask (PutsLines task.problem.now.limits) task desk_grant p a q → p.at ≡ head_bytes → after ≡ q.out.now →
+    (n : ℕ) → n ≡ facts_of task.problem.now → page_of task.problem.now.limits n after (judge_answer (Ok a)) ≡ desk_text version1 s t
+unfolding desk_text first_line answer_line later_lines answer_rest
+judged-text s t after fit task R a p q J at e n z =
+    let T = R.of in
+    let F = task.problem.now.limits in
+    let S = task.problem.now.sensible in
+    let j = J.is T R.is in
+    let f : n ≡ T.facts = z ∙ task-facts R.is in
+    let room : head_bytes + F.line * F.lines ≤ length after = rw R.limits fit in
+    let laid : LinesLaid F.line p.out.now head_bytes J.closed q.at after = rw (e, ← at) J.put.laid in
+    let first : judged_line F n (answered (verdict a)) ≡ answer_line version1 (read_task version1 s t) =
+    ap (λ v. judged_line F n (answered v)) j.answer ∙ rw (R.read, f, R.limits)
+    in
+    let rest : following F n after (answered (verdict a)) ≡ answer_rest version1 (read_task version1 s t) =
+    ap (λ v. following F n after (answered v)) j.answer ∙
+    following-is F S n p.out.now after (omega (arith, room, J.put.size, ap length e)) (judged T desk_grant) (lines_fit F S T (task-few R.is) (task-width R.is) desk_grant) J.closed j.lines q.at laid ∙
+    rw (R.read, f, R.limits)
+    in
+    ap₂ (λ (x y : List ℕ). x ++ y) first rest

@@ -1,0 +1,135 @@
+// The whole page, which is decided once and goes to one writer.
+ghost use Rattle.std.specs.Prelude.{◌≡◌, ◌≤◌, ◌+◌, ◌*◌, length, Some, OnOk};
+ghost use Rattle.std.specs.Io.KnownBytes.{Appends};
+ghost use Rattle.model.specs.Read.{head_bytes};
+ghost use Rattle.model.specs.Limits.{version1};
+ghost use Rattle.model.specs.Answers.{judge_answer};
+ghost use Rattle.model.specs.DeskText.{judged_line, desk_text};
+ghost use Rattle.page.specs.Pages.{following, PageOf};
+
+use crate::answers::FirstLine;
+use crate::list::{ListLines, TooLong};
+use crate::marks::Facts;
+use judge::judge_task;
+use look::Found;
+use model::{CaseList, Limits, Refusal, Verdict};
+use std::io::Write;
+use std::{fmt, io};
+
+// The program's grant is fixed.
+const GRANT: u64 = 1000000;
+
+// What follows the first line: nothing, that the list is too long, or its lines.
+#[derive(Clone, Copy)]
+pub enum Rest<'a> {
+    Nothing,
+    TooLong,
+    Lines(ListLines<'a>),
+}
+
+impl fmt::Display for Rest<'_> {
+    ghost use Rattle.page.specs.Rest.{rest_text};
+
+    ghost output = { λ r. Some (rest_text r) };
+
+    fn fmt<W: fmt::Write>(&self, f: &mut fmt::Formatter<W>) -> fmt::Result {
+        match *self {
+            Rest::Nothing => Ok(()),
+            Rest::TooLong => write!(f, "{TooLong}"),
+            Rest::Lines(lines) => write!(f, "{lines}"),
+        }
+    }
+}
+
+// A page: its first line, and a list block with the lines of a right plan, where they are not too many.
+#[derive(Clone, Copy)]
+pub struct Page<'a> {
+    pub first: FirstLine,
+    pub list: &'a [u8],
+    pub ghost room: { head_bytes + first.facts.limits.line * first.facts.limits.lines ≤ length list.now },
+}
+
+impl<'a> Page<'a> {
+    ghost use Rattle.page.specs.Rest.{rest_text};
+
+    // What follows the first line: only a right plan has lines.
+    fn rest(&self) -> Rest<'a>
+        ensures { rest_text result ≡ following self.now.first.facts.limits self.now.first.facts.count self.now.list.now (judge_answer self.now.first.answer) }
+    {
+        let Ok(verdict) = self.first.answer else {
+            return Rest::Nothing;
+        };
+        let Verdict::Right { lines, visits: _ } = verdict else {
+            return Rest::Nothing;
+        };
+        let facts = self.first.facts;
+        if lines > facts.limits.lines as u64 {
+            return Rest::TooLong;
+        }
+        Rest::Lines(ListLines {
+            facts,
+            list: self.list,
+            count: lines as usize,
+        })
+    }
+}
+
+impl fmt::Display for Page<'_> {
+    ghost use Rattle.page.specs.Rest.{page_text};
+
+    ghost output = { λ p. Some (page_text p) };
+
+    fn fmt<W: fmt::Write>(&self, f: &mut fmt::Formatter<W>) -> fmt::Result {
+        write!(f, "{}{}", self.first, self.rest())
+    }
+}
+
+fn refused(refusal: Refusal) -> FirstLine
+    ensures limits { result.facts.limits ≡ version1 }
+    ensures answer { result.answer ≡ Err refusal }
+{
+    FirstLine {
+        facts: Facts {
+            limits: Limits::version1(),
+            count: 0,
+        },
+        answer: Err(refusal),
+    }
+}
+
+// The first line for a problem and a plan, with the lines of a right plan in `list` where a list block has them.
+fn judge_blocks(problem: &[u8], plan: &[u8], list: &mut [u8]) -> FirstLine
+    requires { head_bytes + version1.line * version1.lines ≤ length list.old }
+    ensures { PageOf problem.now plan.now list.new result }
+{
+    let found = match Found::read(problem) {
+        Err(refusal) => return refused(refusal),
+        Ok(found) => found,
+    };
+    let task = match found.plan(plan) {
+        Err(refusal) => return refused(refusal),
+        Ok(task) => task,
+    };
+    let mut lines = walk::Page {
+        out: list,
+        at: Limits::HEAD_BYTES,
+    };
+    let verdict = judge_task(&task, GRANT, &mut lines);
+    FirstLine {
+        facts: Facts {
+            limits: task.problem.limits,
+            count: task.problem.facts(),
+        },
+        answer: Ok(verdict),
+    }
+}
+
+// Writes the page for the bytes of a problem and of a plan.
+pub fn write_page<W: Write>(writer: &mut W, problem: &[u8], plan: &[u8]) -> io::Result<()>
+    ensures { OnOk result (Appends (W.contents writer.old) (W.contents writer.new) (desk_text version1 problem.now plan.now)) }
+{
+    let mut list = [0u8; CaseList::MAX_BYTES];
+    let first = judge_blocks(problem, plan, &mut list);
+    let page = Page { first, list: &list };
+    write!(writer, "{page}")
+}
