@@ -25,18 +25,18 @@ use Rattle.blocks.specs.Parts.{FormulaStands, ActionStands, Placed, TaskAt}
 -- ---- from a reader to the bytes
 
 module _ {F : Limits} (S : Sensible F) {s : List ℕ} {facts : ℕ} (b : Bytes s) (most : facts ≤ F.facts) where
-  formula-stands : {p : ℕ} {f : Formula} → FormulaStands s facts p f → (q : ℕ) × FormulaAt s facts p f q
+  pub formula-stands : {p : ℕ} {f : Formula} → FormulaStands s facts p f → (q : ℕ) × FormulaAt s facts p f q
   formula-stands {p} {f} k =
       let (o, r) = formula-got s facts (omega (arith, S.facts)) p f k.next b k.read in
       (k.next, record { ok = o; bytes = r })
 
-  action-stands : {p : ℕ} {a : Action} → ActionStands F s facts p a → (q : ℕ) × ActionAt s facts p a q
+  pub action-stands : {p : ℕ} {a : Action} → ActionStands F s facts p a → (q : ℕ) × ActionAt s facts p a q
   action-stands {p} {a} k =
       let (o, r) = action-got F s facts (omega (arith, S.facts)) p a k.next b k.read in
       (k.next, record { precondition = o.precondition; few = omega (arith, o.count, S.effects); effects = o.effects; bytes = r })
 
 -- the action of a plan's step is the one that the step names
-step-action : (as' : List Action) (bs : List ℕ) (i : ℕ) → i < length bs → action_at (map (action_at as') bs) i ≡ action_at as' (get_or bs i 0)
+pub step-action : (as' : List Action) (bs : List ℕ) (i : ℕ) → i < length bs → action_at (map (action_at as') bs) i ≡ action_at as' (get_or bs i 0)
 unfolding action_at
 step-action as' [] i h = absurd (not-suc-le-zero h)
 step-action as' (b ∷ bs) zero h = refl

@@ -2,8 +2,10 @@
 
 #![tactic(auto)]
 
+pub mod operations;
 pub mod plan;
 pub mod problem;
+pub mod task;
 
-pub use plan::{Task, find_task, read_plan};
+pub use plan::{Task, check_plan, find_task, read_plan};
 pub use problem::{Places, find_problem, read_problem};

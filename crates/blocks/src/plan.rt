@@ -28,7 +28,7 @@ fn check_steps(s: &[u8], at: usize, actions: u8) -> Result<usize, Refusal>
 }
 
 // A plan for so many actions: the block's end.
-fn check_plan(s: &[u8], actions: u8) -> Result<usize, Refusal>
+pub fn check_plan(s: &[u8], actions: u8) -> Result<usize, Refusal>
     ensures { result ≡ next_of (bytes.plan s.now actions 0) }
 {
     let at = check_header(s, 30, Plan::MAX_BYTES, Limits::VERSION)?;

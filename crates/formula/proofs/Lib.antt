@@ -3,3 +3,7 @@ pub mod Readers
 pub mod Heads
 pub mod Items
 pub mod Lengths
+pub mod Decoding
+pub mod Encoding
+pub mod Leaves
+pub mod Sizes

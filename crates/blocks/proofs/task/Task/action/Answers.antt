@@ -1,0 +1,6 @@
+use Rattle.std.proofs.Common.{sym, ◌∙◌}
+use Rattle.blocks.proofs.FoundTasks.{plan-action}
+use Rattle.blocks.proofs.task.Task.action.Goals as goal
+
+pub returns-clause-is : goal.returns-clause-is
+returns-clause-is c = c.action.ensures.is ∙ sym (plan-action c.args.self.now c.args.i c.requires)

@@ -1,0 +1,160 @@
+-- The lanes of a block: the parts of a lane are that lane with its next fact fixed, and the code's words show them. Assumes nothing.
+use mathlib.Core.Path.{◌≡◌, refl, sym, ap, ◌∙◌}
+use mathlib.Core.Bool.{Bool, true, cond, ◌&&◌}
+use mathlib.Core.List.{List, [], ◌∷◌}
+use Prim.Native.Nat.{ℕ, zero, suc, ◌+◌, ◌*◌, ◌-◌, ◌^◌, ◌≤◌, ◌<◌}
+use native.Mathlib.Numerals.{add-one}
+use native.Mathlib.Omega.{arith}
+use native.Mathlib.Decide.{ℕ_discrete}
+use lib.ListN.{length, get_or, set, length-set}
+use lib.Seq.{get_or-set_other, set-get_or, set-set, set_comm}
+use lib.Dec.{eqb}
+use borrow.Author.Tests.{eqb-true, eq-eqb, ne_eqb}
+use Rattle.model.specs.Kleene.{Kleene, No, Unknown, Yes, known}
+use Rattle.model.specs.Planes.{lane_bit, some_bit, sure_bit, InLanes}
+use Rattle.model.proofs.Laws.Truth.{and-true}
+use Rattle.cases.specs.Facts.{fact_of, with_facts}
+use Rattle.cases.specs.Blocks.{path_of, level_value, block_case}
+use Rattle.cases.proofs.Facts.{Outside, with_facts-is}
+
+-- ---- tests that are computed at every level and lane
+
+-- a test at every number below n
+unfoldable every : ℕ → (ℕ → Bool) → Bool
+every zero f = true
+every (suc n) f = f n && every n f
+
+every-at : (n : ℕ) (f : ℕ → Bool) → every n f ≡ true → (i : ℕ) → i < n → f i ≡ true
+unfolding every
+every-at zero f t i h = absurd (omega arith)
+every-at (suc n) f t i h =
+    let (a, b) = and-true (f n) (every n f) t in
+    elim (ℕ_discrete i n) [ yes e ↦ rw e a | no d ↦ every-at n f b i (omega arith) ]
+
+abbrev pub some_words : List ℕ
+some_words = 0xffff0000ff00f0cb ∷ 0xff00ff00f0f0ccaf ∷ 0xf0f0f0f0ccccaaff ∷ 0xccccccccaaaaffff ∷ 0xaaaaaaaaffffffff ∷ []
+
+abbrev pub sure_words : List ℕ
+sure_words = 0xffff0000ff00f0c8 ∷ 0xff00ff00f0f0cca0 ∷ 0xf0f0f0f0ccccaa00 ∷ 0xccccccccaaaa0000 ∷ 0xaaaaaaaa00000000 ∷ []
+
+abbrev shows : ℕ → ℕ → Bool
+shows e j =
+    eqb (lane_bit j (get_or some_words e 0)) (some_bit (level_value e j)) && eqb (lane_bit j (get_or sure_words e 0)) (sure_bit (level_value e j))
+
+all-show : every 5 (λ e. every 64 (shows e)) ≡ true
+unfolding every lane_bit level_value path_of
+all-show = refl
+
+pub level-lanes : (e : ℕ) → e < 5 → InLanes (get_or some_words e 0) (get_or sure_words e 0) (level_value e)
+level-lanes e h =
+    record {
+      lane =
+          λ j l.
+          let (a, b) = and-true _ _ (every-at 64 _ (every-at 5 _ all-show e h) j l) in
+          record { is_some = eqb-true _ _ a; is_sure = eqb-true _ _ b };
+    }
+
+-- a value as a number
+abbrev code : Kleene → ℕ
+code t = some_bit t + sure_bit t
+
+code-inj : (t u : Kleene) → code t ≡ code u → t ≡ u
+code-inj No No e = refl
+code-inj No Unknown e = absurd (omega arith)
+code-inj No Yes e = absurd (omega arith)
+code-inj Unknown No e = absurd (omega arith)
+code-inj Unknown Unknown e = refl
+code-inj Unknown Yes e = absurd (omega arith)
+code-inj Yes No e = absurd (omega arith)
+code-inj Yes Unknown e = absurd (omega arith)
+code-inj Yes Yes e = refl
+
+-- lane 2i + x, for a lane i of level e, has x for the fact of its level, and for every other what lane i has
+abbrev part_value : ℕ → ℕ → ℕ → ℕ → Kleene
+part_value e i x l = cond (eqb l e) (known (eqb x 1)) (level_value l i)
+
+abbrev parts : ℕ → ℕ → ℕ → ℕ → Bool
+parts e y x l = eqb (code (level_value l (2 * (2 ^ e + y) + x))) (code (part_value e (2 ^ e + y) x l))
+
+all-parts : every 5 (λ e. every (2 ^ e) (λ y. every 2 (λ x. every 5 (parts e y x)))) ≡ true
+unfolding every level_value path_of
+all-parts = refl
+
+-- ---- the case in a lane
+
+module _ (root : List Kleene) (k : ℕ) where
+  pub length-block : (d j : ℕ) → length (block_case root k d j) ≡ length root
+  unfolding block_case
+  length-block zero j = refl
+  length-block (suc d) j = length-set (block_case root k d j) (k + d) (level_value d j) ∙ length-block d j
+
+  pub block-outside : (d j g : ℕ) → Outside k (k + d) g → get_or (block_case root k d j) g No ≡ get_or root g No
+  unfolding block_case
+  block-outside zero j g out = refl
+  block-outside (suc d) j g out =
+      get_or-set_other (block_case root k d j) (k + d) g (level_value d j) No (λ y. out (omega arith) (omega arith)) ∙
+      block-outside d j g (λ a b. out a (omega arith))
+
+  -- lane 1 is the block's own case
+  pub block-root : (d : ℕ) → ((f : ℕ) → k ≤ f → f < k + d → get_or root f No ≡ Unknown) → block_case root k d 1 ≡ root
+  unfolding block_case level_value path_of
+  block-root zero h = refl
+  block-root (suc d) h =
+      rw (block-root d (λ f a b. h f a (omega arith)), ← h (k + d) (omega arith) (omega arith), set-get_or)
+
+-- the parts of lane i, before the fact of its level is set and from there on
+module _ (e i x : ℕ) (small : e < 5) (lo : 2 ^ e ≤ i) (hi : i < 2 ^ suc e) (b : x < 2) where
+  level-part : (l : ℕ) → l < 5 → level_value l (2 * i + x) ≡ part_value e i x l
+  level-part l h =
+      let z : i ≡ 2 ^ e + (i - 2 ^ e) = omega arith in
+      let t = every-at 2 _ (every-at (2 ^ e) _ (every-at 5 _ all-parts e small) (i - 2 ^ e) (omega arith)) x b in
+      rw z (code-inj _ _ (eqb-true _ _ (every-at 5 _ t l h)))
+
+  module _ (root : List Kleene) (k : ℕ) where
+    part-above : (d : ℕ) → d ≤ e → block_case root k d (2 * i + x) ≡ block_case root k d i
+    unfolding block_case
+    part-above zero h = refl
+    part-above (suc d) h = rw (level-part d (omega arith), ne_eqb d e (λ z. omega arith), part-above d (omega arith))
+
+    part : (d : ℕ) → d ≤ 5 → e < d → block_case root k d (2 * i + x) ≡ set (block_case root k d i) (k + e) (known (eqb x 1))
+    unfolding block_case
+    part zero few h = absurd (omega arith)
+    part (suc d) few h =
+        elim (ℕ_discrete d e) [
+          | yes z ↦ rw (level-part d (omega arith), eq-eqb d e z, part-above d (omega arith), ← z, set-set)
+          | no n ↦
+              let m : k + e ≡ k + d → ⊥ = λ y. n (omega arith) in
+              rw (level-part d (omega arith), ne_eqb d e n, part d (omega arith) (omega arith), set_comm (block_case root k d i) (k + e) (k + d))
+        ]
+
+module _ (root : List Kleene) (k d e i : ℕ) (few : d ≤ 5) (inner : e < d) (lo : 2 ^ e ≤ i) (hi : i < 2 ^ suc e) (room : k + d ≤ length root) where
+  pub part_no : block_case root k d (2 * i) ≡ set (block_case root k d i) (k + e) No
+  part_no =
+      let z : 2 * i ≡ 2 * i + 0 = omega arith in
+      ap (block_case root k d) z ∙ part e i 0 (omega arith) lo hi (omega arith) root k d few inner
+
+  pub part-yes : block_case root k d (2 * i + 1) ≡ set (block_case root k d i) (k + e) Yes
+  part-yes = part e i 1 (omega arith) lo hi (omega arith) root k d few inner
+
+-- ---- from a case to its block, level by level
+
+pub block-more :
+    (root v : List Kleene) (k d j : ℕ) (x : Kleene) → v ≡ block_case root k d j → x ≡ level_value d j → set v (k + d) x ≡ block_case root k (d + 1) j
+unfolding block_case
+block-more root v k d j x e i = rw (add-one, e, i) refl
+
+pub block_none : (root : List Kleene) (k j : ℕ) → root ≡ block_case root k 0 j
+unfolding block_case
+block_none root k j = refl
+
+-- ---- from a block to one of its lanes
+
+pub block-path :
+    (root : List Kleene) (k d to lane j : ℕ) → to ≡ k + d →
+    with_facts k to (fact_of (block_case root k d lane)) (block_case root k d j) ≡ block_case root k d lane
+block-path root k d to lane j e =
+    with_facts-is k to _ (block_case root k d j) (block_case root k d lane)
+    (length-block root k d lane ∙ sym (length-block root k d j)) (λ g l a b. refl)
+    (λ g l out.
+    let o : Outside k (k + d) g = λ a b. out a (omega arith) in
+    block-outside root k d lane g o ∙ sym (block-outside root k d j g o))

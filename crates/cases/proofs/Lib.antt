@@ -1,0 +1,6 @@
+-- Laws of the definitions, for several functions' proofs.
+pub mod Lanes
+pub mod Tables
+pub mod Facts
+pub mod Blocks
+pub mod Evaluating

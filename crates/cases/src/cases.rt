@@ -1,0 +1,167 @@
+// 64 cases at once, a bit ("lane") each.
+ghost use Rattle.std.proofs.Props.{props};
+ghost use Rattle.std.specs.Prelude.{◌≤◌};
+ghost use Rattle.model.specs.Limits.{max_facts};
+ghost use Rattle.model.specs.Planes.{Table};
+ghost use Rattle.cases.specs.Lanes.{case_in};
+
+use crate::block::value_of_level;
+use crate::case::Case;
+use crate::value::Value;
+use crate::words::{self, LANES, TABLE};
+
+// The two words of the literal with the byte b stand at twice b: in each lane its value in that lane's case, of so many facts.
+#[derive(Clone, Copy)]
+pub struct Cases {
+    pub facts: u8,
+    words: [u64; TABLE],
+    ghost few: { facts ≤ max_facts },
+    ghost hold: { Table words (case_in facts words) } by { Prim.hlevel props },
+}
+
+impl Cases {
+    ghost use Rattle.std.specs.Prelude.{ℕ, ◌≡◌, ◌+◌, ◌<◌, ◌≤◌, IsTrue, replicate, set};
+    ghost use Rattle.model.specs.Kleene.{Unknown, three};
+    ghost use Rattle.model.specs.Formula.{value_of};
+    ghost use Rattle.model.specs.FormulaBytes.{is_literal, literal_of};
+    ghost use Rattle.model.specs.Case.{case_of as case_numbered};
+    ghost use Rattle.model.specs.Planes.{lane_bit};
+    ghost use Rattle.cases.specs.Lanes.{value_in};
+    ghost use Rattle.cases.specs.Facts.{with_facts, bits_of, unfixed, fact_of};
+    ghost use Rattle.cases.specs.Blocks.{block_case};
+    ghost use Rattle.cases.specs.Cases.{case_of, value_at, with_literal, values_of};
+
+    // Every lane has the case that fixes no fact.
+    pub fn none_fixed(facts: u8) -> Cases
+        requires { facts ≤ max_facts }
+        ensures facts { result.facts ≡ facts }
+        ensures cases { (j : ℕ) → j < 64 → case_of result j ≡ replicate facts Unknown }
+    {
+        Cases {
+            facts,
+            words: words::none_fixed(facts as usize),
+        }
+    }
+
+    // Every lane has the state with these bits, fact 0 the top one.
+    pub fn of_state(facts: u8, word: u64) -> Cases
+        requires { facts ≤ max_facts }
+        ensures facts { result.facts ≡ facts }
+        ensures cases { (j : ℕ) → j < 64 → case_of result j ≡ case_numbered 64 facts facts word }
+    {
+        let mut cases = Cases::none_fixed(facts);
+        cases.fix_bits(0, facts as usize, word);
+        cases
+    }
+
+    // The value of a literal, by its byte.
+    #[inline(always)]
+    pub fn value(&self, b: u8) -> Value
+        requires { b < 128 }
+        ensures { (j : ℕ) → j < 64 → value_at result j ≡ value_of three (case_of self.now j) (literal_of b) }
+    {
+        self.value_of(b as usize)
+    }
+
+    #[inline(always)]
+    fn value_of(&self, literal: usize) -> Value
+        requires { literal < 128 }
+        ensures { (j : ℕ) → j < 64 → value_at result j ≡ value_of three (case_of self.now j) (literal_of literal) }
+    {
+        Value {
+            some: self.words[2 * literal],
+            sure: self.words[2 * literal + 1],
+        }
+    }
+
+    // In each lane the literal with this byte becomes the lane's value.
+    #[inline(always)]
+    pub fn put(&mut self, b: u8, value: Value)
+        requires { IsTrue (is_literal self.old.facts b) }
+        ensures facts { self.new.facts ≡ self.old.facts }
+        ensures cases { (j : ℕ) → j < 64 → case_of self.new j ≡ with_literal (literal_of b) (value_at value j) (case_of self.old j) }
+    {
+        words::set_literal(&mut self.words, b as usize, value.some, value.sure);
+    }
+
+    // In each lane fact f becomes the lane's value.
+    #[inline(always)]
+    pub fn set_fact(&mut self, f: usize, value: Value)
+        requires { f < self.old.facts }
+        ensures facts { self.new.facts ≡ self.old.facts }
+        ensures cases { (j : ℕ) → j < 64 → case_of self.new j ≡ set (case_of self.old j) f (value_at value j) }
+    {
+        words::set_literal(&mut self.words, f, value.some, value.sure);
+    }
+
+    // In each lane fact f becomes what its bit of `yes` says.
+    #[inline(always)]
+    pub fn fix(&mut self, f: u8, yes: u64)
+        requires { f < self.old.facts }
+        ensures facts { self.new.facts ≡ self.old.facts }
+        ensures cases { (j : ℕ) → j < 64 → case_of self.new j ≡ set (case_of self.old j) f (value_in (lane_bit j yes) (lane_bit j yes)) }
+    {
+        self.set_fact(f as usize, Value::known(yes));
+    }
+
+    // The facts from .. to - 1 become, in every lane, the bits of `word`.
+    pub fn fix_bits(&mut self, from: usize, to: usize, word: u64)
+        requires { to ≤ self.old.facts }
+        ensures facts { self.new.facts ≡ self.old.facts }
+        ensures cases { (j : ℕ) → j < 64 → case_of self.new j ≡ with_facts from to (bits_of word) (case_of self.old j) }
+    {
+        for f in from..to {
+            let value = Value::known(word).spread(LANES - 1 - f);
+            self.set_fact(f, value);
+        }
+    }
+
+    // The facts from .. to - 1 become unknown in every lane.
+    pub fn free_facts(&mut self, from: usize, to: usize)
+        requires { to ≤ self.old.facts }
+        ensures facts { self.new.facts ≡ self.old.facts }
+        ensures cases { (j : ℕ) → j < 64 → case_of self.new j ≡ with_facts from to unfixed (case_of self.old j) }
+    {
+        for f in from..to {
+            self.set_fact(f, Value::unknown());
+        }
+    }
+
+    // The case `from` of every lane gives way to `to`; only the facts past their common start are touched.
+    pub fn set_case(&mut self, from: Case, to: Case)
+        requires from { from.fixed ≤ self.old.facts }
+        requires to { to.fixed ≤ self.old.facts }
+        ensures facts { self.new.facts ≡ self.old.facts }
+        ensures cases { (j : ℕ) → j < 64 → case_of self.old j ≡ values_of self.old.facts from
+            → case_of self.new j ≡ values_of self.old.facts to }
+    {
+        let common = from.common(to);
+        self.fix_bits(common, to.fixed, to.word);
+        self.free_facts(to.fixed, from.fixed);
+    }
+
+    // From a case to its block: the facts k .. k + levels - 1 get the values that they have in each lane of a block.
+    pub fn fix_levels(&mut self, k: usize, levels: usize)
+        requires few { levels ≤ 5 }
+        requires inside { k + levels ≤ self.old.facts }
+        ensures facts { self.new.facts ≡ self.old.facts }
+        ensures cases { (j : ℕ) → j < 64 → case_of self.new j ≡ block_case (case_of self.old j) k levels j }
+    {
+        for level in 0..levels {
+            self.set_fact(k + level, value_of_level(level));
+        }
+    }
+
+    // From a block to one of its lanes: the facts k .. k + levels - 1 become in every lane what they are in this one.
+    pub fn fix_path(&mut self, k: usize, levels: usize, lane: usize)
+        requires is_lane { lane < 64 }
+        requires inside { k + levels ≤ self.old.facts }
+        ensures facts { self.new.facts ≡ self.old.facts }
+        ensures cases { (j : ℕ) → j < 64 → case_of self.new j ≡ with_facts k (k + levels) (fact_of (case_of self.old lane)) (case_of self.old j) }
+    {
+        for f in k..k + levels {
+            let value = self.value_of(f).spread(lane);
+            self.set_fact(f, value);
+        }
+    }
+}

@@ -1,0 +1,85 @@
+// Words of 64 lanes, a bit each, and a table of 256 of them: the two words of the literal with the byte b stand at twice b.
+ghost use Rattle.std.specs.Prelude.{◌≡◌, ◌^◌, ◌≤◌, ◌<◌};
+ghost use Rattle.model.specs.Limits.{max_facts};
+ghost use Rattle.model.specs.Planes.{lane_bit};
+ghost use Rattle.cases.specs.Words.{Spread, raised, SameCase, SetsLiteral, NoneFixed};
+
+// Every lane.
+pub const ONES: u64 = u64::MAX;
+
+// The lanes of a word.
+pub const LANES: usize = 64;
+
+// The facts of a table; a fact's denial is the literal so many after it.
+const FACTS: usize = 64;
+
+const LITERALS: usize = 2 * FACTS;
+
+// The words of a table.
+pub const TABLE: usize = 2 * LITERALS;
+
+// The bit of a lane.
+#[inline(always)]
+pub fn lane_bit(word: u64, lane: usize) -> u64
+    requires { lane < 64 }
+    ensures { result ≡ lane_bit lane word }
+{
+    (word >> lane) % 2
+}
+
+// That bit in every lane.
+#[inline(always)]
+pub fn spread(word: u64, lane: usize) -> u64
+    requires { lane < 64 }
+    ensures { Spread word lane result }
+{
+    if lane_bit(word, lane) == 1 { ONES } else { 0 }
+}
+
+// The number of a state or of a case, so many bits wide, as a word: fact 0 comes to its top bit.
+#[inline(always)]
+pub fn word_of(width: usize, number: u64) -> u64
+    requires some { 0 < width }
+    requires word { width ≤ 64 }
+    requires fits { number < 2 ^ width }
+    ensures raised { result ≡ raised width number }
+    ensures same { SameCase width number result }
+{
+    number << (LANES - width)
+}
+
+// The literal with the byte b gets new values, and its denial with it.
+#[inline(always)]
+pub fn set_literal(words: &mut [u64; TABLE], b: usize, some: u64, sure: u64)
+    requires { b < 128 }
+    ensures { SetsLiteral words.old b some sure words.new }
+{
+    let denial = (b + FACTS) % LITERALS;
+    words[2 * b] = some;
+    words[2 * b + 1] = sure;
+    words[2 * denial] = ONES ^ sure;
+    words[2 * denial + 1] = ONES ^ some;
+}
+
+// Every fact and every denial unknown in every lane.
+fn unknown() -> [u64; TABLE]
+    ensures { NoneFixed max_facts result }
+{
+    let mut words = [0u64; TABLE];
+    for b in 0..LITERALS {
+        words[2 * b] = ONES;
+    }
+    words
+}
+
+// None of so many facts is fixed in any lane; the facts past them are no.
+pub fn none_fixed(facts: usize) -> [u64; TABLE]
+    requires { facts ≤ max_facts }
+    ensures { NoneFixed facts result }
+{
+    let mut words = unknown();
+    for f in (facts..FACTS).rev() {
+        set_literal(&mut words, f, 0, 0);
+    }
+    words
+}

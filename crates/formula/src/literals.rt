@@ -1,0 +1,53 @@
+// The literals of formulas, one after the other.
+ghost use Rattle.std.specs.Prelude.{◌≡◌};
+ghost use Rattle.formula.specs.Views.{formula};
+
+use crate::formulas::{Formula, Formulas, Next};
+
+// The bytes of the literals that are left, in order, whatever groups they are in.
+#[derive(Clone, Copy)]
+pub struct Literals<'a> {
+    formulas: Formulas<'a>,
+}
+
+impl<'a> Formula<'a> {
+    ghost use Rattle.formula.specs.Literals.{literals_left, literals};
+
+    // The bytes of its literals.
+    #[inline(always)]
+    pub fn literals(self) -> Literals<'a>
+        ensures { literals_left result ≡ literals (formula self.entry) }
+    {
+        Literals {
+            formulas: self.alone(),
+        }
+    }
+}
+
+impl<'a> Iterator for Literals<'a> {
+    ghost use Rattle.std.specs.Iterator.{YieldsFirst, item_count};
+    ghost use Rattle.formula.specs.Literals.{literals_left};
+
+    type Item = u8;
+
+    ghost next_gives = { YieldsFirst literals_left };
+
+    ghost remaining = { item_count literals_left };
+
+    #[inline(always)]
+    fn next(&mut self) -> Option<u8> {
+        while !self.formulas.is_empty() {
+            match self.formulas.next() {
+                Next::Literal(b, rest) => {
+                    self.formulas = rest;
+                    return Some(b);
+                }
+                // A group's members are the next formulas.
+                Next::Group(_, _, members) => {
+                    self.formulas = members;
+                }
+            }
+        }
+        None
+    }
+}

@@ -1,0 +1,74 @@
+-- One action: it is obeyed in the lanes that go on. Assumes nothing.
+use Rattle.std.proofs.Common.{◌≡◌, refl, sym, ap, ◌∙◌, ℕ, ◌≤◌, ◌<◌, min, bit_and, arith}
+use Rattle.std.proofs.lemmas.Nat.{and_le_l}
+use Rattle.model.specs.Kleene.{Kleene, is_yes, three}
+use Rattle.model.specs.Formula.{eval}
+use Rattle.model.specs.Action.{Action, every, exclusive, applicable, step}
+use Rattle.model.specs.Run.{holds_in}
+use Rattle.model.specs.Case.{flag}
+use Rattle.model.specs.Planes.{lane_bit}
+use Rattle.model.proofs.Laws.Planes.{low_bit, bit-and, bit-zero, bit-small}
+use Rattle.cases.specs.declared.value.Value.{Value}
+use Rattle.cases.specs.declared.cases.Cases.{Cases}
+use Rattle.cases.specs.Cases.{case_of, value_at}
+use Rattle.obey.specs.declared.conditions.Conditions.{Conditions}
+use Rattle.obey.specs.declared.action.Hindrance.TheVariants.{Precondition, Conflict}
+use Rattle.obey.specs.Conditions.{Hold, LeftOut, AllLeftOut}
+use Rattle.obey.specs.Actions.{applicable_bit, GoesOn, IsHindered}
+use Rattle.obey.proofs.Conflicts.{sure-yes, flag-and, flag_true, flag-false}
+
+-- lane 0 alone
+pub lane-0 : (alive x : ℕ) → alive ≡ 1 → lane_bit 0 (bit_and alive x) ≡ lane_bit 0 x
+lane-0 alive x e = bit-and 0 alive x ∙ rw (e, low_bit 1) (omega (arith, bit-small 0 x))
+
+module _ (c : Cases) (a : Action) (alive : ℕ) (v : Value) (x : (j : ℕ) → j < 64 → value_at v j ≡ eval three (case_of c j) a.precondition) where
+  abbrev met : ℕ
+  met = bit_and alive v.sure
+
+  holds-bit : (j : ℕ) → j < 64 → lane_bit j v.sure ≡ flag (holds_in three (case_of c j) a.precondition)
+  holds-bit j l = sure-yes v j l ∙ ap (λ (t : Kleene). flag (is_yes t)) (x j l)
+
+  met-bit : (j : ℕ) → j < 64 → lane_bit j met ≡ min (lane_bit j alive) (flag (holds_in three (case_of c j) a.precondition))
+  met-bit j l = bit-and j alive v.sure ∙ ap (min (lane_bit j alive)) (holds-bit j l)
+
+  applicable-bit : (j : ℕ) → j < 64 → applicable_bit c a alive j ≡ min (lane_bit j met) (flag (every c.facts (exclusive three a (case_of c j))))
+  unfolding applicable
+  applicable-bit j l =
+      rw (flag-and (holds_in three (case_of c j) a.precondition) (every c.facts (exclusive three a (case_of c j))), met-bit j l) (omega arith)
+
+  -- no lane meets the precondition
+  pub obeys-none : met ≡ 0 → IsHindered c a alive c Precondition
+  obeys-none e =
+      record {
+        kept = refl;
+        none = λ j l. applicable-bit j l ∙ rw (e, bit-zero j) (omega arith);
+        hinders =
+            λ one.
+            flag-false _ (sym (holds-bit 0 (omega arith)) ∙ sym (lane-0 alive v.sure one) ∙ ap (lane_bit 0) e ∙ bit-zero 0);
+      }
+
+  -- its conditions were found, and the lanes in conflict left out
+  module _ (k : Conditions) (same : k.facts ≡ c.facts) (H : Hold k a.effects (case_of c)) where
+    pub obeys-conflict : 0 < met → (f : ℕ) → AllLeftOut k met f → IsHindered c a alive c (Conflict f)
+    obeys-conflict some f W =
+        record {
+          kept = refl;
+          none = λ j l. applicable-bit j l ∙ (rw same at (W.bits a (case_of c) H j l));
+          hinders =
+              λ one.
+              let most : met ≤ alive = and_le_l alive v.sure in
+              let only : met ≡ 1 = omega arith in
+              let bit : lane_bit 0 v.sure ≡ 1 = sym (lane-0 alive v.sure one) ∙ ap (lane_bit 0) only ∙ low_bit 1 in
+              (flag_true _ (λ z. omega (arith, bit, z, holds-bit 0 (omega arith))), rw same at (W.lowest a (case_of c) H only));
+        }
+
+    pub obeys-some :
+        (lanes : ℕ) (d : Cases) → LeftOut k met lanes →
+        ((b : Action) → Hold k b.effects (case_of c) → (j : ℕ) → j < 64 → case_of d j ≡ step three c.facts b (case_of c j)) → GoesOn c a alive d lanes
+    obeys-some lanes d W S =
+        record {
+          among = omega (arith, W.among, and_le_l alive v.sure);
+          some = W.some;
+          bits = λ j l. (rw same at (W.bits a (case_of c) H j l)) ∙ sym (applicable-bit j l);
+          cases = S a H;
+        }
