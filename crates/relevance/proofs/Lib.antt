@@ -1,3 +1,5 @@
 -- Laws of the definitions, for several functions' proofs.
 pub mod Answers
 pub mod Promise
+pub mod Running
+pub mod Within

@@ -1,4 +1,4 @@
--- W-204 of the code: from the equations with the definition and the theorem about the definitions. Assumes nothing.
+-- The promise: from the equations with the definition and the theorem about the definitions. Assumes nothing.
 use mathlib.Core.Path.{◌≡◌, refl, sym, ap, ◌∙◌}
 use mathlib.Core.Logic.{inl, inr}
 use mathlib.Core.List.{List}

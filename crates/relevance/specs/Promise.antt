@@ -1,4 +1,4 @@
--- W-204 of the code: what an answer of `relevant_facts` promises, and every byte of the work area with it.
+-- What an answer of `relevant_facts` promises, and every byte of the work area with it.
 use Rattle.std.specs.Prelude.{◌≡◌, ◌≢◌, ◌⊎◌, List, ℕ, ◌≤◌, ◌<◌, length, take, drop}
 use Rattle.model.specs.Limits.{version1}
 use Rattle.model.specs.Answer.{Answer, refused, answered}

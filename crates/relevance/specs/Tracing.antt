@@ -1,23 +1,40 @@
 -- What is refused before anything is written, and what is answered then.
-use Rattle.std.specs.Prelude.{◌≡◌, cond, List, ◌++◌, ℕ, drop, ltb, Result}
-use Rattle.model.specs.declared.Limits.{Limits}
-use Rattle.model.specs.declared.Problem.{Problem}
+use Rattle.std.specs.Prelude.{◌≡◌, Bool, true, false, cond, ◌&&◌, List, ◌++◌, ℕ, ◌-◌, ◌%◌, ◌^◌, length, drop, eqb, ltb, Result, Ok, Err}
 use Rattle.model.specs.declared.Refusal.{Refusal}
+use Rattle.model.specs.Kleene.{two}
 use Rattle.model.specs.Answer.{refused, answered}
 use Rattle.model.specs.Answers.{plain_answer}
-use Rattle.model.specs.Run.{Outcome, reached}
-use Rattle.model.specs.Case.{case_of, Task, run_of}
+use Rattle.model.specs.Run.{reached, run}
+use Rattle.model.specs.Case.{state_of, Task, run_of}
 use Rattle.model.specs.Relevance.{relevant_to, work_bytes, run_rows}
 use Rattle.model.specs.Operations.{when_reached}
-use Rattle.model.specs.Planes.{Table}
-use Rattle.blocks.specs.Standing.{TaskIn}
+use Rattle.cases.specs.declared.cases.Cases.{Cases}
+use Rattle.backward.specs.Rows.{Shows, WithinTask}
 
--- "with 41 if the run is not reached and 42 if the work area is short"
-pub record Checks (o : Outcome) (need room : ℕ) (r : Result (Unit {0}) Refusal) : Type 0 where
-  pub is : plain_answer r ≡ when_reached o (cond (ltb room need) (refused 42 0) (answered tt))
+-- whether s is the number of a state of n facts, w bits wide
+abbrev pub numbers_state : ℕ → ℕ → ℕ → Bool
+numbers_state w n s = ltb s (2 ^ w) && eqb (s % 2 ^ (w - n)) 0
 
--- the set of facts that the run of the state in every lane of c rests on, and the work area after it, if the run is reached
-pub record TracesTask (F : Limits) (problem steps : List ℕ) (parts : Problem) (c before : List ℕ) (r : ℕ) (after : List ℕ) : Type 0 where
-  pub is :
-      (T : Task) → TaskIn F problem steps parts T → (s : ℕ) → Table c (λ j. case_of T.width T.facts T.facts s) → run_of T s ≡ reached →
-      (r ≡ relevant_to T s) × (after ≡ run_rows T s ++ drop (work_bytes T) before)
+-- it is one, and lane 0 has that state
+pub record HasState (w n s : ℕ) (c : Cases) : Type 0 where
+  pub is : numbers_state w n s ≡ true
+  pub facts : c.facts ≡ n
+  pub shows : Shows c (state_of w n s)
+
+abbrev pub ReadsState : ℕ → ℕ → ℕ → Result Cases Refusal → Type 0
+ReadsState w n s (Err r) = (numbers_state w n s ≡ false) × (r ≡ record { number = 40; place = 0 })
+ReadsState w n s (Ok c) = HasState w n s c
+
+-- "41 if the run is not reached"
+abbrev pub ChecksRun : Task → Cases → Result (Unit {0}) Refusal → Type 0
+ChecksRun T c r = (st : List Bool) → length st ≡ T.facts → Shows c st → plain_answer r ≡ when_reached (run two T.facts T.goal T.plan 0 st) (answered tt)
+
+-- "and 42 if the work area is short"
+abbrev pub ChecksRoom : ℕ → ℕ → Result (Unit {0}) Refusal → Type 0
+ChecksRoom need room r = plain_answer r ≡ cond (ltb room need) (refused 42 0) (answered tt)
+
+-- the set of facts that the run of the state in lane 0 rests on, and the work area after it, if the run is reached
+abbrev pub TracesTask : Task → Cases → List ℕ → ℕ → List ℕ → Type 0
+TracesTask T c before r after =
+    WithinTask T → (s : ℕ) → Shows c (state_of T.width T.facts s) → run_of T s ≡ reached →
+    (r ≡ relevant_to T s) × (after ≡ run_rows T s ++ drop (work_bytes T) before)

@@ -1,4 +1,4 @@
-// Which start facts an outcome rests on (document 02, W-204).
+// Which start facts an outcome rests on.
 
 #![tactic(auto)]
 

@@ -1,0 +1,10 @@
+-- Laws of the definitions, for several functions' proofs.
+pub mod Sets
+pub mod Naming
+pub mod Entries
+pub mod Changing
+pub mod Backward
+pub mod States
+pub mod Undoing
+pub mod Writing
+pub mod Tracing

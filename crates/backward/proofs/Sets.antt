@@ -1,0 +1,134 @@
+-- Sets of facts as words: the word operators are those of sets. Assumes nothing.
+use mathlib.Core.Path.{◌≡◌, refl, sym, ap, subst, ◌∙◌}
+use mathlib.Core.Bool.{Bool, false, not, ◌&&◌, ◌||◌}
+use Prim.Native.Nat.{ℕ, zero, suc, ◌+◌, ◌*◌, ◌-◌, ◌/◌, ◌%◌, ◌^◌, ◌≤◌, ◌<◌, min, max}
+use native.Mathlib.Nat.{div-eq_of_lt, mod-eq_of_lt, pow-suc, one-mul}
+use native.Mathlib.Omega.{arith}
+use native.Mathlib.Decide.{dec_lt, ℕ_discrete}
+use lib.Dec.{eqb}
+use lib.Bits.{bit_and, bit_or, bit_xor}
+use lib.Pow.{pow-lt, pow-add, shl-shr, shr-shr, shr_lt}
+use mathlib.Core.List.{List}
+use lib.ListN.{length, get_or}
+use Rattle.model.specs.Relevance.{number_of}
+use Rattle.model.proofs.Laws.StateNumbers.{number-of}
+use Rattle.std.proofs.lemmas.Nat.{and_mask, and_comm}
+use Rattle.std.specs.Int.Bits.{xor_add_and}
+use borrow.Author.Tests.{eq-eqb, ne_eqb}
+use Rattle.model.specs.Limits.{max_facts}
+use Rattle.model.specs.Case.{bit}
+use Rattle.model.specs.Planes.{lane_bit}
+use Rattle.model.proofs.Laws.Truth.{or_assoc, or-none}
+use Rattle.model.proofs.Laws.Planes.{ones, bit-small, bit-and, bit-or, bit-zero, bit-flip}
+
+-- fact f has the bit of this lane
+abbrev lane_of : ℕ → ℕ
+lane_of f = max_facts - suc f
+
+has : (x f : ℕ) → bit max_facts x f ≡ eqb (lane_bit (lane_of f) x) 1
+unfolding bit lane_bit
+has x f = refl
+
+or-bits : (x y : ℕ) → x < 2 → y < 2 → eqb (max x y) 1 ≡ (eqb x 1 || eqb y 1)
+or-bits zero zero h k = refl
+or-bits zero (suc zero) h k = refl
+or-bits (suc zero) zero h k = refl
+or-bits (suc zero) (suc zero) h k = refl
+or-bits (suc (suc x)) y h k = absurd (omega arith)
+or-bits zero (suc (suc y)) h k = absurd (omega arith)
+or-bits (suc zero) (suc (suc y)) h k = absurd (omega arith)
+
+and-bits : (x y : ℕ) → x < 2 → y < 2 → eqb (min x y) 1 ≡ (eqb x 1 && eqb y 1)
+and-bits zero zero h k = refl
+and-bits zero (suc zero) h k = refl
+and-bits (suc zero) zero h k = refl
+and-bits (suc zero) (suc zero) h k = refl
+and-bits (suc (suc x)) y h k = absurd (omega arith)
+and-bits zero (suc (suc y)) h k = absurd (omega arith)
+and-bits (suc zero) (suc (suc y)) h k = absurd (omega arith)
+
+not-bit : (x : ℕ) → x < 2 → eqb (1 - x) 1 ≡ not (eqb x 1)
+not-bit zero h = refl
+not-bit (suc zero) h = refl
+not-bit (suc (suc x)) h = absurd (omega arith)
+
+pub set-none : (f : ℕ) → bit max_facts 0 f ≡ false
+set-none f = has 0 f ∙ rw (bit-zero (lane_of f))
+
+pub set-or : (x y f : ℕ) → bit max_facts (bit_or x y) f ≡ (bit max_facts x f || bit max_facts y f)
+set-or x y f =
+    let l = lane_of f in
+    has (bit_or x y) f ∙ rw (bit-or l x y, or-bits (lane_bit l x) (lane_bit l y) (bit-small l x) (bit-small l y), ← has x f, ← has y f)
+
+pub set-and : (x y f : ℕ) → bit max_facts (bit_and x y) f ≡ (bit max_facts x f && bit max_facts y f)
+set-and x y f =
+    let l = lane_of f in
+    has (bit_and x y) f ∙ rw (bit-and l x y, and-bits (lane_bit l x) (lane_bit l y) (bit-small l x) (bit-small l y), ← has x f, ← has y f)
+
+set-not : (x f : ℕ) → bit max_facts (bit_xor ones x) f ≡ not (bit max_facts x f)
+set-not x f =
+    let l = lane_of f in
+    has (bit_xor ones x) f ∙ rw (bit-flip l x (omega arith), not-bit (lane_bit l x) (bit-small l x), ← has x f)
+
+pub set-rest : (x y f : ℕ) → bit max_facts (bit_and x (bit_xor ones y)) f ≡ (bit max_facts x f && not (bit max_facts y f))
+set-rest x y f = set-and x (bit_xor ones y) f ∙ ap (λ b. bit max_facts x f && b) (set-not y f)
+
+-- one fact
+pub set-one : (f : ℕ) → f < max_facts → (g : ℕ) → g < max_facts → bit max_facts (2 ^ (max_facts - suc f)) g ≡ eqb f g
+unfolding bit
+set-one f l g m =
+    elim (ℕ_discrete f g) [
+      | yes e ↦
+          let q : 2 ^ (max_facts - suc g) / 2 ^ (max_facts - suc g) ≡ 1 = ap (λ (x : ℕ). x / 2 ^ (max_facts - suc g)) (omega arith) ∙ shl-shr 1 (max_facts - suc g) in
+          rw (e, q) (sym (eq-eqb g g refl))
+      | no n ↦ rw (ne_eqb f g n) (ap (λ (x : ℕ). eqb x 1) (apart n))
+    ]
+  where
+    apart : (f ≡ g → ⊥) → 2 ^ (max_facts - suc f) / 2 ^ (max_facts - suc g) % 2 ≡ 0
+    apart n =
+        elim (dec_lt g f) [
+          | yes k ↦ ap (λ (x : ℕ). x % 2) (div-eq_of_lt (pow-lt {i = max_facts - suc f} {j = max_facts - suc g} (omega arith)))
+          | no k ↦
+              let i : max_facts - suc f ≡ suc (g - suc f) + (max_facts - suc g) = omega arith in
+              rw (i, pow-add 2 (suc (g - suc f)) (max_facts - suc g), shl-shr (2 ^ suc (g - suc f)) (max_facts - suc g), pow-suc 2 (g - suc f)) (omega arith)
+        ]
+
+-- a bit by its number from below
+pub bit-above : (f : ℕ) → f < max_facts → 63 - f ≡ max_facts - suc f
+bit-above f l = omega arith
+
+pub top-shifted : (f : ℕ) → f < max_facts → 1 * 2 ^ (63 - f) % 18446744073709551616 ≡ 2 ^ (max_facts - suc f)
+top-shifted f l =
+    let p : 2 ^ (63 - f) < 2 ^ 64 = pow-lt {i = 63 - f} {j = 64} (omega arith) in
+    rw (one-mul (2 ^ (63 - f)), mod-eq_of_lt p, bit-above f l) refl
+
+-- the complement of a word
+pub flipped : (x : ℕ) → x < 2 ^ 64 → 18446744073709551615 - x ≡ bit_xor ones x
+flipped x l =
+    let m : bit_and x (2 ^ 64 - 1) ≡ x = and_mask x 64 ∙ mod-eq_of_lt l in
+    omega (arith, xor_add_and ones x, and_comm ones x, m)
+
+-- ---- a set that grows: what is so is so of what was met (h), or of what is left (o of the next, r of those after it)
+
+pub grown : (h o r : Bool) {a left h' : Bool} → a ≡ (h || left) → left ≡ (o || r) → h' ≡ (h || o) → a ≡ (h' || r)
+grown h o r e k i = e ∙ rw (k, i) (sym (or_assoc h o r))
+
+pub grown-none : (h : Bool) {a left : Bool} → a ≡ (h || left) → left ≡ false → h ≡ a
+grown-none h e k = sym (e ∙ rw k (or-none h))
+
+-- ---- a set as a number
+
+pub number-small : (w word : ℕ) → w ≤ max_facts → word < 2 ^ max_facts → word / 2 ^ (max_facts - w) < 2 ^ w
+number-small w word l h =
+    let e : max_facts ≡ w + (max_facts - w) = omega arith in
+    shr_lt w (max_facts - w) (subst (λ (x : ℕ). word < 2 ^ x) e h)
+
+pub number-is :
+    (w word : ℕ) (m : List Bool) → w ≤ max_facts → word < 2 ^ max_facts → length m ≤ w → ((f : ℕ) → f < max_facts → bit max_facts word f ≡ get_or m f false) →
+    word / 2 ^ (max_facts - w) ≡ number_of w m
+unfolding bit
+number-is w word m l h z has =
+    number-of w (word / 2 ^ (max_facts - w)) m (number-small w word l h) z
+    (λ i b.
+    let e : (max_facts - w) + (w - suc i) ≡ max_facts - suc i = omega arith in
+    rw (shr-shr word (max_facts - w) (w - suc i), e) (has i (omega arith)))

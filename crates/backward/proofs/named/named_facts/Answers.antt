@@ -1,0 +1,23 @@
+use Rattle.std.proofs.Common.{refl, ap, ◌∙◌, ◌||◌, ◌%◌, eqb}
+use Rattle.formula.specs.Literals.{literals_left}
+use Rattle.backward.specs.Facts.{has_fact}
+use Rattle.backward.proofs.Sets.{set-none, grown, grown-none}
+use Rattle.backward.proofs.Naming.{named_by, formula-names, named-first, none-named-by}
+use Rattle.backward.proofs.named.named_facts.Goals as goal
+
+pub loop-literal-init : goal.loop-literal-init
+loop-literal-init c =
+    λ f l.
+    let φ = c.args.formula in
+    formula-names φ.formulas.bytes.now φ.formulas.sound φ.one f ∙
+    rw (set-none f, c.into_iter-literal-iterator.ensures.into_iter_gives, c.literals-literal-items.ensures) refl
+
+pub loop-literal-preserved : goal.loop-literal-preserved
+loop-literal-preserved c =
+    λ f l.
+    grown (has_fact c.loop-literal.facts f) (eqb (c.in-Some.literal % 64) f) (named_by (literals_left c.next.new.self) f)
+    (c.loop-literal.invariant f l) (named-first _ _ _ c.in-Some.ensures.steps f)
+    (c.bitor-facts.ensures f l ∙ ap (λ b. has_fact c.loop-literal.facts f || b) (c.of.ensures f l))
+
+pub returns : goal.returns
+returns c = λ f l. grown-none (has_fact c.loop-literal.facts f) (c.loop-literal.invariant f l) (none-named-by _ c.in-None.ensures.steps.0 f)

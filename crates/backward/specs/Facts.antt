@@ -1,0 +1,22 @@
+-- The facts of a set.
+use Rattle.std.specs.Prelude.{◌≡◌, Bool, false, ◌&&◌, ◌||◌, not, List, ℕ, ◌<◌, get_or}
+use Rattle.model.specs.Limits.{max_facts}
+use Rattle.model.specs.Case.{bit}
+use Rattle.backward.specs.declared.facts.FactSet.{FactSet}
+
+abbrev pub has_fact : FactSet → ℕ → Bool
+has_fact s = bit max_facts s.word
+
+-- what the operators give
+abbrev pub GivesUnion : FactSet → FactSet → FactSet → Type 0
+GivesUnion s t r = (f : ℕ) → f < max_facts → has_fact r f ≡ (has_fact s f || has_fact t f)
+
+abbrev pub GivesCommon : FactSet → FactSet → FactSet → Type 0
+GivesCommon s t r = (f : ℕ) → f < max_facts → has_fact r f ≡ (has_fact s f && has_fact t f)
+
+abbrev pub GivesRest : FactSet → FactSet → FactSet → Type 0
+GivesRest s t r = (f : ℕ) → f < max_facts → has_fact r f ≡ (has_fact s f && not (has_fact t f))
+
+-- the set's facts are those that are true in m
+abbrev pub HasFacts : FactSet → List Bool → Type 0
+HasFacts s m = (f : ℕ) → f < max_facts → has_fact s f ≡ get_or m f false

@@ -1,0 +1,4 @@
+-- What the functions of this crate answer, in the words of model/specs.
+pub mod Facts
+pub mod Changes
+pub mod Rows
