@@ -3,7 +3,7 @@ use mathlib.Core.Path.{◌≡◌, refl, sym, ap, ◌∙◌, subst}
 use mathlib.Core.List.{List, [], ◌++◌}
 use Prim.Native.Nat.{ℕ, ◌+◌, ◌-◌, ◌*◌, ◌≤◌, ◌<◌}
 use native.Mathlib.Omega.{arith}
-use lib.ListN.{length, take, drop}
+use lib.ListN.{length, drop}
 use lib.Seq.{sets, sets-eq, length-sets}
 use borrow.Author.Tests.{lt-ltb, le-ltb}
 use Rattle.model.specs.declared.Limits.{Limits}
@@ -11,12 +11,11 @@ use Rattle.model.specs.Limits.{version1}
 use Rattle.model.specs.Answer as Answer
 use Rattle.model.specs.Answers.{refusal}
 use Rattle.model.specs.Answer.{Answer, refused, answered}
-use Rattle.model.specs.Case.{Task}
+use Rattle.model.specs.Case as model
 use Rattle.model.specs.Walk.{Line, Walked, covered, failed, visits, walked, judged, found}
 use Rattle.model.specs.Read.{head_bytes, block}
 use Rattle.model.specs.ListBytes.{lines_bytes, encode_list}
 use Rattle.model.specs.Operations.{read_task, list_bytes, lines_for, written, list_for, write_list}
-use Rattle.model.specs.declared.Problem.{Problem}
 use Rattle.model.specs.declared.Refusal.{Refusal}
 use Rattle.model.specs.WellFormed.{Sensible}
 use Rattle.model.proofs.Laws.ListCodec.{length-lines}
@@ -24,15 +23,18 @@ use Rattle.model.proofs.Laws.Reading.{length-bytes_of}
 use Rattle.model.proofs.Laws.Lists.{length-encode_list}
 use Rattle.model.proofs.Laws.Judging.{judged-in, judged-out}
 use Rattle.model.proofs.Laws.Tasks.{list-for-is}
-use Rattle.blocks.specs.declared.plan.Task as blocks
-use Rattle.blocks.specs.Parts.{TaskFound}
-use Rattle.blocks.specs.Standing.{StandsFound}
+use Rattle.std.specs.Prelude.{Result, Ok, Err}
+use Rattle.look.specs.Tasks.{ReadTask}
+use Rattle.look.proofs.Tasks.{task-fits}
+use Rattle.walk.specs.Pages.{PutsLines}
+use Rattle.look.specs.declared.task.Task.{Task}
+use Rattle.walk.specs.declared.page.Page.{Page}
 use Rattle.lines.specs.Putting.{Laid, LinesLaid}
 use Rattle.model.proofs.Laws.Stores.{sets-append}
-use Rattle.walk.specs.declared.cases.Ending.{Ending}
-use Rattle.walk.specs.declared.cases.Ending.TheVariants.{Out, Failed, Closed}
+use Rattle.walk.specs.declared.cases.Closed.{Closed}
+use Rattle.walk.specs.declared.cases.Stopped.{Stopped}
+use Rattle.walk.specs.declared.cases.Stopped.TheVariants.{OutOfVisits, Failed}
 use Rattle.walk.specs.Walks.{Ended, WalksTask}
-use Rattle.blocks.proofs.Standing.{found_in}
 use Rattle.certificate.specs.Writing.{head_of, WritesTask}
 
 -- ---- the block
@@ -54,26 +56,25 @@ block_written F S before after ls n e room h =
     sets-eq (encode_list F ls) before 0 (omega arith) ∙
     ap (λ (x : ℕ). encode_list F ls ++ drop x before) m
 
--- a walk that closes within its grant laid its lines
-lays-covered :
-    (size g : ℕ) (w : Walked) (r : Ending) (before : List ℕ) (to : ℕ) (after : List ℕ) → Ended size g w r before to after →
-    (ls : List Line) (a : ℕ) → w ≡ covered ls a → a ≤ g → (next : ℕ) × LinesLaid size before to ls next after
-lays-covered size g w Out before to after E ls a e h = absurd (omega (arith, ap visits e))
-lays-covered size g w (Failed x b) before to after (i, j) ls a e h = let z : ◌≡◌ {A = ℕ} 0 1 = cc in absurd (omega arith)
-lays-covered size g w (Closed n b next) before to after (ms, i, j, k, p) ls a e h =
-    let z : ms ≡ ls = cc in (next, subst (λ (l : List Line). LinesLaid size before to l next after) z p)
+-- a walk that closes within its grant closed these lines
+closes-covered : (g : ℕ) (closed : List Line) (r : Result Closed Stopped) (w : Walked) → Ended g closed r w → (ls : List Line) (a : ℕ) → w ≡ covered ls a → a ≤ g → closed ≡ ls
+closes-covered g closed (Ok c) w E ls a e h = cc
+closes-covered g closed (Err OutOfVisits) w E ls a e h = absurd (omega (arith, ap visits e))
+closes-covered g closed (Err (Failed s left)) w E ls a e h = let z : ◌≡◌ {A = ℕ} 0 1 = cc in absurd (omega arith)
 
 pub writes-task :
-    (F : Limits) → Sensible F → (problem steps : List ℕ) (parts : Problem) (g body : ℕ) (before m after : List ℕ) (r : Ending) →
-    head_bytes + body ≤ length before → m ≡ sets before 0 (head_of F body) → WalksTask F problem steps parts g r m head_bytes after →
-    WritesTask F problem steps parts g body before after
-writes-task F S problem steps parts g body before m after r room em W =
+    (task : Task) (g body : ℕ) (before after : List ℕ) (p q : Page) (r : Result Closed Stopped) → head_bytes + body ≤ length before →
+    p.out.now ≡ sets before 0 (head_of task.problem.now.limits body) → p.at ≡ head_bytes → WalksTask (PutsLines task.problem.now.limits) task g p r q → after ≡ q.out.now →
+    WritesTask task g body before after
+writes-task task g body before after p q r room em at W e =
     record {
       is =
-          λ T p ls a w h b.
-          let (next, puts) = lays-covered F.line g (walked T) r m head_bytes after (W.is T p) ls a w h in
-          let q : Laid F.line m head_bytes ls next after = puts (omega (arith, ap length em, length-sets before 0 (head_of F body))) in
-          block_written F S before after ls body b room (q.bytes F refl ∙ ap (λ (l : List ℕ). sets l head_bytes (lines_bytes F ls)) em);
+          λ T i ls a w h b.
+          let F = task.problem.now.limits in
+          let z : W.closed ≡ ls = closes-covered g W.closed r (walked T) (W.is T i) ls a w h in
+          let laid : LinesLaid F.line p.out.now p.at ls q.at q.out.now = subst (λ (l : List Line). LinesLaid F.line p.out.now p.at l q.at q.out.now) z W.put.laid in
+          let k : Laid F.line p.out.now p.at ls q.at q.out.now = laid (omega (arith, ap length em, length-sets before 0 (head_of F body))) in
+          block_written F task.problem.now.sensible before after ls body b room (e ∙ k.bytes F refl ∙ (λ j. sets (em j) (at j) (lines_bytes F ls)));
     }
 
 -- ---- the answer
@@ -97,83 +98,65 @@ pub list-refused :
 unfolding list_for Answer.◌>>=◌
 list-refused s t r h g before = left-refused version1 s t g before r.number r.place (rw h)
 
-module _ (s t : List ℕ) (r : blocks.Task) (f : TaskFound version1 s t r) (g : ℕ) (before steps : List ℕ)
-    (own : steps ≡ take (length t - head_bytes) (drop head_bytes t)) (room : List ℕ) (to : ℕ) (full : List ℕ) where
-  abbrev o : StandsFound version1 s t r
-  o = f.stands
-
+module _ (s t : List ℕ) (task : Task) (f : ReadTask s t task) (g : ℕ) (before : List ℕ) {L : Type 0} (puts : L → List Line → L → Type 0) (old new : L) where
   abbrev F : Limits
-  F = r.limits
+  F = task.problem.now.limits
 
-  abbrev T : Task
-  T = o.task
+  abbrev T : model.Task
+  T = f.of
 
   abbrev Leaves : Answer ℕ → List ℕ → Type 0
   Leaves a after = Left version1 s t g before a after
-
-  abbrev Walks : Ending → Type 0
-  Walks w = WalksTask r.limits s steps r.problem g w room to full
 
   -- the numbers that were found are the version's
   leaves : (a : Answer ℕ) (after : List ℕ) → Left F s t g before a after → Leaves a after
   leaves a after = subst (λ (G : Limits). Left G s t g before a after) f.limits
 
   n≤w : T.facts ≤ T.width
-  n≤w = omega (arith, o.few, o.width, o.sensible.width)
-
-  ended : (w : Ending) → Walks w → Ended F.line g (walked T) w room to full
-  ended w W = W.is T (found_in version1 s t r o steps own)
+  n≤w = task-fits f.is
 
   for : list_for F s t g (length before) ≡ lines_for F (length before) (judged T g)
-  for = list-for-is F s t T (subst (λ (G : Limits). read_task G s t ≡ answered T) (sym f.limits) o.read) g (length before)
+  for = list-for-is F s t T (subst (λ (G : Limits). read_task G s t ≡ answered T) (sym f.limits) f.read) g (length before)
 
   found_as : (x : Walked) → walked T ≡ x → visits (walked T) ≤ g → list_for F s t g (length before) ≡ lines_for F (length before) (found T x)
   found_as x e l = for ∙ ap (lines_for F (length before)) (judged-in T n≤w g x e l)
 
-  pub list-undecided : Walks Out → Leaves (refused 50 g) before
+  pub list-undecided : WalksTask puts task g old (Err OutOfVisits) new → Leaves (refused 50 g) before
   unfolding lines_for
-  list-undecided W = leaves _ _ (left-refused F s t g before 50 g (for ∙ ap (lines_for F (length before)) (judged-out T n≤w g (ended Out W))))
+  list-undecided W = leaves _ _ (left-refused F s t g before 50 g (for ∙ ap (lines_for F (length before)) (judged-out T n≤w g (W.is T f.is))))
 
-  pub list-wrong : (x a : ℕ) → Walks (Failed x a) → Leaves (refused 51 a) before
+  pub list-wrong : (x left : ℕ) → WalksTask puts task g old (Err (Failed x left)) new → Leaves (refused 51 (g - left)) before
   unfolding lines_for
-  list-wrong x a W =
-      let (i, k) = ended (Failed x a) W in
-      leaves _ _ (left-refused F s t g before 51 a (found_as (failed x a) i (omega (arith, ap visits i))))
+  list-wrong x left W =
+      let i = W.is T f.is in
+      leaves _ _ (left-refused F s t g before 51 (g - left) (found_as (failed x (g - left)) i (omega (arith, ap visits i))))
 
-  module _ (n a next : ℕ) (W : Walks (Closed n a next)) where
+  module _ (c : Closed) (W : WalksTask puts task g old (Ok c) new) where
     -- the lines of a right plan
-    lines-for :
-        (B : Type 0) →
-        ((ls : List Line) → walked T ≡ covered ls a → n ≡ length ls → a ≤ g →
-        list_for F s t g (length before) ≡ lines_for F (length before) (found T (covered ls a)) → B) → B
-    lines-for B k =
-        let (ls, i, j, l, p) = ended (Closed n a next) W in
-        k ls i (sym j) l (found_as (covered ls a) i (omega (arith, ap visits i)))
+    right-for : list_for F s t g (length before) ≡ lines_for F (length before) (found T (covered W.closed (g - c.left)))
+    right-for = let i = W.is T f.is in found_as (covered W.closed (g - c.left)) i (omega (arith, ap visits i))
 
-    pub list_over : F.lines < n → Leaves (refused 52 n) before
+    pub list_over : F.lines < c.lines → Leaves (refused 52 c.lines) before
     unfolding lines_for
     list_over k =
-        lines-for _ λ ls i c l h.
-        leaves _ _ (left-refused F s t g before 52 n (h ∙ rw (lt-ltb F.lines (length ls) (omega arith)) (ap (refused 52) (sym c))))
+        leaves _ _ (left-refused F s t g before 52 c.lines (right-for ∙ rw (W.counted.1, lt-ltb F.lines (length W.closed) (omega (arith, W.counted.1)))))
 
-    module _ (few : n ≤ F.lines) where
-      pub list-short : length before < head_bytes + F.line * n → Leaves (refused 53 n) before
+    module _ (few : c.lines ≤ F.lines) where
+      pub list-short : length before < head_bytes + F.line * c.lines → Leaves (refused 53 c.lines) before
       unfolding lines_for list_bytes
       list-short m =
-          lines-for _ λ ls i c l h.
-          let u : length before < head_bytes + F.line * length ls = subst (λ (x : ℕ). length before < head_bytes + F.line * x) c m in
+          let u : length before < head_bytes + F.line * length W.closed = subst (λ (x : ℕ). length before < head_bytes + F.line * x) W.counted.1 m in
           leaves _ _
-          (left-refused F s t g before 53 n
-          (h ∙ rw (le-ltb F.lines (length ls) (omega arith), lt-ltb (length before) (head_bytes + F.line * length ls) u) (ap (refused 53) (sym c))))
+          (left-refused F s t g before 53 c.lines
+          (right-for ∙ rw (W.counted.1, le-ltb F.lines (length W.closed) (omega (arith, W.counted.1)), lt-ltb (length before) (head_bytes + F.line * length W.closed) u)))
 
       pub list_written :
-          (after : List ℕ) (body : ℕ) → body ≡ F.line * n → head_bytes + body ≤ length before →
-          WritesTask F s steps r.problem g body before after → Leaves (answered (head_bytes + body)) after
+          (after : List ℕ) (body : ℕ) → body ≡ F.line * c.lines → head_bytes + body ≤ length before →
+          WritesTask task g body before after → Leaves (answered (head_bytes + body)) after
       unfolding lines_for list_bytes write_list written
       list_written after body b m P =
-          lines-for _ λ ls i c l h.
-          let z : body ≡ F.line * length ls = b ∙ ap (λ (x : ℕ). F.line * x) c in
-          let q : list_for F s t g (length before) ≡ answered ls =
-          h ∙ rw (le-ltb F.lines (length ls) (omega arith), le-ltb (length before) (head_bytes + F.line * length ls) (omega arith))
+          let z : body ≡ F.line * length W.closed = b ∙ ap (λ (x : ℕ). F.line * x) W.counted.1 in
+          let q : list_for F s t g (length before) ≡ answered W.closed =
+          right-for ∙ rw (le-ltb F.lines (length W.closed) (omega (arith, W.counted.1)), le-ltb (length before) (head_bytes + F.line * length W.closed) (omega arith))
           in
-          leaves _ _ (rw (q, z) (refl, P.is T (found_in version1 s t r o steps own) ls a i l z ∙ rw z))
+          leaves _ _ (rw (q, z) (refl, P.is T f.is W.closed (g - c.left) (W.is T f.is) (omega arith) z ∙ rw z))

@@ -1,4 +1,4 @@
--- Demand 3 of the code: from the contracts' equations and the theorem about the definitions. Assumes nothing.
+-- What the writer and the checker of lists promise together: from the contracts' equations and the theorem about the definitions. Assumes nothing.
 use mathlib.Core.Path.{◌≡◌, sym, ap, ◌∙◌, subst}
 use mathlib.Core.List.{List}
 use Prim.Native.Nat.{ℕ, ◌≤◌}

@@ -1,5 +1,5 @@
--- Demand 3 of the code: what the answers of `write_list` and `follow_list` promise together, with nothing but the operations'
--- definitions in between. A list is any bytes of any length.
+-- What the answers of `write_list` and `follow_list` promise together, with nothing but the operations' definitions in
+-- between. A list is any bytes of any length.
 use Rattle.std.specs.Prelude.{◌≡◌, List, ℕ, ◌≤◌, length, take, Result}
 use Rattle.model.specs.Limits.{version1}
 use Rattle.model.specs.Answer.{answered}

@@ -1,4 +1,5 @@
-// Demand 3 of the code, as the contract of a function, which has nothing to do: a check that passes has proved it.
+// What the writer and the checker of lists promise together, as the contract of a function, which has nothing to do: a check that passes has
+// proved it.
 ghost use Rattle.std.specs.Prelude.{List, ℕ};
 ghost use Rattle.certificate.specs.Promise.{Promised};
 

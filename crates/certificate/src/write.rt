@@ -1,19 +1,18 @@
-// Writing the list. The walk goes twice: first to know, under the grant and with no room for a line, and then to write, so that a refusal
-// changes no byte.
+// Writing the list. The walk goes twice: first to know, under the grant and keeping no line, and then to write, so that a refusal changes no
+// byte.
 ghost use Rattle.std.specs.Prelude.{◌≡◌, ◌+◌, ◌≤◌, length};
 ghost use Rattle.std.proofs.lemmas.List.Edits.{sets};
 ghost use Rattle.model.specs.Limits.{version1};
 ghost use Rattle.model.specs.Answer.{refused};
 ghost use Rattle.model.specs.Read.{head_bytes};
-ghost use Rattle.model.specs.WellFormed.{Sensible};
 ghost use Rattle.model.specs.Operations.{write_list};
 ghost use Rattle.model.specs.Answers.{plain_answer};
 ghost use Rattle.certificate.specs.Writing.{head_of, WritesTask};
 
-use blocks::find_task;
-use model::{Limits, Problem, Refusal};
+use look::{Found, Task};
+use model::{Limits, Refusal};
 use numbers::put_number;
-use walk::{Ending, walk_task};
+use walk::{Page, Stopped, Unkept, walk_task};
 
 // A block's version and the length of its body.
 fn put_header(out: &mut [u8], limits: Limits, body: u64)
@@ -25,30 +24,16 @@ fn put_header(out: &mut [u8], limits: Limits, body: u64)
 }
 
 // The block of a right plan's list, whose length is known.
-fn write_task(
-    problem: &[u8],
-    steps: &[u8],
-    parts: Problem,
-    limits: Limits,
-    grant: u64,
-    body: usize,
-    out: &mut [u8],
-)
-    requires sensible { Sensible limits }
-    requires few { parts.facts ≤ limits.facts }
-    requires room { head_bytes + body ≤ length out.old }
-    ensures { WritesTask limits problem.now steps.now parts grant body out.old out.new }
+fn write_task(task: &Task, grant: u64, body: usize, out: &mut [u8])
+    requires { head_bytes + body ≤ length out.old }
+    ensures { WritesTask task.now grant body out.old out.new }
 {
-    put_header(out, limits, body as u64);
-    walk_task(
-        problem,
-        steps,
-        parts,
-        limits,
-        grant,
+    put_header(out, task.problem.limits, body as u64);
+    let mut page = Page {
         out,
-        Limits::HEAD_BYTES,
-    );
+        at: Limits::HEAD_BYTES,
+    };
+    let _ended = walk_task(task, grant, &mut page);
 }
 
 fn refusal(number: u8, place: u64) -> Result<usize, Refusal>
@@ -63,19 +48,14 @@ pub fn write_list(problem: &[u8], plan: &[u8], grant: u64, out: &mut [u8]) -> Re
     ensures answer { plain_answer result ≡ (write_list version1 problem.now plan.now grant out.old).answer }
     ensures buffer { out.new ≡ (write_list version1 problem.now plan.now grant out.old).buffer }
 {
-    let task = find_task(problem, plan)?;
-    let steps = &plan[Limits::HEAD_BYTES..];
-    let parts = task.problem;
-    let limits = task.limits;
-    let mut room = [0u8; 1];
-    match walk_task(problem, steps, parts, limits, grant, &mut room, 0) {
-        Ending::Out => refusal(50, grant),
-        Ending::Failed { state: _, visits } => refusal(51, visits),
-        Ending::Closed {
-            lines,
-            visits: _,
-            next: _,
-        } => {
+    let found = Found::read(problem)?;
+    let task = found.plan(plan)?;
+    match walk_task(&task, grant, &mut Unkept) {
+        Err(Stopped::OutOfVisits) => refusal(50, grant),
+        Err(Stopped::Failed { state: _, left }) => refusal(51, grant - left),
+        Ok(closed) => {
+            let limits = task.problem.limits;
+            let lines = closed.lines;
             if lines > limits.lines as u64 {
                 return refusal(52, lines);
             }
@@ -85,7 +65,7 @@ pub fn write_list(problem: &[u8], plan: &[u8], grant: u64, out: &mut [u8]) -> Re
             if short {
                 return refusal(53, lines);
             }
-            write_task(problem, steps, parts, limits, grant, body, out);
+            write_task(&task, grant, body, out);
             Ok(length)
         }
     }

@@ -1,5 +1,4 @@
--- Demand 2 of the code, of one given state: from the equation with the definition and the theorem about the definitions. Assumes
--- nothing.
+-- What an answer of `run` promises: from the equation with the definition and the theorem about the definitions. Assumes nothing.
 use mathlib.Core.Path.{◌≡◌, refl, sym, ap, ◌∙◌}
 use mathlib.Core.Logic.{inl, inr}
 use mathlib.Core.List.{List}

@@ -6,21 +6,20 @@ use Prim.Native.Nat.{ℕ, ◌-◌, ◌%◌, ◌^◌, ◌≤◌, ◌<◌, suc, �
 use native.Mathlib.Nat.{mod-lt}
 use native.Mathlib.Omega.{arith}
 use native.Mathlib.Decide.{dec_lt}
-use lib.ListN.{length, get_or, take, drop, replicate, length-replicate, get_or-eq_default}
+use lib.ListN.{length, get_or, replicate, length-replicate, get_or-eq_default}
 use lib.Dec.{eqb, ltb}
 use lib.Pow.{pow_pos}
 use borrow.Author.Tests.{lt-ltb, eq-eqb}
 use Rattle.model.specs.declared.Limits.{Limits}
-use Rattle.model.specs.declared.Problem.{Problem}
 use Rattle.std.specs.Prelude.{Result, Ok, Err}
 use Rattle.model.specs.declared.Refusal.{Refusal}
-use Rattle.model.specs.Limits.{version1, max_facts}
+use Rattle.model.specs.Limits.{version1}
 use Rattle.model.specs.Kleene.{Kleene, No, Unknown, three}
 use Rattle.model.specs.Answer as Answer
 use Rattle.model.specs.Answer.{answered}
-use Rattle.model.specs.Case.{flag, case_of, Task, run_of}
+use Rattle.model.specs.Case as model
+use Rattle.model.specs.Case.{flag, case_of, run_of}
 use Rattle.model.specs.Operations.{is_state_number, read_task, run_state}
-use Rattle.model.specs.Read.{head_bytes}
 use Rattle.model.specs.WellFormed.{Sensible}
 use Rattle.model.specs.Answers.{refusal, run_answer, part, outcome}
 use Rattle.model.specs.declared.Part.{Part}
@@ -28,27 +27,23 @@ use Rattle.model.specs.declared.Outcome.{Outcome}
 use Rattle.model.specs.Planes.{Table}
 use Rattle.model.proofs.Laws.Splitting.{length-case, case-known, case-past}
 use Rattle.model.proofs.Laws.Verdicts.{run-full}
-use Rattle.blocks.specs.declared.plan.Task as blocks
-use Rattle.blocks.specs.Standing.{TaskIn, StandsFound}
 use Rattle.table.specs.Tables.{Outside, SetsFacts, NoneFixed, Sized}
 use Rattle.table.specs.Cases.{raised, bits_of}
 use Rattle.table.proofs.Cases.{raised-case}
 use Rattle.execute.specs.Start.{numbers_state, IsHeld, RunsTask, RunsState}
-use Rattle.blocks.proofs.Standing.{found_in}
 use native.Mathlib.Numerals.{add-one}
 use Rattle.model.specs.Action.{applicable}
 use Rattle.model.specs.Run.{reached, missed, blocked, at_end, goes_on}
 use Rattle.model.specs.ProblemBytes.{action_at}
-use Rattle.model.specs.Stands.{TaskStands}
 use Rattle.model.proofs.Laws.Planes.{low_bit}
 use Rattle.evaluate.specs.declared.Planes.{Planes}
-use Rattle.evaluate.specs.Planes.{FormulaPlanes}
 use Rattle.step.specs.declared.conflict.Going.{Going}
-use Rattle.step.specs.Actions.{ObeysAction}
 use Rattle.step.proofs.Conflicts.{flag_true, flag-false}
 use Rattle.look.specs.Cases.{run_from}
-use Rattle.look.proofs.Lanes.{stop_at, after, sized-after, acting-at, turned, ended}
-use Rattle.unmet.specs.Members.{UnmetPart}
+use Rattle.look.proofs.Lanes.{stop_at, after, sized-after}
+use Rattle.look.specs.declared.task.Task.{Task}
+use Rattle.look.specs.Tasks.{facts_of, Is, ReadTask, GoalPlanes, ObeysStep, UnmetStep}
+use Rattle.look.proofs.Tasks.{task-width, task-facts, task-turned, task-unmet, task-ended, obeys-size, obeys-among}
 
 -- ---- the table
 
@@ -83,26 +78,25 @@ module _ (F : Limits) (S : Sensible F) (s n w low : ℕ) (e : w ≡ F.width) (l 
 
 -- ---- the answers
 
-module _ (F : Limits) (problem steps : List ℕ) (parts : Problem) (s : ℕ) where
-  pub state-tested-is : (T : Task) → TaskIn F problem steps parts T → numbers_state F s parts.facts ≡ is_state_number T s
+module _ (task : Task) (s n : ℕ) (e : n ≡ facts_of task.problem.now) where
+  pub state-tested-is : (T : model.Task) → Is task T → numbers_state task.problem.now.limits s n ≡ is_state_number T s
   unfolding is_state_number
-  state-tested-is T p = ap₂ (λ (w m : ℕ). ltb s (2 ^ w) && eqb (s % 2 ^ (w - m)) 0) (sym p.width) p.facts
+  state-tested-is T p = ap₂ (λ (w m : ℕ). ltb s (2 ^ w) && eqb (s % 2 ^ (w - m)) 0) (sym (task-width p)) (e ∙ task-facts p)
 
-  pub runs-no-state : numbers_state F s parts.facts ≡ false → RunsTask F problem steps parts s (Err (record { place = 0; number = 40 }))
+  pub runs-no-state : numbers_state task.problem.now.limits s n ≡ false → RunsTask task s (Err (record { place = 0; number = 40 }))
   runs-no-state h = record { is = λ T p. rw (sym (state-tested-is T p) ∙ h) }
 
-  pub runs-state :
-      (c : List ℕ) → IsHeld F s parts.facts c → (u : Outcome) → RunsState problem steps parts.action parts.goal c u →
-      RunsTask F problem steps parts s (Ok u)
+  pub runs-state : (c : List ℕ) → IsHeld task.problem.now.limits s n c → (u : Outcome) → RunsState task c u → RunsTask task s (Ok u)
   unfolding run_of
   runs-state c D u R =
       record {
         is =
             λ T p.
-            let t : Table c (λ j. case_of T.width T.facts T.facts s) = rw (p.width, ← p.facts) D.table in
+            let f : n ≡ T.facts = e ∙ task-facts p in
+            let t : Table c (λ j. case_of T.width T.facts T.facts s) = rw (task-width p, ← f) D.table in
             rw (sym (state-tested-is T p) ∙ D.is)
             (ap answered
-            (R.is parts.initial T p.stands (λ j. case_of T.width T.facts T.facts s) (λ j l. length-case T.width T.facts T.facts s) t ∙
+            (R.is T p (λ j. case_of T.width T.facts T.facts s) (λ j l. length-case T.width T.facts T.facts s) t ∙
             run-full T.width T.facts T.goal T.plan s));
       }
 
@@ -112,82 +106,79 @@ pub run-refused :
 unfolding run_state Answer.◌>>=◌
 run-refused problem plan e s = rw e
 
-module _ (problem plan : List ℕ) (r : blocks.Task) (o : StandsFound version1 problem plan r) where
-  pub run-found :
-      (s : ℕ) (steps : List ℕ) → steps ≡ take (length plan - head_bytes) (drop head_bytes plan) → (a : Result Outcome Refusal) →
-      RunsTask r.limits problem steps r.problem s a → run_answer a ≡ run_state version1 problem plan s
-  unfolding run_state Answer.◌>>=◌
-  run-found s steps own a R = R.is o.task (found_in version1 problem plan r o steps own) ∙ rw o.read
+pub run-found :
+    {problem plan : List ℕ} {task : Task} → ReadTask problem plan task → (s : ℕ) (a : Result Outcome Refusal) → RunsTask task s a →
+    run_answer a ≡ run_state version1 problem plan s
+unfolding run_state Answer.◌>>=◌
+run-found F s a R = R.is F.of F.is ∙ rw F.read
 
 -- ---- the run of one state
 
-pub record Stating (problem steps actions : List ℕ) (goal : ℕ) (c : List ℕ) (i : ℕ) (d : List ℕ) : Type 0 where
+pub record Stating (task : Task) (c : List ℕ) (i : ℕ) (d : List ℕ) : Type 0 where
   pub size : length d ≡ 256
-  pub few : i ≤ length steps
+  pub few : i ≤ length task.steps.now
   pub is :
-      (initial : ℕ) (T : Task) → TaskStands problem steps actions initial goal T → (case : ℕ → List Kleene) → Sized T.facts case → Table c case →
+      (T : model.Task) → Is task T → (case : ℕ → List Kleene) → Sized T.facts case → Table c case →
       (now' : ℕ → List Kleene) × Sized T.facts now' × Table d now' × (run_from T 0 (case 0) ≡ run_from T i (now' 0))
 
-module _ (problem steps actions : List ℕ) (goal : ℕ) (c : List ℕ) (i : ℕ) (d : List ℕ) (R : Stating problem steps actions goal c i d) where
-  module _ (more : i < length steps) (slot : ℕ) (named : slot ≡ get_or steps i 0 % 64)
-      (going : Going) (d' : List ℕ) (O : ObeysAction problem (get_or actions slot 0) d 1 d' going) where
+module _ (task : Task) (c : List ℕ) (i : ℕ) (d : List ℕ) (R : Stating task c i d) where
+  module _ (more : i < length task.steps.now) (step : ℕ) (named : step ≡ get_or task.steps.now i 0)
+      (going : Going) (d' : List ℕ) (O : ObeysStep task.problem.now step d 1 d' going) where
     -- the values before the step, whether it is applicable in them, the table after it, and what it leaves of the run
     stated :
-        (initial : ℕ) (T : Task) → TaskStands problem steps actions initial goal T → (case : ℕ → List Kleene) → Sized T.facts case → Table c case →
+        (T : model.Task) → Is task T → (case : ℕ → List Kleene) → Sized T.facts case → Table c case →
         (now' : ℕ → List Kleene) × Table d now' × (b : Bool) × (going.lanes ≡ flag b) × ((going.lanes ≡ 0 → ⊥) → Table d' (λ j. after T i (now' j))) ×
         (run_from T 0 (case 0) ≡ goes_on b (run_from T (suc i) (after T i (now' 0))) (stop_at T i (now' 0)))
-    stated initial T S case z t =
-        let (now', y, u, e) = R.is initial T S case z t in
-        let (bits, later, turn) = turned problem steps actions goal i more slot named 1 going d d' O initial T S now' y u in
+    stated T p case z t =
+        let (now', y, u, e) = R.is T p case z t in
+        let (bits, later, turn) = task-turned p i more step named 1 going d d' O now' y u in
         let b = applicable three T.facts (action_at T.plan i) (now' 0) in
         let f : going.lanes % 2 ≡ flag b = sym (low_bit going.lanes) ∙ bits 0 (omega arith) ∙ rw (low_bit 1) (at_most b) in
-        (now', u, b, omega (arith, O.among), later, e ∙ turn (now' 0))
+        (now', u, b, omega (arith, obeys-among O), later, e ∙ turn (now' 0))
       where
         at_most : (b : Bool) → min 1 (flag b) ≡ flag b
         at_most true = refl
         at_most false = refl
 
     pub stating-blocked :
-        going.lanes ≡ 0 → (p : Part) → UnmetPart problem d' (get_or actions slot 0) going.fact p → (r : Outcome) → outcome r ≡ blocked (record { step = i; part = part p }) →
-        RunsState problem steps actions goal c r
+        going.lanes ≡ 0 → (p : Part) → UnmetStep task.problem.now step d' going.fact p → (r : Outcome) → outcome r ≡ blocked (record { step = i; part = part p }) →
+        RunsState task c r
     unfolding goes_on
     stating-blocked h p U r o =
         record {
           is =
-              λ initial T S case z t.
-              let (now', u, b, f, later, e) = stated initial T S case z t in
-              let (q, at) = acting-at problem steps actions goal i more slot named initial T S in
-              let m : T.facts ≤ max_facts = omega (arith, S.most) in
-              let k = U.is T.facts _ q m at now' (subst (λ (x : List ℕ). Table x now') (sym (O.kept h)) u) (O.lowest T.facts _ q m at now' u refl h) in
+              λ T I case z t.
+              let (now', u, b, f, later, e) = stated T I case z t in
+              let k = task-unmet I i more step named going d d' O p U now' u h in
               o ∙ ap (λ x. blocked (record { step = i; part = x })) k ∙ sym (e ∙ rw (flag-false b (sym f ∙ h)));
         }
 
-    pub stating-next : (going.lanes ≡ 0 → ⊥) → Stating problem steps actions goal c (i + 1) d'
+    pub stating-next : (going.lanes ≡ 0 → ⊥) → Stating task c (i + 1) d'
     unfolding goes_on
     stating-next n =
         record {
-          size = O.size;
+          size = obeys-size O;
           few = omega arith;
           is =
-              λ initial T S case z t.
-              let (now', u, b, f, later, e) = stated initial T S case z t in
+              λ T p case z t.
+              let (now', u, b, f, later, e) = stated T p case z t in
               ((λ j. after T i (now' j)), sized-after T i now', later n, rw (add-one i) (e ∙ rw (flag_true b (λ y. n (f ∙ y)))));
         }
 
   -- the goal decides
-  module _ (h : length steps ≤ i) (r : Planes) (x : FormulaPlanes problem d goal r) (o : Outcome) where
-    decides : ((b : Bool) → r.sure % 2 ≡ flag b → outcome o ≡ at_end b) → RunsState problem steps actions goal c o
+  module _ (h : length task.steps.now ≤ i) (r : Planes) (x : GoalPlanes task.problem.now d r) (o : Outcome) where
+    decides : ((b : Bool) → r.sure % 2 ≡ flag b → outcome o ≡ at_end b) → RunsState task c o
     decides tells =
         record {
           is =
-              λ initial T S case z t.
-              let (now', y, u, e) = R.is initial T S case z t in
-              let (b, f, k) = ended problem steps actions goal i h d r x initial T S now' u 0 (omega arith) in
+              λ T p case z t.
+              let (now', y, u, e) = R.is T p case z t in
+              let (b, f, k) = task-ended p i h d r x now' u 0 (omega arith) in
               tells b (sym (low_bit r.sure) ∙ f) ∙ sym (e ∙ k);
         }
 
-    pub stating-missed : r.sure % 2 ≡ 0 → outcome o ≡ missed → RunsState problem steps actions goal c o
+    pub stating-missed : r.sure % 2 ≡ 0 → outcome o ≡ missed → RunsState task c o
     stating-missed z e = decides (λ b f. e ∙ rw (flag-false b (sym f ∙ z)))
 
-    pub stating-reached : (r.sure % 2 ≡ 0 → ⊥) → outcome o ≡ reached → RunsState problem steps actions goal c o
+    pub stating-reached : (r.sure % 2 ≡ 0 → ⊥) → outcome o ≡ reached → RunsState task c o
     stating-reached n e = decides (λ b f. e ∙ rw (flag_true b (λ w. n (f ∙ w))))

@@ -1,4 +1,4 @@
--- Demand 2 of the code, of one given state: what an answer of `run` promises.
+-- What an answer of `run` promises.
 use Rattle.std.specs.Prelude.{◌≡◌, ◌↔◌, ◌⊎◌, List, ℕ}
 use Rattle.model.specs.Limits.{version1}
 use Rattle.model.specs.Answer.{Answer, refused, answered}
@@ -8,7 +8,7 @@ use Rattle.model.specs.Operations.{read_task}
 use Rattle.model.specs.Demands.{OutcomeSays}
 
 -- A refusal is the reader's, or 40 for what is no state. Otherwise the problem and the plan are read as some T, s is a state of it, and the
--- outcome is each one exactly if section 3 of document 004 says so of the belief that holds s alone.
+-- outcome is each one exactly if the meaning of plans by beliefs says so of the belief that holds s alone.
 abbrev pub RunPromised : List ℕ → List ℕ → ℕ → Answer Outcome → Type 0
 RunPromised problem plan s (refused n q) =
     (read_task version1 problem plan ≡ refused n q) ⊎

@@ -1,18 +1,18 @@
 -- What reading a state's number gives, and how the run of that state is answered.
 use Rattle.std.specs.Prelude.{◌≡◌, Bool, true, false, ◌&&◌, List, ℕ, ◌-◌, ◌%◌, ◌^◌, eqb, ltb, Option, Some, None, Result}
 use Rattle.model.specs.declared.Limits.{Limits}
-use Rattle.model.specs.declared.Problem.{Problem}
 use Rattle.model.specs.declared.Refusal.{Refusal}
-use Rattle.model.specs.Case.{case_of, Task}
+use Rattle.model.specs.Case as model
+use Rattle.model.specs.Case.{case_of}
 use Rattle.model.specs.Operations.{state_answer}
 use Rattle.model.specs.Answers.{outcome, run_answer}
 use Rattle.model.specs.Kleene.{Kleene, three}
 use Rattle.model.specs.Run.{run}
 use Rattle.model.specs.declared.Outcome.{Outcome}
 use Rattle.model.specs.Planes.{Table}
-use Rattle.model.specs.Stands.{TaskStands}
 use Rattle.table.specs.Tables.{Sized}
-use Rattle.blocks.specs.Standing.{TaskIn}
+use Rattle.look.specs.Tasks.{Is}
+use Rattle.look.specs.declared.task.Task.{Task}
 
 -- whether s is the number of a state over n facts
 abbrev pub numbers_state : Limits → ℕ → ℕ → Bool
@@ -28,11 +28,11 @@ HoldsState F s n None = numbers_state F s n ≡ false
 HoldsState F s n (Some c) = IsHeld F s n c
 
 -- how the run of the case in lane 0 ends
-pub record RunsState (problem steps actions : List ℕ) (goal : ℕ) (c : List ℕ) (r : Outcome) : Type 0 where
+pub record RunsState (task : Task) (c : List ℕ) (r : Outcome) : Type 0 where
   pub is :
-      (initial : ℕ) (T : Task) → TaskStands problem steps actions initial goal T → (case : ℕ → List Kleene) → Sized T.facts case → Table c case →
+      (T : model.Task) → Is task T → (case : ℕ → List Kleene) → Sized T.facts case → Table c case →
       outcome r ≡ run three T.facts T.goal T.plan 0 (case 0)
 
--- as `run_state` answers of every task that stands in the blocks
-pub record RunsTask (F : Limits) (problem steps : List ℕ) (parts : Problem) (s : ℕ) (r : Result Outcome Refusal) : Type 0 where
-  pub is : (T : Task) → TaskIn F problem steps parts T → run_answer r ≡ state_answer T s
+-- as `run_state` answers of what is judged
+pub record RunsTask (task : Task) (s : ℕ) (r : Result Outcome Refusal) : Type 0 where
+  pub is : (T : model.Task) → Is task T → run_answer r ≡ state_answer T s

@@ -6,15 +6,15 @@ ghost use Rattle.model.specs.Answers.{run_answer};
 ghost use Rattle.execute.specs.Promise.{RunPromised};
 
 use crate::run_task;
-use blocks::find_task;
-use model::{Limits, Outcome, Refusal};
+use look::Found;
+use model::{Outcome, Refusal};
 
 // Run one state, which need not be a start state: the refusals of problem and plan, 40, or how the run ends.
 pub fn run(problem: &[u8], plan: &[u8], state: u64) -> Result<Outcome, Refusal>
     ensures answer { run_answer result ≡ run_state version1 problem.now plan.now state }
     ensures promised { RunPromised problem.now plan.now state (run_answer result) }
 {
-    let task = find_task(problem, plan)?;
-    let steps = &plan[Limits::HEAD_BYTES..];
-    run_task(problem, steps, task.problem, task.limits, state)
+    let found = Found::read(problem)?;
+    let task = found.plan(plan)?;
+    run_task(&task, state)
 }

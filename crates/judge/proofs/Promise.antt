@@ -1,4 +1,4 @@
--- Demand 2 of the code: from the equation with the definition and the theorem about the definitions. Assumes nothing.
+-- What an answer of `judge` promises: from the equation with the definition and the theorem about the definitions. Assumes nothing.
 use mathlib.Core.Path.{◌≡◌, sym}
 use mathlib.Core.List.{List}
 use Prim.Native.Nat.{ℕ}

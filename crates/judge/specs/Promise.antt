@@ -1,4 +1,4 @@
--- Demand 2 of the code: what an answer of `judge` promises.
+-- What an answer of `judge` promises.
 use Rattle.std.specs.Prelude.{◌≡◌, List, ℕ}
 use Rattle.model.specs.Limits.{version1}
 use Rattle.model.specs.Answer.{Answer, refused, answered}
@@ -7,8 +7,8 @@ use Rattle.model.specs.Walk.{Verdict}
 use Rattle.model.specs.Operations.{read_task}
 use Rattle.model.specs.Demands.{Says}
 
--- A refusal is the reader's. Otherwise the problem and the plan are read as some T, and the verdict says what demand 2 asks of it: right
--- and a solution of document 004; wrong with the lowest failing start state and where it fails; undecided where the walk needs more visits
+-- A refusal is the reader's. Otherwise the problem and the plan are read as some T, and the verdict says what it means: right and the plan
+-- reaches the goal from every start state; wrong with the lowest failing start state and where it fails; undecided where the walk needs more visits
 -- than granted; and each with the visits of the walk.
 abbrev pub JudgePromised : List ℕ → List ℕ → ℕ → Answer (Verdict ℕ) → Type 0
 JudgePromised problem plan grant (refused n q) = read_task version1 problem plan ≡ refused n q

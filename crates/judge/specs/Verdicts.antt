@@ -1,31 +1,31 @@
--- The verdict by the walk of a whole problem.
-use Rattle.std.specs.Prelude.{◌≡◌, List, ℕ, ◌+◌, ◌*◌, length}
-use Rattle.model.specs.declared.Limits.{Limits}
-use Rattle.model.specs.Case.{Task, run_of, IsState}
+-- The verdict by the walk of a whole task.
+use Rattle.std.specs.Prelude.{◌≡◌, List, ℕ}
+use Rattle.model.specs.Case as model
+use Rattle.model.specs.Case.{run_of, IsState}
 use Rattle.model.specs.Walk.{Line, Verdict, right, wrong, undecided, judged}
 use Rattle.model.specs.Operations.{line_count}
 use Rattle.model.specs.Answers as Answers
-use Rattle.model.specs.declared.Problem.{Problem}
 use Rattle.model.specs.declared.Outcome.{Outcome}
 use Rattle.model.specs.declared.Verdict as declared
-use Rattle.blocks.specs.Standing.{TaskIn}
-use Rattle.lines.specs.Putting.{LinesLaid}
+use Rattle.look.specs.Tasks.{Is}
+use Rattle.look.specs.declared.task.Task.{Task}
 
-pub record OutcomeOf (F : Limits) (problem steps : List ℕ) (parts : Problem) (x : ℕ) (r : Outcome) : Type 0 where
-  pub is : (T : Task) → TaskIn F problem steps parts T → IsState T x → Answers.outcome r ≡ run_of T x
+pub record OutcomeOf (task : Task) (x : ℕ) (r : Outcome) : Type 0 where
+  pub is : (T : model.Task) → Is task T → IsState T x → Answers.outcome r ≡ run_of T x
 
--- the lines of a right verdict stand in the buffer from `to` on, if they fit
-abbrev pub LaysLines : Limits → Verdict (List Line) → List ℕ → ℕ → List ℕ → Type 0
-LaysLines F (right ls a) before to after = LinesLaid F.line before to ls (to + F.line * length ls) after
-LaysLines F (wrong s o a) before to after = Unit {0}
-LaysLines F (undecided a) before to after = Unit {0}
+-- the lines of a right verdict are those
+abbrev pub HasLines : List Line → Verdict (List Line) → Type 0
+HasLines closed (right ls a) = closed ≡ ls
+HasLines closed (wrong s o a) = Unit {0}
+HasLines closed (undecided a) = Unit {0}
 
--- the verdict v is answered, with its lines in the buffer
-pub record Judges (F : Limits) (v : Verdict (List Line)) (r : declared.Verdict) (before : List ℕ) (to : ℕ) (after : List ℕ) : Type 0 where
+-- the verdict v is answered, with its lines
+pub record Judges (v : Verdict (List Line)) (r : declared.Verdict) (closed : List Line) : Type 0 where
   pub answer : Answers.verdict r ≡ line_count v
-  pub lays : LaysLines F v before to after
+  pub lines : HasLines closed v
 
 -- so it is with every task that stands in the blocks
-pub record JudgesTask (F : Limits) (problem steps : List ℕ) (parts : Problem) (g : ℕ) (r : declared.Verdict) (before : List ℕ) (to : ℕ) (after : List ℕ) : Type 0 where
-  pub size : length after ≡ length before
-  pub is : (T : Task) → TaskIn F problem steps parts T → Judges F (judged T g) r before to after
+pub record JudgesTask {L : Type 0} (puts : L → List Line → L → Type 0) (task : Task) (g : ℕ) (old : L) (r : declared.Verdict) (new : L) : Type 0 where
+  pub closed : List Line
+  pub put : puts old closed new
+  pub is : (T : model.Task) → Is task T → Judges (judged T g) r closed

@@ -113,6 +113,10 @@ pub running-begins : (problem steps actions : List ℕ) (goal lanes : ℕ) (c : 
 running-begins problem steps actions goal lanes c w =
     record { size = w; few = omega arith; is = λ initial T S case z t. (case, z, t, λ j l. refl) }
 
+-- no lane is asked
+pub runs-none : (problem steps actions : List ℕ) (goal lanes : ℕ) (c : List ℕ) → lanes ≡ 0 → RunsCases problem steps actions goal lanes c 0
+runs-none problem steps actions goal lanes c e = record { is = λ initial T S case z t j l. bit-zero j ∙ rw (e, bit-zero j) (omega arith) }
+
 module _ (problem steps actions : List ℕ) (goal lanes : ℕ) (c : List ℕ) (i alive : ℕ) (d : List ℕ) (R : Running problem steps actions goal lanes c i alive d) where
   module _ (more : i < length steps) (slot : ℕ) (named : slot ≡ get_or steps i 0 % 64)
       (going : Going) (d' : List ℕ) (O : ObeysAction problem (get_or actions slot 0) d alive d' going) where

@@ -1,2 +1,3 @@
 -- Laws of the definitions, for several functions' proofs.
 pub mod Lanes
+pub mod Tasks

@@ -3,9 +3,14 @@
 
 ghost use Rattle.look.specs.Cases.{RunsCases, LooksAtCases};
 
+pub mod desk;
+pub mod task;
+
+pub use desk::Desk;
 use evaluate::formula_planes;
 use step::obey_action;
 use table::ONES;
+pub use task::{Found, Task};
 
 // The lanes in `lanes` whose run reaches the goal.
 fn run_cases(

@@ -1,4 +1,4 @@
--- W-205 of the code: from the equation with the definition and the theorem about the definitions. Assumes nothing.
+-- What an answer of `search_plans` promises: from the equation with the definition and the theorem about the definitions. Assumes nothing.
 use mathlib.Core.Path.{◌≡◌, refl, ◌∙◌}
 use mathlib.Core.Logic.{inl, inr}
 use mathlib.Core.List.{List}

@@ -1,4 +1,4 @@
--- W-205 of the code: what an answer of `search_plans` promises.
+-- What an answer of `search_plans` promises.
 use Rattle.std.specs.Prelude.{◌≡◌, ◌⊎◌, List, ℕ, ◌≤◌, ◌<◌, length}
 use Rattle.model.specs.Limits.{version1, max_length, max_plans}
 use Rattle.model.specs.Answer.{Answer, refused, answered}
@@ -14,8 +14,8 @@ RefusedFor problem longest n q =
     (((p : Problem) × (problem_of version1 problem ≡ answered p) × (max_length < longest) × (n ≡ 43) × (q ≡ 0)) ⊎
     ((p : Problem) × (problem_of version1 problem ≡ answered p) × (longest ≤ max_length) × (max_plans < length (plans_in p longest)) × (n ≡ 44) × (q ≡ 0)))
 
--- Otherwise the problem is read as some p, and the answer says what W-205 asks of it: the first right plan, and none before it is right; that
--- none is right; or undecided at the first plan whose walk needs more than the visits left; each with the visits used in all.
+-- Otherwise the problem is read as some p, and the answer says what it means: the first right plan, and none before it is right; that none
+-- is right; or undecided at the first plan whose walk needs more than the visits left; each with the visits used in all.
 abbrev pub SearchPromised : List ℕ → ℕ → ℕ → Answer Search → Type 0
 SearchPromised problem longest grant (refused n q) = RefusedFor problem longest n q
 SearchPromised problem longest grant (answered r) =

@@ -1,6 +1,8 @@
-// Every short plan of a problem, tried in order (document 02, W-205).
+// Every plan of a problem up to a length, tried in order.
 #![tactic(auto)]
 
+pub mod below;
 pub mod operation;
+pub mod plan;
 
 pub use operation::search_plans;

@@ -1,17 +1,16 @@
 // Try every short plan, in order.
 ghost use Rattle.std.specs.Prelude.{◌≡◌, ◌≤◌};
 ghost use Rattle.model.specs.Limits.{version1, max_actions, max_length};
-ghost use Rattle.model.specs.WellFormed.{Sensible};
 ghost use Rattle.model.specs.Search.{plan_count};
 ghost use Rattle.model.specs.Operations.{search_plans};
 ghost use Rattle.model.specs.Answers.{search_answer, search_room};
-ghost use Rattle.search.specs.Problems.{TriesProblem};
+ghost use Rattle.search.specs.Trying.{TriesProblem};
 ghost use Rattle.search.specs.Promise.{SearchPromised};
 
-use blocks::{Places, find_problem};
-use evaluate::formula_planes;
-use model::{Limits, Problem, Refusal, Search, ShortPlan};
-use prefixes::{Root, try_lengths};
+use crate::below::try_lengths;
+use crate::plan::{Ended, Root};
+use look::Found;
+use model::{Refusal, Search, ShortPlan};
 use table::{fix_levels, none_fixed};
 use walk::first_levels;
 
@@ -28,38 +27,35 @@ fn plan_count(actions: u64, longest: u64) -> u64
     count
 }
 
-// The plans of a problem that was read, up to a length.
-fn search_problem(
-    problem: &[u8],
-    parts: Problem,
-    limits: Limits,
-    longest: usize,
-    grant: u64,
-) -> Search
-    requires limits { Sensible limits }
-    requires facts { parts.facts ≤ limits.facts }
-    requires few { parts.actions ≤ max_actions }
-    requires short { longest ≤ max_length }
-    ensures { TriesProblem limits problem.now parts longest grant result }
+// The plans of a problem, up to a length.
+fn search_problem(problem: &Found, longest: usize, grant: u64) -> Search
+    requires { longest ≤ max_length }
+    ensures { TriesProblem problem.now longest grant result }
 {
-    let facts = parts.facts as usize;
+    let facts = problem.facts() as usize;
     let levels = first_levels(facts);
-    let mut c = none_fixed(facts);
-    fix_levels(&mut c, 0, levels);
-    let actions = parts.action;
-    let r = formula_planes(problem, parts.initial, &c);
+    let mut table = none_fixed(facts);
+    fix_levels(&mut table, 0, levels);
+    let looked = problem.initial(&table);
     let root = Root {
-        at: Places {
-            initial: parts.initial,
-            goal: parts.goal,
-        },
-        actions: parts.actions,
-        facts,
-        size: limits.line,
+        problem,
+        table: &table,
         levels,
-        starts: r.some,
+        starts: looked.some,
     };
-    try_lengths(problem, &actions, root, &c, longest, grant)
+    match try_lengths(&root, longest, grant) {
+        Ok(left) => Search::NoneRight {
+            visits: grant - left,
+        },
+        Err(Ended::Right { plan, left }) => Search::Found {
+            plan,
+            visits: grant - left,
+        },
+        Err(Ended::Undecided { plan }) => Search::Undecided {
+            plan,
+            visits: grant,
+        },
+    }
 }
 
 // Try every plan up to a length: the problem's refusals; 43 for a length over 4; 44 for more than 1,000,000 plans; or the first right plan,
@@ -69,21 +65,18 @@ pub fn search_plans(problem: &[u8], longest: u64, grant: u64) -> Result<Search, 
     ensures promised { SearchPromised problem.now longest grant (search_answer result) }
     ensures room { search_room result }
 {
-    let limits = Limits::version1();
-    let parts = find_problem(problem, limits)?;
-    let long = longest > ShortPlan::MAX_STEPS as u64;
-    if long {
+    let found = Found::read(problem)?;
+    if longest > ShortPlan::MAX_STEPS as u64 {
         return Err(Refusal {
             number: 43,
             place: 0,
         });
     }
-    let many = plan_count(parts.actions as u64, longest) > ShortPlan::MAX_PLANS;
-    if many {
+    if plan_count(found.actions() as u64, longest) > ShortPlan::MAX_PLANS {
         return Err(Refusal {
             number: 44,
             place: 0,
         });
     }
-    Ok(search_problem(problem, parts, limits, longest as usize, grant))
+    Ok(search_problem(&found, longest as usize, grant))
 }

@@ -8,30 +8,35 @@ use native.Mathlib.Nat.{pow-suc}
 use native.Mathlib.Decide.{ℕ_discrete}
 use lib.ListN.{length, set, length-append}
 use lib.Pow.{pow_pos, pow_mono}
+use Rattle.std.specs.Prelude.{Result, Ok, Err}
 use Rattle.model.specs.Kleene.{Kleene, No, Yes, three}
 use Rattle.model.specs.Formula.{eval}
 use Rattle.model.specs.Run.{run}
 use Rattle.model.specs.Case.{case_of, Task}
-use Rattle.model.specs.Walk as Walk
-use Rattle.model.specs.Walk.{Kind, empty, carries, kind_number, line, Line, Walked, covered, failed, visits, join, walk_from, look_of, look_at}
+use Rattle.model.specs.Walk as model
+use Rattle.model.specs.Walk.{Line, Walked, covered, failed, visits, join, walk_from, look_of, look_at}
 use Rattle.model.specs.Planes.{lane_bit, Table}
 use Rattle.model.proofs.Laws.Cover.{Block, pow-half, rescale, next-block, block-of-mod, mod-of-block}
 use Rattle.model.proofs.Laws.Grants.{visits-walk}
 use Rattle.model.proofs.Laws.Planes.{bit-small}
 use Rattle.model.proofs.Laws.Splitting.{length-case, case-unknown, case-no, case-yes}
 use Rattle.table.specs.Blocks.{block_case, FixesLevels, FixesPath}
-use Rattle.table.proofs.Blocks.{length-block, block-outside, block-root, part_no, part-yes}
-use Rattle.lines.specs.Lines.{width_of}
-use Rattle.lines.specs.Putting.{LinesLaid, AddsLine}
-use Rattle.lines.proofs.Stores.{puts-append}
-use Rattle.look.specs.Cases.{look_bits, LooksAtCases}
+use Rattle.table.proofs.Blocks.{length-block, block-outside, block-root, part_no as lane-no, part-yes as lane-yes}
 use Rattle.look.specs.declared.Looks.{Looks}
-use Rattle.blocks.specs.declared.problem.Places.{Places}
-use Rattle.walk.specs.declared.cases.Case.{Case}
-use Rattle.walk.specs.declared.cases.Block as walk
-use Rattle.walk.specs.declared.cases.Ending.{Ending}
-use Rattle.walk.specs.declared.cases.Ending.TheVariants.{Out, Failed, Closed}
-use Rattle.walk.specs.Walks.{Ended, Counted, walk_of, values_of, LevelsOf, BlockFits, WalksBlock, NodeFits, NodeAt, WalksNode, WalksParts, joins}
+use Rattle.look.specs.declared.task.Task as walks
+use Rattle.walk.specs.declared.block.Block as block
+use Rattle.walk.specs.declared.case.Case.{Case}
+use Rattle.walk.specs.declared.case.Kind.{Kind}
+use Rattle.walk.specs.declared.case.Look.{Look}
+use Rattle.walk.specs.declared.case.Look.TheVariants.{Closed, Open}
+use Rattle.walk.specs.declared.cases.Closed as done
+use Rattle.walk.specs.declared.cases.Stopped.{Stopped}
+use Rattle.walk.specs.declared.cases.Stopped.TheVariants.{OutOfVisits, Failed}
+use Rattle.walk.specs.Cases.{CaseFits, part_of, part_no, part_yes, line_of}
+use Rattle.look.specs.Tasks.{LooksAt}
+use Rattle.look.proofs.Tasks.{task-width}
+use Rattle.walk.specs.Blocks as found
+use Rattle.walk.specs.Walks.{Ended, Counted, walk_at, values_of, LevelsOf, BlockFits, WalksBlock, NodeFits, NodeAt, WalksCase}
 
 -- ---- a walk after a walk
 
@@ -43,133 +48,118 @@ visits-join : (x y : Walked) → visits x < visits (join x y)
 visits-join (covered ls a) y = omega (arith, visits-closed ls a y)
 visits-join (failed s a) y = omega arith
 
+-- the first part did not close
+join_stopped : (g : ℕ) → 0 < g → (ls : List Line) (e : Stopped) (x y z : Walked) → Counted (g - 1) ls (Err e) → z ≡ join x y → Ended (g - 1) ls (Err e) x → Ended g ls (Err e) z
+join_stopped g k ls OutOfVisits x y z c j h = rw j (omega (arith, visits-join x y))
+join_stopped g k ls (Failed s rest) x y z c j h = let i : g - rest ≡ suc (g - 1 - rest) = omega arith in rw (i, j, h)
+
+abbrev pub added : ℕ → Result done.Closed Stopped → Result done.Closed Stopped
+added n (Ok d) = Ok (record { lines = n + d.lines; left = d.left })
+added n (Err e) = Err e
+
 -- the first part closed: the second decides
-join-closed :
-    (size : ℕ) → 2 < size → (g n a next to : ℕ) (ls : List Line) (y : Walked) (r : Ending) (before mid after : List ℕ) →
-    length mid ≡ length before → length ls ≡ n → a ≤ g → LinesLaid size before to ls next mid → Ended size (g - a) y r mid next after →
-    Ended size (g + 1) (join (covered ls a) y) (joins n a r) before to after
-join-closed size S g n a next to ls y Out before mid after same c h p q = omega (arith, visits-closed ls a y)
-join-closed size S g n a next to ls y (Failed s b) before mid after same c h p (e, k) =
-    let i : suc (a + b) ≡ a + b + 1 = omega arith in (rw (e, i), omega arith)
-join-closed size S g n a next to ls y (Closed m b end) before mid after same c h p (ms, e, l, k, q) =
-    let i : suc (a + b) ≡ a + b + 1 = omega arith in
-    (ls ++ ms, rw (e, i), length-append ls ms ∙ rw (c, l), omega arith, puts-append size S before mid after to next end ls ms same p q)
+join_closed :
+    (g : ℕ) → 0 < g → (c : done.Closed) (ls ms : List Line) (r : Result done.Closed Stopped) (x y z : Walked) → c.left ≤ g - 1 → Counted c.left ms r → z ≡ join x y →
+    x ≡ covered ls (g - 1 - c.left) → Ended c.left ms r y → Ended g (ls ++ ms) (added c.lines r) z
+join_closed g k c ls ms (Ok d) x y z m n j h i = let u : g - d.left ≡ suc ((g - 1 - c.left) + (c.left - d.left)) = omega (arith, n.0) in rw (u, j, h, i)
+join_closed g k c ls ms (Err OutOfVisits) x y z m n j h i = rw (j, h) (omega (arith, visits-closed ls (g - 1 - c.left) y))
+join_closed g k c ls ms (Err (Failed s rest)) x y z m n j h i = let u : g - rest ≡ suc ((g - 1 - c.left) + (c.left - rest)) = omega arith in rw (u, j, h, i)
 
 -- ---- one visit
 
-zero_bit : (j x : ℕ) → (lane_bit j x ≡ 1 → ⊥) → lane_bit j x ≡ 0
-zero_bit j x h = elim (ℕ_discrete (lane_bit j x) 0) [ yes e ↦ e | no e ↦ absurd (h (omega (arith, bit-small j x))) ]
-
-walk-closed : (w : ℕ) (look : ℕ → ℕ → Walk.Look) (d k v : ℕ) (κ : Kind) → walk_from w look d (Walk.closed κ) k v ≡ covered (line κ k v ∷ []) 1
+walk-closed : (w : ℕ) (look : ℕ → ℕ → model.Look) (d k v : ℕ) (κ : model.Kind) → walk_from w look d (model.closed κ) k v ≡ covered (model.line κ k v ∷ []) 1
 unfolding walk_from
 walk-closed w look zero k v κ = refl
 walk-closed w look (suc d) k v κ = refl
 
-walk-failing : (w : ℕ) (look : ℕ → ℕ → Walk.Look) (k v : ℕ) → walk_from w look 0 Walk.opened k v ≡ failed v 1
+walk-failing : (w : ℕ) (look : ℕ → ℕ → model.Look) (k v : ℕ) → walk_from w look 0 model.opened k v ≡ failed v 1
 unfolding walk_from
 walk-failing w look k v = refl
 
 walk_split :
-    (w : ℕ) (look : ℕ → ℕ → Walk.Look) (d k v : ℕ) → 0 < d →
-    walk_from w look d Walk.opened k v ≡
+    (w : ℕ) (look : ℕ → ℕ → model.Look) (d k v : ℕ) → 0 < d →
+    walk_from w look d model.opened k v ≡
     join (walk_from w look (d - 1) (look (suc k) v) (suc k) v)
     (walk_from w look (d - 1) (look (suc k) (v + 2 ^ (w - suc k))) (suc k) (v + 2 ^ (w - suc k)))
 unfolding walk_from
 walk_split w look zero k v h = absurd (omega arith)
 walk_split w look (suc d) k v h = let e : suc d - 1 ≡ d = omega arith in rw e
 
-module _ (size : ℕ) (problem steps actions : List ℕ) (at : Places) (c : List ℕ) (b : walk.Block) (case : Case) (lane g : ℕ) (before : List ℕ) (to : ℕ) where
-  abbrev At : Task → Type 0
-  At = NodeAt size problem steps actions at c b case lane
+pub zero_bit : (j x : ℕ) → (lane_bit j x ≡ 1 → ⊥) → lane_bit j x ≡ 0
+zero_bit j x h = elim (ℕ_discrete (lane_bit j x) 0) [ yes e ↦ e | no e ↦ absurd (h (omega (arith, bit-small j x))) ]
 
-  abbrev Node : Ending → List ℕ → Type 0
-  Node r after = WalksNode size problem steps actions at c b case lane g r before to after
+halves : (w k : ℕ) → k < w → 2 ^ (w - k) ≡ 2 ^ (w - (k + 1)) + 2 ^ (w - (k + 1))
+halves w k h = let s : k + 1 ≡ suc k = omega arith in rw s (pow-half w k h)
 
-  -- what the lane's two bits say is what a visit finds
-  node-look : lane < 64 → (T : Task) → At T → look_at T case.k case.number ≡ look_bits (lane_bit lane b.empty) (lane_bit lane b.carries)
-  unfolding look_at
-  node-look l T N =
-      sym
-      (N.looked lane l ∙
-      ap (λ (x : List Kleene). look_of (eval three x T.initial) (run three T.facts T.goal T.plan 0 x)) N.lane_is)
+pub half_room : (w : ℕ) (case : Case) → CaseFits w case → 0 < case.left → case.number + 2 ^ (w - (case.k + 1)) < 2 ^ 64
+half_room w case F h =
+    omega (arith, F.numbers, halves w case.k (omega (arith, F.slots)), pow_pos (w - (case.k + 1)), pow_mono {i = w} {j = 64} (omega (arith, F.most)))
 
-  pub node-out : g ≡ 0 → Node Out before
-  node-out z =
-      record { counted = tt; same = refl; is = λ T N. omega (arith, visits-walk T.width (look_at T) case.left (look_at T case.k case.number) case.k case.number) }
+pub lane-small : (w : ℕ) (b : block.Block) (case : Case) → NodeFits w b case → case.lane < 64
+lane-small w b case N = omega (arith, N.lane_to, pow_mono {i = suc (case.k - b.first)} {j = 6} (omega (arith, N.few, N.within)))
 
-  -- a lane that is closed
-  node-closed :
-      (κ : Kind) (next : ℕ) (after : List ℕ) → 0 < g → AddsLine size before to (kind_number κ) case.k case.number next after →
-      ((T : Task) → At T → look_at T case.k case.number ≡ Walk.closed κ) → Node (Closed 1 1 next) after
-  node-closed κ next after h A look =
+module _ {L : Type 0} (puts : L → List Line → L → Type 0) (task : walks.Task) (b : block.Block) (case : Case) (N : NodeFits task.problem.now.limits.width b case) (g : ℕ) (old : L) where
+  abbrev Here : Result done.Closed Stopped → L → Type 0
+  Here r new = WalksCase puts task b case g old r new
+
+  pub node_out : puts old [] old → g ≡ 0 → Here (Err OutOfVisits) old
+  node_out p z =
       record {
-        counted = (omega arith, omega arith);
-        same = A.same;
-        is = λ T N. (line κ case.k case.number ∷ [], rw (look T N, walk-closed), refl, h, A.is);
+        closed = [];
+        put = p;
+        counted = tt;
+        is = λ T A. omega (arith, visits-walk T.width (look_at T) case.left (look_at T case.k case.number) case.k case.number);
       }
 
-  pub node-empty :
-      lane < 64 → 0 < g → lane_bit lane b.empty ≡ 1 → (next : ℕ) (after : List ℕ) → AddsLine size before to 0 case.k case.number next after →
-      Node (Closed 1 1 next) after
-  node-empty l h e next after A = node-closed empty next after h A (λ T N. node-look l T N ∙ rw e)
+  module _ (look : Look) (F : found.Finds b.looks case.lane look) (some : 0 < g) where
+    one : g - (g - 1) ≡ 1
+    one = omega arith
 
-  pub node-carries :
-      lane < 64 → 0 < g → (lane_bit lane b.empty ≡ 1 → ⊥) → lane_bit lane b.carries ≡ 1 → (next : ℕ) (after : List ℕ) →
-      AddsLine size before to 1 case.k case.number next after → Node (Closed 1 1 next) after
-  node-carries l h n e next after A =
-      let z : lane_bit lane b.empty ≡ 0 = zero_bit lane b.empty n in
-      node-closed carries next after h A (λ T N. node-look l T N ∙ rw (z, e))
+    -- a visit finds what the block says of the lane
+    node-look : (T : Task) → NodeAt task b case T → look_at T case.k case.number ≡ found.look_of look
+    unfolding look_at
+    node-look T A =
+        sym
+        (F ∙
+        A.looked case.lane (lane-small task.problem.now.limits.width b case N) ∙
+        ap (λ (x : List Kleene). look_of (eval three x T.initial) (run three T.facts T.goal T.plan 0 x)) A.lane_is)
 
-  module _ (l : lane < 64) (h : 0 < g) (n : lane_bit lane b.empty ≡ 1 → ⊥) (m : lane_bit lane b.carries ≡ 1 → ⊥) where
-    node-open : (T : Task) → At T → look_at T case.k case.number ≡ Walk.opened
-    node-open T N = let y = zero_bit lane b.empty n in let z = zero_bit lane b.carries m in node-look l T N ∙ rw (y, z)
-
-    pub node-fails : case.left ≡ 0 → Node (Failed case.number 1) before
-    node-fails z = record { counted = h; same = refl; is = λ T N. (rw (node-open T N, z, walk-failing), h) }
-
-    abbrev parts : Task → Walked
-    parts T =
-        join (walk_of T (case.left - 1) (suc case.k) case.number)
-        (walk_of T (case.left - 1) (suc case.k) (case.number + 2 ^ (T.width - suc case.k)))
-
-    pub node-splits :
-        0 < case.left → (r : Ending) (after : List ℕ) → WalksParts size problem steps actions at c b case lane (g - 1) r before to after → Node r after
-    node-splits k r after P =
-        let u : g - 1 + 1 ≡ g = omega arith in
+    pub node_closed : (kind : Kind) → look ≡ Closed kind → (new : L) → puts old (line_of kind case ∷ []) new → Here (Ok (record { lines = 1; left = g - 1 })) new
+    node_closed kind e new p =
         record {
-          counted = subst (λ (x : ℕ). Counted x r) u P.counted;
-          same = P.same;
-          is =
-              λ T N.
-              rw (node-open T N, walk_split T.width (look_at T) case.left case.k case.number k)
-              (subst (λ (x : ℕ). Ended size x (parts T) r before to after) u (P.is T N));
+          closed = line_of kind case ∷ [];
+          put = p;
+          counted = (omega arith, refl, omega arith);
+          is = λ T A. rw (node-look T A, e, walk-closed, one);
         }
+
+    pub node_fails : puts old [] old → look ≡ Open → case.left ≡ 0 → Here (Err (Failed case.number (g - 1))) old
+    node_fails p e z = record { closed = []; put = p; counted = omega arith; is = λ T A. rw (node-look T A, e, z, walk-failing, one) }
+
+    -- an open case is the walk of its parts
+    splits :
+        look ≡ Open → 0 < case.left → (T : Task) → NodeAt task b case T →
+        walk_at case T ≡ join (walk_at (part_no case) T) (walk_at (part_yes task.problem.now.limits.width case) T)
+    splits e k T A =
+        let s : case.k + 1 ≡ suc case.k = omega arith in
+        rw (node-look T A, e, s, ← task-width A.task_is) (walk_split T.width (look_at T) case.left case.k case.number k)
 
 -- ---- the parts of a lane's case
 
-abbrev pub part_of : Case → ℕ → Case
-part_of case v = record { k = case.k + 1; left = case.left - 1; number = v }
+module _ (w : ℕ) (b : block.Block) (case : Case) (N : NodeFits w b case) (inner : case.k < b.first + b.levels) where
+  pub some-left : 0 < case.left
+  some-left = omega (arith, N.inside)
 
-pub lane-small : (size : ℕ) (b : walk.Block) (case : Case) (lane : ℕ) → NodeFits size b case lane → lane < 64
-lane-small size b case lane N = omega (arith, N.lane_to, pow_mono {i = suc (case.k - b.first)} {j = 6} (omega (arith, N.few, N.within)))
+  two_halves : 2 ^ (w - case.k) ≡ 2 ^ (w - (case.k + 1)) + 2 ^ (w - (case.k + 1))
+  two_halves = halves w case.k (omega (arith, N.inside, N.fits.slots))
 
-module _ (size : ℕ) (b : walk.Block) (case : Case) (lane : ℕ) (N : NodeFits size b case lane) (inner : case.k < b.first + b.levels) where
-  halves : 2 ^ (width_of size - case.k) ≡ 2 ^ (width_of size - suc case.k) + 2 ^ (width_of size - suc case.k)
-  halves = pow-half (width_of size) case.k (omega (arith, N.inside, N.fits.slots))
-
-  pub half_is : (half : ℕ) → half ≡ 2 ^ (width_of size - (case.k + 1)) → half ≡ 2 ^ (width_of size - suc case.k)
-  half_is half h = h ∙ ap (λ (x : ℕ). 2 ^ x) (omega arith)
-
-  pub half_room : (half : ℕ) → half ≡ 2 ^ (width_of size - suc case.k) → case.number + half < 2 ^ 64
-  half_room half e = omega (arith, N.fits.numbers, halves, pow_pos (width_of size - suc case.k), pow_mono {i = width_of size} {j = 64} (omega (arith, N.fits.most)))
-
-  part-fits : (v i : ℕ) → v + 2 ^ (width_of size - suc case.k) ≤ 2 ^ width_of size → 2 * lane ≤ i → i ≤ 2 * lane + 1 → NodeFits size b (part_of case v) i
+  part-fits : (v i : ℕ) → v + 2 ^ (w - (case.k + 1)) ≤ 2 ^ w → 2 * case.lane ≤ i → i ≤ 2 * case.lane + 1 → NodeFits w b (part_of case v i)
   part-fits v i h l m =
       let e : case.k + 1 - b.first ≡ suc (case.k - b.first) = omega (arith, N.below_first) in
       let p = pow-suc 2 (case.k - b.first) in
       let q = pow-suc 2 (suc (case.k - b.first)) in
       record {
-        fits = record { least = N.fits.least; most = N.fits.most; slots = omega (arith, N.fits.slots, N.inside); numbers = subst (λ (x : ℕ). v + 2 ^ (width_of size - x) ≤ 2 ^ width_of size) (omega arith) h };
+        fits = record { most = N.fits.most; slots = omega (arith, N.fits.slots, N.inside); numbers = h };
         few = N.few;
         inside = omega (arith, N.inside);
         below_first = omega (arith, N.below_first);
@@ -178,175 +168,171 @@ module _ (size : ℕ) (b : walk.Block) (case : Case) (lane : ℕ) (N : NodeFits 
         lane_to = rw e (omega (arith, N.lane_to));
       }
 
-  pub first_fits : NodeFits size b (part_of case case.number) (2 * lane)
-  first_fits = part-fits case.number (2 * lane) (omega (arith, N.fits.numbers, halves)) (omega arith) (omega arith)
+  pub first_fits : (x : Case) → x ≡ part_no case → NodeFits w b x
+  first_fits x e = rw e (part-fits case.number (2 * case.lane) (omega (arith, N.fits.numbers, two_halves)) (omega arith) (omega arith))
 
-  pub second_fits : (half : ℕ) → half ≡ 2 ^ (width_of size - suc case.k) → NodeFits size b (part_of case (case.number + half)) (2 * lane + 1)
-  second_fits half e = part-fits (case.number + half) (2 * lane + 1) (omega (arith, N.fits.numbers, halves)) (omega arith) (omega arith)
+  pub second_fits : (x : Case) → x ≡ part_yes w case → NodeFits w b x
+  second_fits x e =
+      rw e
+      (part-fits (case.number + 2 ^ (w - (case.k + 1))) (2 * case.lane + 1) (omega (arith, N.fits.numbers, two_halves)) (omega arith) (omega arith))
 
-  module _ (problem steps actions : List ℕ) (at : Places) (c : List ℕ) (T : Task) (A : NodeAt size problem steps actions at c b case lane T) where
-    k<n : case.k < T.facts
-    k<n = omega (arith, N.inside, A.case_at.left_facts)
+module _ (task : walks.Task) (b : block.Block) (case : Case) (N : NodeFits task.problem.now.limits.width b case) (inner : case.k < b.first + b.levels) (T : Task) (A : NodeAt task b case T) where
+  k<n : case.k < T.facts
+  k<n = omega (arith, N.inside, A.case_at.left_facts)
 
-    n≤w : T.facts ≤ T.width
-    n≤w = omega (arith, A.case_at.width, A.case_at.left_facts, N.fits.slots)
+  n≤w : T.facts ≤ T.width
+  n≤w = omega (arith, task-width A.task_is, A.case_at.left_facts, N.fits.slots)
 
-    block : Block T.width case.k case.number
-    block = block-of-mod T.width case.k case.number A.case_at.begins
+  aligned : Block T.width case.k case.number
+  aligned = block-of-mod T.width case.k case.number A.case_at.begins
 
-    smaller : Block T.width (suc case.k) case.number
-    smaller = rescale T.width case.k (suc case.k) case.number (omega arith) (omega (arith, k<n, n≤w)) block
+  smaller : Block T.width (suc case.k) case.number
+  smaller = rescale T.width case.k (suc case.k) case.number (omega arith) (omega (arith, k<n, n≤w)) aligned
 
-    room : b.first + b.levels ≤ length A.root
-    room = omega (arith, A.sized, N.inside, A.case_at.left_facts)
+  room : b.first + b.levels ≤ length A.root
+  room = omega (arith, A.sized, N.inside, A.case_at.left_facts)
 
-    -- the lane of a part has that part's case
-    part_at :
-        (v i : ℕ) (x : Kleene) → Block T.width (suc case.k) v →
-        block_case A.root b.first b.levels i ≡ set (block_case A.root b.first b.levels lane) (b.first + (case.k - b.first)) x →
-        case_of T.width T.facts (suc case.k) v ≡ set (values_of T case) case.k x → NodeAt size problem steps actions at c b (part_of case v) i T
-    part_at v i x B e f =
-        let s : suc case.k ≡ case.k + 1 = omega arith in
-        let level : b.first + (case.k - b.first) ≡ case.k = omega (arith, N.below_first) in
-        record {
-          stands = A.stands;
-          case_at =
-              record {
-                width = A.case_at.width;
-                left_facts = omega (arith, A.case_at.left_facts, k<n);
-                begins = subst (λ (k : ℕ). v % 2 ^ (T.width - k) ≡ 0) s (mod-of-block T.width (suc case.k) v B);
-              };
-          root = A.root;
-          sized = A.sized;
-          table = A.table;
-          looked = A.looked;
-          lane_is = e ∙ (λ j. set (A.lane_is j) (level j) x) ∙ sym f ∙ ap (λ (k : ℕ). case_of T.width T.facts k v) s;
-        }
+  -- the lane of a part has that part's case
+  part_at :
+      (v i : ℕ) (x : Kleene) → Block T.width (suc case.k) v →
+      block_case A.root b.first b.levels i ≡ set (block_case A.root b.first b.levels case.lane) (b.first + (case.k - b.first)) x →
+      case_of T.width T.facts (suc case.k) v ≡ set (values_of T case) case.k x → NodeAt task b (part_of case v i) T
+  part_at v i x B e f =
+      let s : suc case.k ≡ case.k + 1 = omega arith in
+      let level : b.first + (case.k - b.first) ≡ case.k = omega (arith, N.below_first) in
+      record {
+        task_is = A.task_is;
+        case_at =
+            record {
+              left_facts = omega (arith, A.case_at.left_facts, k<n);
+              begins = subst (λ (k : ℕ). v % 2 ^ (T.width - k) ≡ 0) s (mod-of-block T.width (suc case.k) v B);
+            };
+        root = A.root;
+        sized = A.sized;
+        table = A.table;
+        looked = A.looked;
+        lane_is = e ∙ (λ j. set (A.lane_is j) (level j) x) ∙ sym f ∙ ap (λ (k : ℕ). case_of T.width T.facts k v) s;
+      }
 
-    pub first-at : NodeAt size problem steps actions at c b (part_of case case.number) (2 * lane) T
-    first-at =
-        part_at case.number (2 * lane) No smaller
-        (part_no A.root b.first b.levels (case.k - b.first) lane N.few (omega (arith, N.below_first)) N.lane_from N.lane_to room)
-        (case-no T.width T.facts case.k case.number k<n n≤w block)
+  pub first_at : NodeAt task b (part_no case) T
+  first_at =
+      part_at case.number (2 * case.lane) No smaller
+      (lane-no A.root b.first b.levels (case.k - b.first) case.lane N.few (omega (arith, N.below_first)) N.lane_from N.lane_to room)
+      (case-no T.width T.facts case.k case.number k<n n≤w aligned)
 
-    pub second_at : (half : ℕ) → half ≡ 2 ^ (T.width - suc case.k) → NodeAt size problem steps actions at c b (part_of case (case.number + half)) (2 * lane + 1) T
-    second_at half e =
-        rw e
-        (part_at (case.number + 2 ^ (T.width - suc case.k)) (2 * lane + 1) Yes (next-block T.width (suc case.k) case.number smaller)
-        (part-yes A.root b.first b.levels (case.k - b.first) lane N.few (omega (arith, N.below_first)) N.lane_from N.lane_to room)
-        (case-yes T.width T.facts case.k case.number k<n n≤w block))
+  pub second_at : NodeAt task b (part_yes task.problem.now.limits.width case) T
+  second_at =
+      let s : case.k + 1 ≡ suc case.k = omega arith in
+      subst (λ (v : ℕ). NodeAt task b (part_of case (case.number + v) (2 * case.lane + 1)) T)
+      (let z : 2 ^ (T.width - suc case.k) ≡ 2 ^ (task.problem.now.limits.width - (case.k + 1)) = rw (s, task-width A.task_is) in z)
+      (part_at (case.number + 2 ^ (T.width - suc case.k)) (2 * case.lane + 1) Yes (next-block T.width (suc case.k) case.number smaller)
+      (lane-yes A.root b.first b.levels (case.k - b.first) case.lane N.few (omega (arith, N.below_first)) N.lane_from N.lane_to room)
+      (case-yes T.width T.facts case.k case.number k<n n≤w aligned))
 
 -- ---- both parts
 
-counted-joins : (g n a : ℕ) (r : Ending) → a ≤ g → n ≤ a → Counted (g - a) r → Counted (g + 1) (joins n a r)
-counted-joins g n a Out h k c = tt
-counted-joins g n a (Failed s b) h k c = omega arith
-counted-joins g n a (Closed m b next) h k c = (omega arith, omega arith)
+counted-stopped : (g : ℕ) (ls : List Line) (s : Stopped) → Counted (g - 1) ls (Err s) → Counted g ls (Err s)
+counted-stopped g ls OutOfVisits c = tt
+counted-stopped g ls (Failed s left) c = omega arith
 
--- the counts of an ending, by its kind
-pub failed-count : (g : ℕ) (r : Ending) (s a : ℕ) → Counted g r → r ≡ Failed s a → a ≤ g
-failed-count g r s a c e = subst (Counted g) e c
+counted-added :
+    (g : ℕ) (c : done.Closed) (ls ms : List Line) (r : Result done.Closed Stopped) → Counted (g - 1) ls (Ok c) → Counted c.left ms r →
+    Counted g (ls ++ ms) (added c.lines r)
+counted-added g c ls ms (Ok d) k l = (omega (arith, k.0, l.0), omega (arith, k.1, l.1, length-append ls ms), omega (arith, k.0, k.2, l.0, l.2))
+counted-added g c ls ms (Err OutOfVisits) k l = tt
+counted-added g c ls ms (Err (Failed s left)) k l = omega (arith, k.0)
 
-pub closed-count : (g : ℕ) (r : Ending) (n a next : ℕ) → Counted g r → r ≡ Closed n a next → (a ≤ g) × (n ≤ a)
-closed-count g r n a next c e = subst (Counted g) e c
+module _ {L : Type 0} (puts : L → List Line → L → Type 0) (task : walks.Task) (b : block.Block) (case : Case) (N : NodeFits task.problem.now.limits.width b case) (g : ℕ) (old : L)
+    (look : Look) (F : found.Finds b.looks case.lane look) (some : 0 < g) (open_ : look ≡ Open) (inner : case.k < b.first + b.levels)
+    (first : Case) (e : first ≡ part_no case) where
+  split : (T : Task) → NodeAt task b case T → walk_at case T ≡ join (walk_at first T) (walk_at (part_yes task.problem.now.limits.width case) T)
+  split T A = rw e (splits puts task b case N g old look F some open_ (some-left task.problem.now.limits.width b case N inner) T A)
 
-module _ (size : ℕ) (problem steps actions : List ℕ) (at : Places) (c : List ℕ) (b : walk.Block) (case : Case) (lane g : ℕ) (before : List ℕ) (to : ℕ)
-    (N : NodeFits size b case lane) (inner : case.k < b.first + b.levels) (r₁ : Ending) (mid : List ℕ)
-    (W₁ : WalksNode size problem steps actions at c b (part_of case case.number) (2 * lane) g r₁ before to mid) where
-  abbrev Joined : Ending → List ℕ → Type 0
-  Joined r after = WalksParts size problem steps actions at c b case lane g r before to after
+  at_first : (T : Task) → NodeAt task b case T → NodeAt task b first T
+  at_first T A = rw e (first_at task b case N inner T A)
 
-  abbrev part_walk : Task → ℕ → Walked
-  part_walk T v = walk_of T (case.left - 1) (suc case.k) v
+  pub node_stops : (s : Stopped) (mid : L) → WalksCase puts task b first (g - 1) old (Err s) mid → WalksCase puts task b case g old (Err s) mid
+  node_stops s mid W =
+      record {
+        closed = W.closed;
+        put = W.put;
+        counted = counted-stopped g W.closed s W.counted;
+        is = λ T A. join_stopped g some W.closed s _ _ _ W.counted (split T A) (W.is T (at_first T A));
+      }
 
-  -- how a part's walk ended, as the definition counts
-  part-ended :
-      (T : Task) (g v : ℕ) (r : Ending) (before : List ℕ) (to : ℕ) (after : List ℕ) →
-      Ended size g (walk_of T (case.left - 1) (case.k + 1) v) r before to after → Ended size g (part_walk T v) r before to after
-  part-ended T g v r before to after = subst (λ (k : ℕ). Ended size g (walk_of T (case.left - 1) k v) r before to after) (omega arith)
-
-  first_ended : (T : Task) → NodeAt size problem steps actions at c b case lane T → (r : Ending) → r₁ ≡ r → Ended size g (part_walk T case.number) r before to mid
-  first_ended T A r e =
-      subst (λ (q : Ending). Ended size g (part_walk T case.number) q before to mid) e
-      (part-ended T g case.number r₁ before to mid (W₁.is T (first-at size b case lane N inner problem steps actions at c T A)))
-
-  pub parts_out : r₁ ≡ Out → Joined Out mid
-  parts_out e = record { counted = tt; same = W₁.same; is = λ T A. omega (arith, first_ended T A Out e, visits-join (part_walk T case.number) (part_walk T (case.number + 2 ^ (T.width - suc case.k)))) }
-
-  pub parts-failed : (s a : ℕ) → r₁ ≡ Failed s a → Joined (Failed s (a + 1)) mid
-  parts-failed s a e =
-      let h = failed-count g r₁ s a W₁.counted e in
-      let i : suc a ≡ a + 1 = omega arith in
-      record { counted = omega arith; same = W₁.same; is = λ T A. (rw ((first_ended T A (Failed s a) e).0, i), omega arith) }
-
-  pub parts-joined :
-      (n a next : ℕ) → r₁ ≡ Closed n a next → (half : ℕ) → half ≡ 2 ^ (width_of size - suc case.k) → (r₂ : Ending) (after : List ℕ) →
-      WalksNode size problem steps actions at c b (part_of case (case.number + half)) (2 * lane + 1) (g - a) r₂ mid next after →
-      (r : Ending) → r ≡ joins n a r₂ → Joined r after
-  parts-joined n a next closes half e r₂ after W₂ r i =
-      let k = closed-count g r₁ n a next W₁.counted closes in
-      rw i
-      (record {
-        counted = counted-joins g n a r₂ k.0 k.1 W₂.counted;
-        same = W₂.same ∙ W₁.same;
+  pub node_joins :
+      ((s t u : L) (ls ms : List Line) → puts s ls t → puts t ms u → puts s (ls ++ ms) u) → (c : done.Closed) (mid : L) →
+      WalksCase puts task b first (g - 1) old (Ok c) mid → (second : Case) → second ≡ part_yes task.problem.now.limits.width case → (r : Result done.Closed Stopped) (new : L) →
+      WalksCase puts task b second c.left mid r new → WalksCase puts task b case g old (added c.lines r) new
+  node_joins more c mid W second f r new V =
+      record {
+        closed = W.closed ++ V.closed;
+        put = more _ _ _ W.closed V.closed W.put V.put;
+        counted = counted-added g c W.closed V.closed r W.counted V.counted;
         is =
             λ T A.
-            let (ls, y, z, u, p) = first_ended T A (Closed n a next) closes in
-            let w : half ≡ 2 ^ (T.width - suc case.k) = e ∙ rw A.case_at.width in
-            let v = part-ended T (g - a) (case.number + half) r₂ mid next after (W₂.is T (second_at size b case lane N inner problem steps actions at c T A half w)) in
-            rw (y, ← w) (join-closed size N.fits.least g n a next to ls _ r₂ before mid after W₁.same z u p v);
-      })
+            join_closed g some c W.closed V.closed r _ _ _ W.counted.0 V.counted (split T A) (W.is T (at_first T A))
+            (subst (λ (x : Case). Ended c.left V.closed r (walk_at x T)) f (V.is T (rw f (second_at task b case N inner T A))));
+      }
 
 -- ---- a block
 
 pub block-walks :
-    (size : ℕ) (problem steps actions : List ℕ) (at : Places) (c : List ℕ) (case : Case) (levels g : ℕ) (before : List ℕ) (to : ℕ) (B : BlockFits size case levels) (found : Looks) →
-    LooksAtCases problem steps actions at.initial at.goal c found → (r : Ending) (after : List ℕ) →
-    WalksNode size problem steps actions at c (record { first = case.k; levels = levels; empty = found.empty; carries = found.carries }) case 1 g r before to after →
-    WalksBlock size problem steps actions at c case levels g r before to after
-block-walks size problem steps actions at c case levels g before to B found L r after W =
+    {L : Type 0} (puts : L → List Line → L → Type 0) (task : walks.Task) (c : List ℕ) (case : Case) (levels : ℕ) (B : BlockFits task.problem.now.limits.width case levels) (looks : Looks) →
+    LooksAt task c looks → (b : block.Block) → b.table.now ≡ c → b.first ≡ case.k → b.levels ≡ levels → b.looks ≡ looks →
+    (g : ℕ) (old : L) (r : Result done.Closed Stopped) (new : L) → WalksCase puts task b case g old r new → WalksBlock puts task c case levels g old r new
+block-walks puts task c case levels B looks S b tc fk ll lk g old r new W =
     record {
+      closed = W.closed;
+      put = W.put;
       counted = W.counted;
-      same = W.same;
       is =
           λ T A.
           W.is T
           (record {
-            stands = A.stands;
+            task_is = A.task_is;
             case_at = A.case_at;
             root = values_of T case;
             sized = length-case T.width T.facts case.k case.number;
-            table = A.table;
+            table = rw (tc, fk, ll) A.table;
             looked =
                 λ j l.
-                L.is T A.stands (λ i. block_case (values_of T case) case.k levels i)
-                (λ i m. length-block (values_of T case) case.k levels i ∙ length-case T.width T.facts case.k case.number) A.table j l;
+                rw (fk, ll, lk)
+                (S.is T A.task_is (λ i. block_case (values_of T case) case.k levels i)
+                (λ i m. length-block (values_of T case) case.k levels i ∙ length-case T.width T.facts case.k case.number) A.table j l);
             lane_is =
-                block-root (values_of T case) case.k levels
-                (λ f h l. case-unknown T.width T.facts case.k case.number f h (omega (arith, B.levels-of.inside, A.case_at.left_facts)));
+                rw (fk, ll, B.root)
+                (block-root (values_of T case) case.k levels
+                (λ f h l. case-unknown T.width T.facts case.k case.number f h (omega (arith, B.levels-of.inside, A.case_at.left_facts))));
           });
     }
 
 -- an open case at a block's edge begins a block of its own
-pub node-edge :
-    (size : ℕ) (problem steps actions : List ℕ) (at : Places) (c : List ℕ) (b : walk.Block) (case : Case) (lane g : ℕ) (before : List ℕ) (to : ℕ) (N : NodeFits size b case lane)
-    (path below : List ℕ) (levels : ℕ) → FixesPath c b.first b.levels lane path → FixesLevels path case.k levels below → LevelsOf case.left levels →
-    (r : Ending) (after : List ℕ) → WalksBlock size problem steps actions at below case levels g r before to after →
-    WalksNode size problem steps actions at c b case lane g r before to after
-node-edge size problem steps actions at c b case lane g before to N path below levels P X L r after W =
+pub node_edge :
+    {L : Type 0} (puts : L → List Line → L → Type 0) (task : walks.Task) (b : block.Block) (case : Case) (N : NodeFits task.problem.now.limits.width b case)
+    (path below : List ℕ) (levels : ℕ) → FixesPath b.table.now b.first b.levels case.lane path → FixesLevels path case.k levels below → LevelsOf case.left levels →
+    (root : Case) → root ≡ record case { lane = 1 } → (g : ℕ) (old : L) (r : Result done.Closed Stopped) (new : L) → WalksBlock puts task below root levels g old r new →
+    WalksCase puts task b case g old r new
+node_edge puts task b case N path below levels P X G root e g old r new W =
     record {
+      closed = W.closed;
+      put = W.put;
       counted = W.counted;
-      same = W.same;
       is =
           λ T A.
-          W.is T
+          rw (← walk-root T)
+          (W.is T
+          (rw e
           (record {
-            stands = A.stands;
-            case_at = A.case_at;
+            task_is = A.task_is;
+            case_at = record { left_facts = A.case_at.left_facts; begins = A.case_at.begins };
             table =
-                X.is (values_of T case) (omega (arith, length-case T.width T.facts case.k case.number, L.inside, A.case_at.left_facts))
+                X.is (values_of T case) (omega (arith, length-case T.width T.facts case.k case.number, G.inside, A.case_at.left_facts))
                 (subst (λ (x : List Kleene). Table path (λ j. x)) A.lane_is
                 (P.is (λ j. block_case A.root b.first b.levels j) A.table
-                (λ j f m o. block-outside A.root b.first b.levels j f o ∙ sym (block-outside A.root b.first b.levels lane f o))));
-          });
+                (λ j f m o. block-outside A.root b.first b.levels j f o ∙ sym (block-outside A.root b.first b.levels case.lane f o))));
+          })));
     }
+  where
+    walk-root : (T : Task) → walk_at root T ≡ walk_at case T
+    walk-root T = rw e

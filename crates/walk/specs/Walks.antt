@@ -1,45 +1,42 @@
--- What the walk answers, whatever it walks over: blocks of cases in the lanes of a table.
-use Rattle.std.specs.Prelude.{◌≡◌, List, ℕ, suc, ◌+◌, ◌-◌, ◌%◌, ◌^◌, ◌≤◌, ◌<◌, length}
-use Rattle.model.specs.declared.Limits.{Limits}
-use Rattle.model.specs.declared.Problem.{Problem}
+-- What the walk answers, whatever it walks over and whatever becomes of its lines.
+use Rattle.std.specs.Prelude.{◌≡◌, List, ℕ, suc, ◌+◌, ◌-◌, ◌%◌, ◌^◌, ◌≤◌, ◌<◌, length, Result, Ok, Err}
 use Rattle.model.specs.Kleene.{Kleene, three}
 use Rattle.model.specs.Formula.{eval}
 use Rattle.model.specs.Run.{run}
 use Rattle.model.specs.Case.{case_of, Task}
-use Rattle.model.specs.Walk.{Line, Walked, covered, failed, visits, join, walk_from, walked, look_of, look_at}
+use Rattle.model.specs.Walk.{Line, Walked, covered, failed, visits, walk_from, walked, look_of, look_at}
 use Rattle.model.specs.Planes.{lane_bit, Table}
-use Rattle.model.specs.Stands.{TaskStands}
-use Rattle.blocks.specs.Standing.{TaskIn}
 use Rattle.table.specs.Blocks.{block_case}
-use Rattle.lines.specs.Lines.{width_of}
-use Rattle.lines.specs.Putting.{LinesLaid}
 use Rattle.look.specs.Cases.{look_bits}
-use Rattle.blocks.specs.declared.problem.Places.{Places}
-use Rattle.walk.specs.declared.cases.Case.{Case}
-use Rattle.walk.specs.declared.cases.Block.{Block}
-use Rattle.walk.specs.declared.cases.Ending.{Ending}
-use Rattle.walk.specs.declared.cases.Ending.TheVariants.{Out, Failed, Closed}
+use Rattle.walk.specs.Cases.{CaseFits}
+use Rattle.look.specs.Tasks.{Is}
+use Rattle.look.specs.declared.task.Task as walks
+use Rattle.walk.specs.declared.block.Block.{Block}
+use Rattle.walk.specs.declared.case.Case.{Case}
+use Rattle.walk.specs.declared.cases.Closed.{Closed}
+use Rattle.walk.specs.declared.cases.Stopped.{Stopped}
+use Rattle.walk.specs.declared.cases.Stopped.TheVariants.{OutOfVisits, Failed}
 
 -- ---- how a walk ends
 
--- the walk w under a grant: it needs more visits; it failed at s; or it closed, and its lines stand in the buffer from `to` on, if they fit
-abbrev pub Ended : ℕ → ℕ → Walked → Ending → List ℕ → ℕ → List ℕ → Type 0
-Ended size g w Out before to after = g < visits w
-Ended size g w (Failed s a) before to after = (w ≡ failed s a) × (a ≤ g)
-Ended size g w (Closed n a next) before to after =
-    (ls : List Line) × (w ≡ covered ls a) × (length ls ≡ n) × (a ≤ g) × LinesLaid size before to ls next after
+-- the walk w, with so many visits granted and the lines ls: all closed, or more visits are needed, or it failed at s
+abbrev pub Ended : ℕ → List Line → Result Closed Stopped → Walked → Type 0
+Ended g ls (Ok c) w = w ≡ covered ls (g - c.left)
+Ended g ls (Err OutOfVisits) w = g < visits w
+Ended g ls (Err (Failed s left)) w = w ≡ failed s (g - left)
 
--- what may be added up, whatever stands in the blocks
-abbrev pub Counted : ℕ → Ending → Type 0
-Counted g Out = Unit {0}
-Counted g (Failed s a) = a ≤ g
-Counted g (Closed n a next) = (a ≤ g) × (n ≤ a)
+-- whatever stands in the blocks: the lines are counted, no more than there were visits
+abbrev pub Counted : ℕ → List Line → Result Closed Stopped → Type 0
+Counted g ls (Ok c) = (c.left ≤ g) × (c.lines ≡ length ls) × (c.lines ≤ g - c.left)
+Counted g ls (Err OutOfVisits) = Unit {0}
+Counted g ls (Err (Failed s left)) = left ≤ g
 
--- the walk w of every task that is given so
-pub record Walks (size : ℕ) (Given : Task → Type 0) (w : Task → Walked) (g : ℕ) (r : Ending) (before : List ℕ) (to : ℕ) (after : List ℕ) : Type 0 where
-  pub counted : Counted g r
-  pub same : length after ≡ length before
-  pub is : (T : Task) → Given T → Ended size g (w T) r before to after
+-- the walk w of every task that is given so, and its lines
+pub record Walks {L : Type 0} (puts : L → List Line → L → Type 0) (Given : Task → Type 0) (w : Task → Walked) (g : ℕ) (old : L) (r : Result Closed Stopped) (new : L) : Type 0 where
+  pub closed : List Line
+  pub put : puts old closed new
+  pub counted : Counted g closed r
+  pub is : (T : Task) → Given T → Ended g closed r (w T)
 
 -- ---- a case and its block
 
@@ -47,16 +44,11 @@ pub record Walks (size : ℕ) (Given : Task → Type 0) (w : Task → Walked) (g
 abbrev pub walk_of : Task → ℕ → ℕ → ℕ → Walked
 walk_of T d k v = walk_from T.width (look_at T) d (look_at T k v) k v
 
--- no number of a case leaves its range, where a line has so many bytes
-pub record CaseFits (size : ℕ) (case : Case) : Type 0 where
-  pub least : 2 < size
-  pub most : size ≤ 10
-  pub slots : case.k + case.left ≤ width_of size
-  pub numbers : case.number + 2 ^ (width_of size - case.k) ≤ 2 ^ width_of size
+abbrev pub walk_at : Case → Task → Walked
+walk_at case T = walk_of T case.left case.k case.number
 
--- a case of T, whose states fill the values of such a line
-pub record CaseAt (size : ℕ) (T : Task) (case : Case) : Type 0 where
-  pub width : T.width ≡ width_of size
+-- a case of T
+pub record CaseAt (T : Task) (case : Case) : Type 0 where
   pub left_facts : case.k + case.left ≡ T.facts
   pub begins : case.number % 2 ^ (T.width - case.k) ≡ 0
 
@@ -68,74 +60,53 @@ pub record LevelsOf (left r : ℕ) : Type 0 where
   pub inside : r ≤ left
   pub some : 0 < left → 0 < r
 
-pub record BlockFits (size : ℕ) (case : Case) (levels : ℕ) : Type 0 where
-  pub fits : CaseFits size case
+pub record BlockFits (width : ℕ) (case : Case) (levels : ℕ) : Type 0 where
+  pub fits : CaseFits width case
   pub levels-of : LevelsOf case.left levels
+  pub root : case.lane ≡ 1
 
--- T stands in the blocks, and c is the table of the case's block
-pub record BlockAt (size : ℕ) (problem steps actions : List ℕ) (at : Places) (c : List ℕ) (case : Case) (levels : ℕ) (T : Task) : Type 0 where
-  pub stands : TaskStands problem steps actions at.initial at.goal T
-  pub case_at : CaseAt size T case
+-- c is the table of the case's block
+pub record BlockAt (task : walks.Task) (c : List ℕ) (case : Case) (levels : ℕ) (T : Task) : Type 0 where
+  pub task_is : Is task T
+  pub case_at : CaseAt T case
   pub table : Table c (λ j. block_case (values_of T case) case.k levels j)
 
-abbrev pub WalksBlock : ℕ → List ℕ → List ℕ → List ℕ → Places → List ℕ → Case → ℕ → ℕ → Ending → List ℕ → ℕ → List ℕ → Type 0
-WalksBlock size problem steps actions at c case levels g r before to after =
-    Walks size (BlockAt size problem steps actions at c case levels) (λ T. walk_of T case.left case.k case.number) g r before to after
+abbrev pub WalksBlock : {L : Type 0} → (L → List Line → L → Type 0) → walks.Task → List ℕ → Case → ℕ → ℕ → L → Result Closed Stopped → L → Type 0
+WalksBlock puts task c case levels g old r new = Walks puts (BlockAt task c case levels) (walk_at case) g old r new
 
 -- ---- a lane of a block that was looked at
 
-pub record NodeFits (size : ℕ) (b : Block) (case : Case) (lane : ℕ) : Type 0 where
-  pub fits : CaseFits size case
+pub record NodeFits (width : ℕ) (b : Block) (case : Case) : Type 0 where
+  pub fits : CaseFits width case
   pub few : b.levels ≤ 5
   pub inside : b.first + b.levels ≤ case.k + case.left
   pub below_first : b.first ≤ case.k
   pub within : case.k ≤ b.first + b.levels
-  pub lane_from : 2 ^ (case.k - b.first) ≤ lane
-  pub lane_to : lane < 2 ^ suc (case.k - b.first)
+  pub lane_from : 2 ^ (case.k - b.first) ≤ case.lane
+  pub lane_to : case.lane < 2 ^ suc (case.k - b.first)
 
 -- what the block's words say of each lane's case is what a visit finds there, and this lane's case is `case`
-pub record NodeAt (size : ℕ) (problem steps actions : List ℕ) (at : Places) (c : List ℕ) (b : Block) (case : Case) (lane : ℕ) (T : Task) : Type 0 where
-  pub stands : TaskStands problem steps actions at.initial at.goal T
-  pub case_at : CaseAt size T case
+pub record NodeAt (task : walks.Task) (b : Block) (case : Case) (T : Task) : Type 0 where
+  pub task_is : Is task T
+  pub case_at : CaseAt T case
   pub root : List Kleene
   pub sized : length root ≡ T.facts
-  pub table : Table c (λ j. block_case root b.first b.levels j)
+  pub table : Table b.table.now (λ j. block_case root b.first b.levels j)
   pub looked :
       (j : ℕ) → j < 64 →
-      look_bits (lane_bit j b.empty) (lane_bit j b.carries) ≡
+      look_bits (lane_bit j b.looks.empty) (lane_bit j b.looks.carries) ≡
       look_of (eval three (block_case root b.first b.levels j) T.initial)
       (run three T.facts T.goal T.plan 0 (block_case root b.first b.levels j))
-  pub lane_is : block_case root b.first b.levels lane ≡ values_of T case
+  pub lane_is : block_case root b.first b.levels case.lane ≡ values_of T case
 
-abbrev pub WalksNode : ℕ → List ℕ → List ℕ → List ℕ → Places → List ℕ → Block → Case → ℕ → ℕ → Ending → List ℕ → ℕ → List ℕ → Type 0
-WalksNode size problem steps actions at c b case lane g r before to after =
-    Walks size (NodeAt size problem steps actions at c b case lane) (λ T. walk_of T case.left case.k case.number) g r before to after
+abbrev pub WalksCase : {L : Type 0} → (L → List Line → L → Type 0) → walks.Task → Block → Case → ℕ → L → Result Closed Stopped → L → Type 0
+WalksCase puts task b case g old r new = Walks puts (NodeAt task b case) (walk_at case) g old r new
 
--- the two parts of an open case, and its own visit
-abbrev pub WalksParts : ℕ → List ℕ → List ℕ → List ℕ → Places → List ℕ → Block → Case → ℕ → ℕ → Ending → List ℕ → ℕ → List ℕ → Type 0
-WalksParts size problem steps actions at c b case lane g r before to after =
-    Walks size (NodeAt size problem steps actions at c b case lane)
-    (λ T.
-    join (walk_of T (case.left - 1) (suc case.k) case.number)
-    (walk_of T (case.left - 1) (suc case.k) (case.number + 2 ^ (T.width - suc case.k))))
-    (g + 1) r before to after
+-- ---- the walk of a whole task
 
--- ---- a split case
+-- the case that fixes no fact
+abbrev pub whole_case : ℕ → Case
+whole_case n = record { k = 0; left = n; number = 0; lane = 1 }
 
-abbrev pub Addable : ℕ → ℕ → Ending → Type 0
-Addable lines visits Out = Unit {0}
-Addable lines visits (Failed s a) = visits + a + 1 < 2 ^ 64
-Addable lines visits (Closed n a next) = (visits + a + 1 < 2 ^ 64) × (lines + n < 2 ^ 64)
-
-abbrev pub joins : ℕ → ℕ → Ending → Ending
-joins lines visits Out = Out
-joins lines visits (Failed s a) = Failed s (visits + a + 1)
-joins lines visits (Closed n a next) = Closed (lines + n) (visits + a + 1) next
-
-abbrev pub Joins : ℕ → ℕ → Ending → Ending → Type 0
-Joins lines visits second r = r ≡ joins lines visits second
-
--- ---- the walk of a whole problem
-
-abbrev pub WalksTask : Limits → List ℕ → List ℕ → Problem → ℕ → Ending → List ℕ → ℕ → List ℕ → Type 0
-WalksTask F problem steps parts g r before to after = Walks F.line (TaskIn F problem steps parts) walked g r before to after
+abbrev pub WalksTask : {L : Type 0} → (L → List Line → L → Type 0) → walks.Task → ℕ → L → Result Closed Stopped → L → Type 0
+WalksTask puts task g old r new = Walks puts (Is task) walked g old r new

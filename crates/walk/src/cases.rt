@@ -1,260 +1,142 @@
 // The walk over cases, for judging and for writing alike. A block is a case and the cases of its next five facts, looked at in one pass; the
-// walk goes through it depth first, and an open case at its edge begins a block of its own. The grant that is left goes in, the visits come
-// out, and each closed case is a line in the buffer, where that has room.
-ghost use Rattle.std.specs.Prelude.{◌+◌, ◌^◌, ◌<◌};
-ghost use Rattle.walk.specs.Walks.{LevelsOf, BlockFits, NodeFits, WalksBlock, WalksNode, WalksParts, Addable, Joins};
+// walk goes through it depth first, and an open case at its edge begins a block of its own.
+ghost use Rattle.std.specs.Prelude.{◌<◌};
+ghost use Rattle.walk.specs.Walks.{LevelsOf, BlockFits, NodeFits, WalksBlock, WalksCase, WalksTask};
 
-use blocks::Places;
-use lines::add_line;
-use look::look_at_cases;
-use numbers::span;
-use table::{fix_levels, fix_path, lane_bit};
+use crate::block::Block;
+use crate::case::{Case, Lines, Look};
+use look::Task;
+use table::{fix_levels, fix_path, none_fixed};
 
-// What a line claims of its case.
-const EMPTY: u8 = 0;
-
-const CARRIES: u8 = 1;
-
-// A case: it fixes the first k facts to the top bits of `number`, and leaves `left` more open.
+// Every case closed, so many with a line; and the visits that are left of the grant.
 #[derive(Clone, Copy)]
-pub struct Case {
-    pub k: usize,
-    pub left: usize,
-    pub number: u64,
+pub struct Closed {
+    pub lines: u64,
+    pub left: u64,
 }
 
-// How the walk of a case ended: out of visits, at a failing start state, or with every case closed, a line for each; `next` is the
-// position after the lines that were written.
+// What ends a walk early: out of visits, or at a failing start state, with the visits that are left.
 #[derive(Clone, Copy)]
-pub enum Ending {
-    Out,
-    Failed {
-        state: u64,
-        visits: u64,
-    },
-    Closed {
-        lines: u64,
-        visits: u64,
-        next: usize,
-    },
-}
-
-// A block that was looked at: its case fixes `first` facts, it has so many levels below, and these lanes are empty or carry.
-#[derive(Clone, Copy)]
-pub struct Block {
-    pub first: usize,
-    pub levels: usize,
-    pub empty: u64,
-    pub carries: u64,
+pub enum Stopped {
+    OutOfVisits,
+    Failed { state: u64, left: u64 },
 }
 
 // The levels of a block below a case that leaves so many facts open.
 fn levels_of(left: usize) -> usize
     ensures { LevelsOf left result }
 {
-    if left < 5 { left } else { 5 }
+    left.min(5)
 }
 
-// A split case whose first part closed with so many lines and visits: one visit, and those of its parts.
-fn joined(lines: u64, visits: u64, second: Ending) -> Ending
-    requires { Addable lines visits second }
-    ensures { Joins lines visits second result }
-{
-    match second {
-        Ending::Out => Ending::Out,
-        Ending::Failed {
-            state,
-            visits: more,
-        } => Ending::Failed {
-            state,
-            visits: visits + more + 1,
-        },
-        Ending::Closed {
-            lines: others,
-            visits: more,
-            next,
-        } => Ending::Closed {
-            lines: lines + others,
-            visits: visits + more + 1,
-            next,
-        },
-    }
-}
-
-// The walk from a case whose block this table is.
-#[cycle(blocks)]
-pub fn walk_block(
-    problem: &[u8],
-    steps: &[u8],
-    actions: &[usize; 64],
-    at: Places,
-    size: usize,
-    c: &[u64; 256],
+// The walk from a case whose block this table is, and how many cases it closes.
+#[cycle(cases)]
+pub fn walk_block<L: Lines>(
+    task: &Task,
+    table: &[u64; 256],
     case: Case,
     levels: usize,
-    grant: u64,
-    out: &mut [u8],
-    to: usize,
-) -> Ending
-    requires { BlockFits size case levels }
-    ensures { WalksBlock size problem.now steps.now actions.now at c.now case levels grant result out.old to out.new }
+    left: u64,
+    lines: &mut L,
+) -> Result<Closed, Stopped>
+    requires { BlockFits task.now.problem.now.limits.width case levels }
+    ensures { WalksBlock (L.gives task.now.problem.now.limits) task.now table.now case levels left lines.old result lines.new }
 {
-    let found = look_at_cases(problem, steps, actions, at.initial, at.goal, c);
     let block = Block {
+        table,
         first: case.k,
         levels,
-        empty: found.empty,
-        carries: found.carries,
+        looks: task.look(table),
     };
-    walk_node(
-        problem, steps, actions, at, size, c, block, case, 1, grant, out, to,
-    )
+    walk_case(task, &block, case, left, lines)
 }
 
-// The walk from a lane's case.
-#[cycle(blocks)]
-pub fn walk_node(
-    problem: &[u8],
-    steps: &[u8],
-    actions: &[usize; 64],
-    at: Places,
-    size: usize,
-    c: &[u64; 256],
-    block: Block,
+// The walk from a case of a block.
+#[cycle(cases)]
+pub fn walk_case<L: Lines>(
+    task: &Task,
+    block: &Block,
     case: Case,
-    lane: usize,
-    grant: u64,
-    out: &mut [u8],
-    to: usize,
-) -> Ending
-    requires { NodeFits size block case lane }
-    ensures { WalksNode size problem.now steps.now actions.now at c.now block case lane grant result out.old to out.new }
+    left: u64,
+    lines: &mut L,
+) -> Result<Closed, Stopped>
+    requires { NodeFits task.now.problem.now.limits.width block.now case }
+    ensures { WalksCase (L.gives task.now.problem.now.limits) task.now block.now case left lines.old result lines.new }
 {
-    let spent = grant == 0;
-    if spent {
-        return Ending::Out;
+    if left == 0 {
+        return Err(Stopped::OutOfVisits);
     }
-    let empty = lane_bit(block.empty, lane) == 1;
-    if empty {
-        let next = add_line(out, to, size, EMPTY, case.k, case.number);
-        return Ending::Closed {
-            lines: 1,
-            visits: 1,
-            next,
-        };
-    }
-    let carries = lane_bit(block.carries, lane) == 1;
-    if carries {
-        let next = add_line(out, to, size, CARRIES, case.k, case.number);
-        return Ending::Closed {
-            lines: 1,
-            visits: 1,
-            next,
-        };
-    }
-    if case.k < block.first + block.levels {
-        return walk_parts(
-            problem,
-            steps,
-            actions,
-            at,
-            size,
-            c,
-            block,
-            case,
-            lane,
-            grant - 1,
-            out,
-            to,
-        );
-    }
-    let fixed = case.left == 0;
-    if fixed {
-        return Ending::Failed {
-            state: case.number,
-            visits: 1,
-        };
-    }
-    let mut below = *c;
-    fix_path(&mut below, block.first, block.levels, lane);
-    let levels = levels_of(case.left);
-    fix_levels(&mut below, case.k, levels);
-    walk_block(
-        problem, steps, actions, at, size, &below, case, levels, grant, out, to,
-    )
-}
-
-// The walk of an open case's two parts, its next fact no and then yes.
-#[cycle(blocks)]
-fn walk_parts(
-    problem: &[u8],
-    steps: &[u8],
-    actions: &[usize; 64],
-    at: Places,
-    size: usize,
-    c: &[u64; 256],
-    block: Block,
-    case: Case,
-    lane: usize,
-    grant: u64,
-    out: &mut [u8],
-    to: usize,
-) -> Ending
-    requires fits { NodeFits size block case lane }
-    requires inner { case.k < block.first + block.levels }
-    requires counts { grant + 1 < 2 ^ 64 }
-    ensures { WalksParts size problem.now steps.now actions.now at c.now block case lane grant result out.old to out.new }
-{
-    let first = Case {
-        k: case.k + 1,
-        left: case.left - 1,
-        number: case.number,
-    };
-    match walk_node(
-        problem,
-        steps,
-        actions,
-        at,
-        size,
-        c,
-        block,
-        first,
-        2 * lane,
-        grant,
-        out,
-        to,
-    ) {
-        Ending::Out => Ending::Out,
-        Ending::Failed { state, visits } => Ending::Failed {
-            state,
-            visits: visits + 1,
-        },
-        Ending::Closed {
-            lines,
-            visits,
-            next,
-        } => {
-            let half = span(8 * (size - 2), case.k + 1);
-            let second = Case {
-                k: case.k + 1,
-                left: case.left - 1,
-                number: case.number + half,
-            };
-            let rest = walk_node(
-                problem,
-                steps,
-                actions,
-                at,
-                size,
-                c,
-                block,
-                second,
-                2 * lane + 1,
-                grant - visits,
-                out,
-                next,
-            );
-            joined(lines, visits, rest)
+    match block.look(case.lane) {
+        Look::Closed(kind) => {
+            lines.put(&task.problem.limits, kind, case);
+            Ok(Closed {
+                lines: 1,
+                left: left - 1,
+            })
+        }
+        Look::Open => {
+            if case.k < block.first + block.levels {
+                let (no, yes) = case.parts(task.problem.limits.width);
+                let first = walk_case(task, block, no, left - 1, lines)?;
+                let second = walk_case(task, block, yes, first.left, lines)?;
+                Ok(Closed {
+                    lines: first.lines + second.lines,
+                    left: second.left,
+                })
+            } else if case.left == 0 {
+                Err(Stopped::Failed {
+                    state: case.number,
+                    left: left - 1,
+                })
+            } else {
+                walk_below(task, block, case, left, lines)
+            }
         }
     }
+}
+
+// The walk from an open case at the edge of its block, which begins a block of its own. Only here a call holds a table.
+#[cycle(cases)]
+#[inline(never)]
+fn walk_below<L: Lines>(
+    task: &Task,
+    block: &Block,
+    case: Case,
+    left: u64,
+    lines: &mut L,
+) -> Result<Closed, Stopped>
+    requires fits { NodeFits task.now.problem.now.limits.width block.now case }
+    requires some { 0 < case.left }
+    ensures { WalksCase (L.gives task.now.problem.now.limits) task.now block.now case left lines.old result lines.new }
+{
+    let mut below = *block.table;
+    fix_path(&mut below, block.first, block.levels, case.lane);
+    let levels = levels_of(case.left);
+    fix_levels(&mut below, case.k, levels);
+    let root = Case { lane: 1, ..case };
+    walk_block(task, &below, root, levels, left, lines)
+}
+
+// The levels of the first block: the odd ones, so that all blocks below it are full.
+pub fn first_levels(facts: usize) -> usize
+    ensures { LevelsOf facts result }
+{
+    if facts == 0 { 0 } else { (facts - 1) % 5 + 1 }
+}
+
+// The walk of a whole task, from the case that fixes no fact.
+pub fn walk_task<L: Lines>(task: &Task, grant: u64, lines: &mut L) -> Result<Closed, Stopped>
+    ensures { WalksTask (L.gives task.now.problem.now.limits) task.now grant lines.old result lines.new }
+{
+    let facts = task.problem.facts() as usize;
+    let levels = first_levels(facts);
+    let mut table = none_fixed(facts);
+    fix_levels(&mut table, 0, levels);
+    let first = Case {
+        k: 0,
+        left: facts,
+        number: 0,
+        lane: 1,
+    };
+    walk_block(task, &table, first, levels, grant, lines)
 }

@@ -2,4 +2,4 @@ use Rattle.execute.proofs.Starting.{Stating}
 use Rattle.execute.proofs.start.run_state.Given as goal
 
 abbrev pub invariant-loop-i : goal.invariant-loop-i
-invariant-loop-i l = Stating l.problem l.steps l.actions l.goal l.c l.i l.current
+invariant-loop-i l = Stating l.task l.table l.i l.current

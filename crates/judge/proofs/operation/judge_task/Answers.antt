@@ -1,12 +1,13 @@
 use Rattle.judge.proofs.Verdicts.{judges-undecided, judges-right, judges-wrong}
 use Rattle.judge.proofs.operation.judge_task.Goals as goal
 
-pub returns-in-Out : goal.returns-in-Out
-returns-in-Out c = judges-undecided _ c.requires.sensible _ _ _ _ _ _ _ _ c.walk_task.ensures c.in-Out.is
+pub returns-in-Ok : goal.returns-in-Ok
+returns-in-Ok g c = judges-right _ _ _ _ _ _ c.in-Ok.ensures
 
-pub returns-in-Failed : goal.returns-in-Failed
-returns-in-Failed c =
-    judges-wrong _ c.requires.sensible _ _ _ _ _ _ _ _ c.walk_task.ensures _ _ c.in-Failed.is _ c.outcome_of-outcome.ensures
+pub returns-in-Err-OutOfVisits : goal.returns-in-Err-OutOfVisits
+returns-in-Err-OutOfVisits g c =
+    judges-undecided _ _ _ _ _ (rw c.in-Err-OutOfVisits.field-0-is at c.in-Err-OutOfVisits.ensures)
 
-pub returns-in-Closed : goal.returns-in-Closed
-returns-in-Closed c = judges-right _ c.requires.sensible _ _ _ _ _ _ _ _ c.walk_task.ensures _ _ _ c.in-Closed.is
+pub returns-in-Err-Failed : goal.returns-in-Err-Failed
+returns-in-Err-Failed g c =
+    judges-wrong _ _ _ _ _ _ _ (rw c.in-Err-Failed.field-0-is at c.in-Err-Failed.ensures) _ c.outcome_of.ensures

@@ -1,14 +1,18 @@
 use Rattle.std.proofs.Common.{refl}
-use Rattle.search.proofs.Whole.{root-at}
+use Rattle.search.proofs.Whole.{root-at, tries-problem}
 use Rattle.search.proofs.operation.search_problem.Goals as goal
 
-pub returns : goal.returns
-returns c =
-    record {
-      room = c.try_lengths.ensures.room;
-      is =
-          λ P p.
-          c.try_lengths.ensures.is _ P
-          (root-at _ c.requires.limits _ c.args.parts _ _ refl c.first_levels-levels.ensures _ _ c.none_fixed-c.ensures c.fix_levels.ensures _
-          c.formula_planes-r.ensures P p);
-    }
+pub returns-in-Ok : goal.returns-in-Ok
+returns-in-Ok c =
+    tries-problem _ _ _ _ c.in-Ok.ensures
+    (root-at _ _ c.facts-facts.ensures c.first_levels-levels.ensures _ c.none_fixed-table.ensures c.fix_levels.ensures _ c.initial-looked.ensures refl)
+
+pub returns-in-Err-Right : goal.returns-in-Err-Right
+returns-in-Err-Right c =
+    tries-problem _ _ _ _ (rw c.in-Err-Right.field-0-is at c.in-Err-Right.ensures)
+    (root-at _ _ c.facts-facts.ensures c.first_levels-levels.ensures _ c.none_fixed-table.ensures c.fix_levels.ensures _ c.initial-looked.ensures refl)
+
+pub returns-in-Err-Undecided : goal.returns-in-Err-Undecided
+returns-in-Err-Undecided c =
+    tries-problem _ _ _ _ (rw c.in-Err-Undecided.field-0-is at c.in-Err-Undecided.ensures)
+    (root-at _ _ c.facts-facts.ensures c.first_levels-levels.ensures _ c.none_fixed-table.ensures c.fix_levels.ensures _ c.initial-looked.ensures refl)

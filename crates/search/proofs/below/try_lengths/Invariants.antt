@@ -1,0 +1,6 @@
+-- the shorter plans are tried
+use Rattle.search.proofs.Alike.{Shorter}
+use Rattle.search.proofs.below.try_lengths.Given as goal
+
+abbrev pub invariant-loop-length : goal.invariant-loop-length
+invariant-loop-length l = Shorter l.root l.longest l.grant l.left l.length
