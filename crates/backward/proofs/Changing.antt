@@ -9,9 +9,10 @@ use lib.Dec.{eqb}
 use borrow.Author.Tests.{eq-eqb, ne_eqb}
 use Rattle.model.specs.Limits.{max_facts}
 use Rattle.model.specs.Kleene.{is_yes, three}
-use Rattle.model.specs.Formula.{fact, denial, Formula, eval}
+use Rattle.model.specs.Formula.{Literal, fact, denial, Formula, eval}
 use Rattle.model.specs.Action.{Effect, same_literal}
-use Rattle.model.specs.Relevance.{names}
+use Rattle.model.specs.Relevance.{fact_of, names}
+use Rattle.formula.specs.Views.{is_denial}
 use Rattle.model.specs.FormulaBytes.{literal_of}
 use Rattle.model.proofs.Laws.Planes.{literal-fact, literal-denial}
 use Rattle.model.proofs.Laws.Truth.{and_none, or-none}
@@ -149,11 +150,13 @@ module _ (c : Cases) (asked : FactSet) (before : Changes) (b : ℕ) (φ : Formul
 
 -- ---- gathering what the conditions name
 
-pub asks-fact : (set cleared : FactSet) (b : ℕ) → b < 64 → has_fact set b ≡ asks set cleared (literal_of b)
-asks-fact set cleared b l = rw (literal-fact b l) refl
+pub asks-fact : (set cleared : FactSet) (l : Literal) → is_denial l ≡ false → has_fact set (fact_of l) ≡ asks set cleared l
+asks-fact set cleared (fact f) e = refl
+asks-fact set cleared (denial f) e = cc
 
-pub asks-denial : (set cleared : FactSet) (b : ℕ) → 64 ≤ b → has_fact cleared (b - 64) ≡ asks set cleared (literal_of b)
-asks-denial set cleared b l = rw (literal-denial b l) refl
+pub asks-denial : (set cleared : FactSet) (l : Literal) → is_denial l ≡ true → has_fact cleared (fact_of l) ≡ asks set cleared l
+asks-denial set cleared (fact f) e = cc
+asks-denial set cleared (denial f) e = refl
 
 module _ (set cleared : FactSet) where
   abbrev naming : ℕ → Effect → Bool

@@ -1,8 +1,7 @@
 -- The facts that a formula names are those that its literals are of. Assumes nothing.
-use Rattle.std.proofs.Common.{◌≡◌, refl, sym, ap, ◌∙◌, Bool, true, false, cond, ◌||◌, ℕ, zero, suc, ◌-◌, ◌%◌, ◌<◌, List, [], ◌∷◌, ◌&&◌, eqb, leb, arith}
+use Rattle.std.proofs.Common.{◌≡◌, refl, sym, ap, ◌∙◌, Bool, true, false, cond, ◌||◌, ℕ, zero, suc, List, [], ◌∷◌, ◌&&◌, eqb, leb}
 use lib.Dec.{ltb}
-use borrow.Author.Tests.{ltb-true, ltb-false}
-use Rattle.model.specs.Formula.{Formulas, fact, denial, lit, none, more}
+use Rattle.model.specs.Formula.{Literal, Formulas, lit, none, more}
 use Rattle.model.specs.FormulaBytes.{Group, conjunction, disjunction, grouped, literal_of, member_count}
 use Rattle.model.specs.Relevance.{fact_of, names, member_names}
 use Rattle.model.proofs.Laws.Truth.{and-true, or_assoc, or-none}
@@ -11,10 +10,10 @@ use Rattle.formula.specs.Literals.{literals, member_literals}
 use Rattle.formula.proofs.Decoding.{alone}
 use Rattle.formula.proofs.Leaves.{literal-first, group-first, alone-literals}
 
--- whether one of the literals' bytes is of fact f
-unfoldable pub named_by : List ℕ → ℕ → Bool
+-- whether one of the literals is of fact f
+unfoldable pub named_by : List Literal → ℕ → Bool
 named_by [] f = false
-named_by (b ∷ bs) f = eqb (b % 64) f || named_by bs f
+named_by (l ∷ ls) f = eqb (fact_of l) f || named_by ls f
 
 -- the first n and those after them are all
 first-names : (n : ℕ) (ms : Formulas) (f : ℕ) → (member_names (first n ms) f || member_names (after n ms) f) ≡ member_names ms f
@@ -28,26 +27,17 @@ unfolding names
 group-names conjunction n ms f = first-names n ms f
 group-names disjunction n ms f = first-names n ms f
 
-pub byte-fact : (b : ℕ) → b < 128 → fact_of (literal_of b) ≡ b % 64
-unfolding literal_of
-byte-fact b l = by-kind (ltb b 64) refl
-  where
-    by-kind : (t : Bool) → ltb b 64 ≡ t → fact_of (cond t (fact b) (denial (b - 64))) ≡ b % 64
-    by-kind true e = omega (arith, ltb-true b 64 e)
-    by-kind false e = omega (arith, ltb-false b 64 e)
-
 -- what the formulas of sound bytes name
 Named : Formulas → Type 0
 Named ms = (f : ℕ) → member_names ms f ≡ named_by (member_literals ms) f
 
-with-literal : (b : ℕ) → b < 128 → (ms : Formulas) → Named ms → Named (more (lit (literal_of b)) ms)
+with-literal : (l : Literal) (ms : Formulas) → Named ms → Named (more (lit l) ms)
 unfolding Named names named_by
-with-literal b l ms h f =
-    rw (literal-first b (more (lit (literal_of b)) ms) ms l refl, byte-fact b l) (ap (λ x. eqb (b % 64) f || x) (h f))
+with-literal l ms h f = rw (literal-first l (more (lit l) ms) ms refl) (ap (λ x. eqb (fact_of l) f || x) (h f))
 
 with-group : (g : Group) (n : ℕ) (ms : Formulas) → Named ms → Named (more (grouped g (first n ms)) (after n ms))
 unfolding Named
-with-group g n ms h f = group-names g n ms f ∙ h f ∙ ap (λ (x : List ℕ). named_by x f) (group-first g n _ ms refl)
+with-group g n ms h f = group-names g n ms f ∙ h f ∙ ap (λ (x : List Literal). named_by x f) (group-first g n _ ms refl)
 
 none-named : Named none
 unfolding Named names named_by literals
@@ -56,14 +46,14 @@ none-named f = refl
 names-literals : (s : List ℕ) → is_sound s ≡ true → Named (decode s)
 unfolding decode is_sound
 names-literals [] e = none-named
-names-literals (b ∷ []) e = with-literal b (ltb-true b 128 e) none none-named
+names-literals (b ∷ []) e = with-literal (literal_of b) none none-named
 names-literals (b ∷ n ∷ s) e = by-mark (ltb b 128) refl e (names-literals (n ∷ s)) (names-literals s)
   where
     by-mark :
         (t : Bool) → ltb b 128 ≡ t → cond t (is_sound (n ∷ s)) (leb n (member_count (decode s)) && is_sound s) ≡ true →
         (is_sound (n ∷ s) ≡ true → Named (decode (n ∷ s))) → (is_sound s ≡ true → Named (decode s)) →
         Named (cond t (more (lit (literal_of b)) (decode (n ∷ s))) (gathered b n (decode s)))
-    by-mark true i e h k = with-literal b (ltb-true b 128 i) (decode (n ∷ s)) (h e)
+    by-mark true i e h k = with-literal (literal_of b) (decode (n ∷ s)) (h e)
     by-mark false i e h k = with-group (marked b) n (decode s) (k (and-true _ _ e).1)
 
 pub formula-names :
@@ -72,14 +62,14 @@ unfolding names Named
 formula-names s e one f =
     let i = alone (decode s) one in
     sym (ap (λ (ms : Formulas). member_names ms f) i ∙ or-none (names (head (decode s)) f)) ∙ names-literals s e f ∙
-    ap (λ (bs : List ℕ). named_by bs f) (alone-literals (head (decode s)) (decode s) i)
+    ap (λ (ls : List Literal). named_by ls f) (alone-literals (head (decode s)) (decode s) i)
 
 -- ---- the loop: what is named is of those literals that were met, or of those that are left
 
-pub named-first : (bs : List ℕ) (b : ℕ) (rest : List ℕ) → bs ≡ b ∷ rest → (f : ℕ) → named_by bs f ≡ (eqb (b % 64) f || named_by rest f)
+pub named-first : (ls : List Literal) (l : Literal) (rest : List Literal) → ls ≡ l ∷ rest → (f : ℕ) → named_by ls f ≡ (eqb (fact_of l) f || named_by rest f)
 unfolding named_by
-named-first bs b rest e f = rw e refl
+named-first ls l rest e f = rw e refl
 
-pub none-named-by : (bs : List ℕ) → bs ≡ [] → (f : ℕ) → named_by bs f ≡ false
+pub none-named-by : (ls : List Literal) → ls ≡ [] → (f : ℕ) → named_by ls f ≡ false
 unfolding named_by
-none-named-by bs e f = rw e refl
+none-named-by ls e f = rw e refl

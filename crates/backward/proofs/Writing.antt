@@ -9,7 +9,6 @@ use native.Mathlib.Omega.{arith}
 use native.Mathlib.Decide.{ℕ_discrete}
 use lib.ListN.{length, get_or, set, take, drop, length-take, length-drop, length-append, drop_of_length-le, length-map, length-set, get_or-map}
 use lib.Seq.{sets, sets-eq, drop-drop, take_at, drop_at, get_or-set_same, get_or-set_other, ext_get_or}
-use borrow.Rule.Slice.PartMut.{put_mid}
 use Rattle.model.specs.Kleene.{Kleene, is_yes, known, two, three}
 use Rattle.model.specs.Formula.{value_of}
 use Rattle.model.specs.Case.{flag, Task}
@@ -24,8 +23,8 @@ use Rattle.model.proofs.Laws.Agreement.{goes-on-reached}
 use Rattle.model.proofs.Laws.Relevance.{step-length}
 use Rattle.model.proofs.Laws.Tracing.{rows-length}
 use Rattle.model.proofs.Laws.Stores.{sets-append}
-use Rattle.obey.specs.declared.action.Hindrance.{Hindrance}
-use Rattle.obey.specs.Actions.{GoesOn, IsHindered}
+use Rattle.step.specs.declared.action.Hindrance.{Hindrance}
+use Rattle.step.specs.Actions.{GoesOn, IsHindered}
 use Rattle.cases.specs.declared.cases.Cases.{Cases}
 use Rattle.cases.specs.Cases.{case_of}
 use Rattle.backward.specs.Rows.{Shows, state_at, PutsRun, RowsIn}
@@ -182,12 +181,6 @@ module _ (T : Task) (c : Cases) (before : List ℕ) where
         )
 
 -- ---- a row's place
-
--- a part of the work area that was written
-pub row-put : (at k : ℕ) (work row : List ℕ) → at + k ≤ length work → length row ≡ k → put_mid at k work row ≡ sets work at row
-row-put at k work row h z =
-    ap (λ (x : List ℕ). take at work ++ (row ++ x)) (drop-drop k at work) ∙ sym (append_assoc (take at work) row (drop (at + k) work)) ∙
-    ap (λ (n : ℕ). (take at work ++ row) ++ drop (at + n) work) (sym z) ∙ sym (sets-eq row work at (omega (arith, z, h)))
 
 module _ (i len n at size : ℕ) (few : i ≤ len) (e : at ≡ i * n) (room : suc len * n ≤ size) where
   pub row-inside : at + n ≤ size

@@ -10,9 +10,6 @@ use crate::named::named_facts;
 use cases::{Cases, evaluate};
 use fields::{Action, Effect, Effects};
 
-// The first literal's byte that is a denial.
-const DENIALS: u8 = 64;
-
 // What an action's effects are of: the facts that one sets, those that one clears, and, of the facts that are asked about, those whose set
 // condition is true in lane 0.
 #[derive(Clone, Copy)]
@@ -34,18 +31,19 @@ impl Changes {
     fn with(self, effect: Effect, cases: &Cases, asked: FactSet) -> Changes
         ensures { AddsEffect cases.now asked self (effect_of effect.entry) result }
     {
-        let fact = FactSet::of(effect.literal % 64);
-        if DENIALS <= effect.literal {
+        let fact = effect.literal.fact();
+        let named = FactSet::of(fact);
+        if effect.literal.is_denial() {
             return Changes {
-                cleared: self.cleared | fact,
+                cleared: self.cleared | named,
                 ..self
             };
         }
-        let set = self.set | fact;
-        if asked.has(effect.literal) && evaluate(effect.condition, cases).is_yes(0) {
+        let set = self.set | named;
+        if asked.has(fact) && evaluate(effect.condition, cases).is_yes(0) {
             return Changes {
                 set,
-                surely_set: self.surely_set | fact,
+                surely_set: self.surely_set | named,
                 ..self
             };
         }
@@ -68,10 +66,11 @@ impl Changes {
 fn is_asked(effect: Effect, set: FactSet, cleared: FactSet) -> bool
     ensures { result ≡ asks set cleared (effect_of effect.entry).literal }
 {
-    if effect.literal < DENIALS {
-        set.has(effect.literal)
+    let fact = effect.literal.fact();
+    if effect.literal.is_denial() {
+        cleared.has(fact)
     } else {
-        cleared.has(effect.literal - DENIALS)
+        set.has(fact)
     }
 }
 

@@ -14,7 +14,7 @@ pub fn named_facts(formula: Formula) -> FactSet
 {
     let mut facts = FactSet::EMPTY;
     for literal in formula.literals() {
-        facts = facts | FactSet::of(literal % 64);
+        facts = facts | FactSet::of(literal.fact());
     }
     facts
 }

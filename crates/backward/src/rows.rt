@@ -5,10 +5,11 @@ ghost use Rattle.fields.specs.Actions.{effects as effects_of};
 ghost use Rattle.blocks.specs.Values.{task as task_of};
 ghost use Rattle.backward.specs.Rows.{Shows, Undoes, PutsRun};
 
-use blocks::task::Task;
+use blocks::Task;
 use cases::Cases;
 use fields::Effects;
-use obey::{Conditions, obey};
+use formula::Literal;
+use step::{Conditions, obey};
 
 // The state in lane 0 becomes the row.
 fn put_row(cases: &Cases, row: &mut [u8])
@@ -16,7 +17,7 @@ fn put_row(cases: &Cases, row: &mut [u8])
     ensures { (st : List Bool) → Shows cases.now st → row.new ≡ map flag st }
 {
     for f in 0..cases.facts {
-        row[f as usize] = cases.value(f).is_yes(0) as u8;
+        row[f as usize] = cases.value(Literal::of(f)).is_yes(0) as u8;
     }
 }
 
@@ -52,7 +53,7 @@ pub(crate) fn undo(effects: Effects, cases: &mut Cases, row: &[u8])
     ensures undoes { Undoes (effects_of effects.entry) cases.old row.now cases.new }
 {
     for effect in effects {
-        let fact = effect.literal % 64;
+        let fact = effect.literal.fact();
         let yes = if row[fact as usize] == 1 { u64::MAX } else { 0 };
         cases.fix(fact, yes);
     }

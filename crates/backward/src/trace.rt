@@ -7,7 +7,7 @@ use crate::facts::FactSet;
 use crate::matters::matters_before;
 use crate::named::named_facts;
 use crate::rows::undo;
-use blocks::task::Task;
+use blocks::Task;
 use cases::Cases;
 
 // The facts that matter before the run whose states the work area holds. The cases, which have the last of them, go back to the first.

@@ -1,49 +1,27 @@
--- What is found of a problem and a plan, as the operations have it. Assumes nothing.
-use mathlib.Core.Path.{◌≡◌, refl, sym, ap, ◌∙◌}
-use mathlib.Core.List.{List}
-use Prim.Native.Nat.{ℕ, ◌+◌, ◌-◌, ◌<◌}
-use native.Mathlib.Omega.{arith}
-use lib.ListN.{length, drop}
-use lib.Seq.{get_or-drop}
+-- A plan that was read beside a problem, and what a task shows. Assumes nothing.
+use Rattle.std.proofs.Common.{◌≡◌, refl, sym, ap, ◌∙◌, ℕ, zero, suc, ◌+◌, ◌≤◌, ◌<◌, List, [], ◌∷◌, map, length, drop, slice_index, arith}
+use native.Mathlib.Nat.{le_of_suc-le-suc, not-suc-le-zero}
+use lib.ListN.{length-map}
 use Rattle.model.specs.declared.Limits.{Limits}
-use Rattle.model.specs.declared.Problem as declared
 use Rattle.model.specs.declared.Refusal.{Refusal}
 use Rattle.model.specs.Answer.{Answer, refused, answered, ◌>>=◌}
 use Rattle.model.specs.Answers.{refusal}
+use Rattle.model.specs.Case as cases
+use Rattle.model.specs.Action.{Action}
 use Rattle.model.specs.Read.{got, head_bytes, bytes_of, block, answer_of}
-use Rattle.model.specs.ProblemBytes.{problem, problem_of, plan, plan_of, encode_plan}
-use Rattle.model.specs.Operations.{read_problem, read_plan, read_task}
-use Rattle.model.specs.WellFormed.{Bytes, Each, Sensible}
+use Rattle.model.specs.ProblemBytes.{Problem, problem_of, plan, plan_of, encode_plan, action_at}
+use Rattle.model.specs.Operations.{task_of, read_problem, read_plan, read_task}
+use Rattle.model.specs.WellFormed.{Bytes, Each}
 use Rattle.model.proofs.Laws.Reading.{length-block}
 use Rattle.model.proofs.Laws.ProblemCodec.{plan-gives}
+use Rattle.model.proofs.Laws.Tabulate.{length-tabulate}
 use Rattle.formula.specs.Readings.{rejected}
-use Rattle.formula.proofs.Readers.{Got}
-use Rattle.blocks.specs.declared.plan.Task.{Task}
-use Rattle.blocks.specs.Parts.{FindsProblem, TaskAt, TaskFound}
-use Rattle.blocks.proofs.Standing.{each_below, stands-found}
-use Rattle.blocks.proofs.Promise.{not-refused}
+use Rattle.formula.specs.Views.{formula}
+use Rattle.blocks.specs.declared.problem.Problem as values
+use Rattle.blocks.specs.declared.task.Task.{Task}
+use Rattle.blocks.specs.Values.{problem, task, task_from}
 
--- ---- the problem
-
-module _ (F : Limits) (s : List ℕ) where
-  pub problem-refused : {y : Refusal} → problem F s 0 ≡ rejected y → problem_of F s ≡ refusal y
-  unfolding problem_of answer_of
-  problem-refused e = rw e
-
-  pub read-problem-refused : {y : Refusal} → problem F s 0 ≡ rejected y → refusal y ≡ read_problem F s
-  unfolding read_problem ◌>>=◌
-  read-problem-refused e = rw (problem-refused e)
-
-  module _ {r : declared.Problem} (f : FindsProblem F s (problem F s 0) r) where
-    pub problem-found : problem_of F s ≡ answered f.problem
-    unfolding problem_of answer_of
-    problem-found = ap answer_of f.read
-
-    pub read-problem-found : answered (record { facts = r.facts; actions = r.actions }) ≡ read_problem F s
-    unfolding read_problem ◌>>=◌
-    read-problem-found = let w = f.placed in rw problem-found (λ i. answered (record { facts = w.facts i; actions = w.actions i }))
-
--- ---- a plan that was read
+-- ---- the plan
 
 -- it ends with its block, and its steps are all that follows the header
 pub plan_read :
@@ -54,58 +32,121 @@ plan_read t m {bs} {q} b e =
     let (k, z, end) = (plan-gives t m b).of bs q e in
     (end, ap length z ∙ length-block 1 bs, rw z, k.actions)
 
--- ---- the task
+pub each_below : {m : ℕ} (bs : List ℕ) → Each (λ b. b < m) bs → (i : ℕ) → i < length bs → slice_index bs i < m
+each_below [] k i l = absurd (not-suc-le-zero l)
+each_below (b ∷ bs) (h, k) zero l = h
+each_below (b ∷ bs) (h, k) (suc i) l = each_below bs k i (omega arith)
 
-pub no-problem : (F : Limits) (s t : List ℕ) {y : Refusal} → problem F s 0 ≡ rejected y → read_task F s t ≡ refusal y
-unfolding read_task ◌>>=◌
-no-problem F s t e = rw (problem-refused F s e)
+-- the action of a plan's step is the one that the step names
+pub step-action :
+    (as' : List Action) (bs : List ℕ) (i : ℕ) → i < length bs → action_at (map (action_at as') bs) i ≡ action_at as' (slice_index bs i)
+unfolding action_at
+step-action as' [] i h = absurd (not-suc-le-zero h)
+step-action as' (b ∷ bs) zero h = refl
+step-action as' (b ∷ bs) (suc i) h = step-action as' bs i (le_of_suc-le-suc h)
 
-module _ {F : Limits} {s : List ℕ} {r : declared.Problem} (f : FindsProblem F s (problem F s 0) r) (t : List ℕ) where
-  pub no-plan : {y : Refusal} → plan t r.actions 0 ≡ rejected y → read_task F s t ≡ refusal y
-  unfolding read_task plan_of answer_of ◌>>=◌
-  no-plan e = rw (problem-found F s f, ← f.placed.actions, e)
+module _ (F : Limits) (p : Problem) (t : List ℕ) {m : ℕ} (e : length p.actions ≡ m) where
+  pub plan-refused : (y : Refusal) → plan t m 0 ≡ rejected y → refusal y ≡ task_from F p t
+  unfolding plan_of answer_of ◌>>=◌
+  plan-refused y k = rw (e, k)
 
-  module _ {l : Limits} {q : ℕ} (v : l ≡ F) (S : Sensible F) (a : Bytes s) (b : Bytes t) (g : Got (plan t r.actions 0) q) where
-    abbrev result : Task
-    result = record { limits = l; problem = r; steps = q - head_bytes }
+  pub plan-task : {steps : List ℕ} {q : ℕ} → plan t m 0 ≡ got steps q → answered (task_of F p steps) ≡ task_from F p t
+  unfolding plan_of answer_of ◌>>=◌
+  plan-task k = rw (e, k)
 
-    task-at : TaskAt F s t result
-    unfolding plan_of answer_of
-    task-at =
-        let w = f.placed in
-        let (end, size, body, below) = plan_read t r.actions b g.is in
-        record {
-          problem = f.problem;
-          steps = g.value;
-          problem_read = problem-found F s f;
-          plan_read = rw (← w.actions, g.is);
-          placed = w;
-          count = omega arith;
-          fits = omega arith;
-          step = λ i n. (rw (← get_or-drop head_bytes t i 0, body), omega (arith, each_below g.value below i (omega arith), w.actions));
-        }
+-- ---- a problem alone, as an operation reads it
 
-    pub finds-task : TaskFound F s t result
-    unfolding task-at
-    finds-task =
-        let (end, size, body, below) = plan_read t r.actions b g.is in
-        record { limits = v; at = task-at; stands = stands-found S a task-at body v }
+pub read_problem-refused : (F : Limits) (s : List ℕ) (y : Refusal) → refusal y ≡ problem_of F s → refusal y ≡ read_problem F s
+unfolding read_problem ◌>>=◌
+read_problem-refused F s y e = rw (← e)
 
--- ---- the plan beside its problem
+pub read_problem-found :
+    (F : Limits) (s : List ℕ) (p : values.Problem) → answered (problem p) ≡ problem_of F s → answered (record { facts = p.facts; actions = p.actions }) ≡ read_problem F s
+unfolding read_problem ◌>>=◌
+read_problem-found F s p e = rw (← e, length-tabulate) refl
 
--- what is refused before it is made is refused whatever is made of it
-alike :
-    {A B C : Type 0} {n q : ℕ} (x : Answer A) (j : A → Answer B) (k : A → Answer C) → ((a : A) → j a ≡ refused n q → k a ≡ refused n q) →
-    (x >>= j) ≡ refused n q → (x >>= k) ≡ refused n q
+-- ---- a problem and a plan, as an operation reads them
+
+module _ (F : Limits) (s t : List ℕ) where
+  pub read_task-refused : (y : Refusal) → refusal y ≡ problem_of F s → read_task F s t ≡ refusal y
+  unfolding read_task ◌>>=◌
+  read_task-refused y e = rw (← e)
+
+  -- where the problem was read, whether the plan was read or refused
+  pub read_task-from : {l : Limits} {p : Problem} {x : Answer cases.Task} → answered p ≡ problem_of F s → l ≡ F → x ≡ task_from l p t → read_task F s t ≡ x
+  unfolding read_task ◌>>=◌
+  read_task-from {l} {p} {x} e v k = rw (← e, ← v, k)
+
+-- ---- the step count
+
+then-alike : {A B : Type 0} (x : Answer A) (f g : A → Answer B) → ((a : A) → f a ≡ g a) → (x >>= f) ≡ (x >>= g)
 unfolding ◌>>=◌
-alike (refused m p) j k h e = cc
-alike (answered a) j k h e = h a e
+then-alike (refused n q) f g h = refl
+then-alike (answered a) f g h = h a
 
-pub read-plan-refused : (F : Limits) (s t : List ℕ) {y : Refusal} → read_task F s t ≡ refusal y → refusal y ≡ read_plan F s t
-unfolding read_plan read_task
-read-plan-refused F s t e =
-    sym (alike (problem_of F s) _ _ (λ p. alike (plan_of t (length p.actions)) _ _ (λ bs e. absurd (not-refused refl e))) e)
+then-then : {A B C : Type 0} (x : Answer A) (f : A → Answer B) (g : B → Answer C) → ((x >>= f) >>= g) ≡ (x >>= (λ a. f a >>= g))
+unfolding ◌>>=◌
+then-then (refused n q) f g = refl
+then-then (answered a) f g = refl
 
-pub read-plan-found : {F : Limits} {s t : List ℕ} {r : Task} → TaskAt F s t r → answered r.steps ≡ read_plan F s t
-unfolding read_plan ◌>>=◌
-read-plan-found o = rw (o.problem_read, ◌>>=◌, o.plan_read) (ap answered o.count)
+-- a plan has as many steps as its task
+pub read_plan-task : (F : Limits) (s t : List ℕ) → read_plan F s t ≡ (read_task F s t >>= λ T. answered (length T.plan))
+unfolding read_plan read_task task_of ◌>>=◌
+read_plan-task F s t =
+    let count = λ (T : cases.Task). answered (length T.plan) in
+    sym
+    (then-then (problem_of F s) _ count ∙
+    then-alike (problem_of F s) _ _ λ p.
+    then-then (plan_of t (length p.actions)) _ count ∙
+    then-alike (plan_of t (length p.actions)) _ _ λ steps. ap answered (length-map steps (action_at p.actions)))
+
+-- an operation's answers: the problem refused, and the problem read, with what it makes of the plan
+module _ (F : Limits) (s t : List ℕ) where
+  pub read_plan-refused : (y : Refusal) → refusal y ≡ problem_of F s → refusal y ≡ read_plan F s t
+  unfolding ◌>>=◌
+  read_plan-refused y e = rw (read_plan-task, read_task-refused F s t y e) refl
+
+  pub read_plan-from :
+      {l : Limits} {p : Problem} {x : Answer cases.Task} → answered p ≡ problem_of F s → l ≡ F → x ≡ task_from l p t →
+      (x >>= λ T. answered (length T.plan)) ≡ read_plan F s t
+  read_plan-from {l} {p} {x} e v k = rw (read_plan-task, read_task-from F s t e v k) refl
+
+-- ---- what a problem shows
+
+-- it has as many actions as it says
+pub action-count : (p : values.Problem) → length (problem p).actions ≡ p.actions
+action-count p = length-tabulate _ _
+
+-- ---- what a task shows
+
+module _ (t : Task) where
+  pub task-width : (task t).width ≡ t.problem.now.limits.width
+  unfolding task_of
+  task-width = refl
+
+  pub task-facts : (task t).facts ≡ t.problem.now.facts
+  unfolding task_of
+  task-facts = refl
+
+  pub task-initial : (task t).initial ≡ formula t.problem.now.initial
+  unfolding task_of
+  task-initial = refl
+
+  pub task-goal : (task t).goal ≡ formula t.problem.now.goal
+  unfolding task_of
+  task-goal = refl
+
+  -- a state has a bit for each fact
+  pub facts-fit : (task t).facts ≤ (task t).width
+  unfolding task_of
+  facts-fit = omega (arith, t.problem.now.few_facts, t.problem.now.sensible.width)
+
+  pub plan-length : length (task t).plan ≡ length t.steps.now
+  unfolding task_of
+  plan-length = length-map t.steps.now (action_at (problem t.problem.now).actions)
+
+  -- a step's action is the one that it names
+  pub plan-action :
+      (i : ℕ) → i < length t.steps.now → action_at (task t).plan i ≡ action_at (problem t.problem.now).actions (slice_index t.steps.now i)
+  unfolding task_of
+  plan-action i l = step-action (problem t.problem.now).actions t.steps.now i l

@@ -1,16 +1,15 @@
 -- What a problem that was read, and a task of it, show.
-use Rattle.std.specs.Prelude.{List, ℕ, length, drop, slice_index, Result}
+use Rattle.std.specs.Prelude.{List, ℕ, length, Result}
 use Rattle.model.specs.declared.Limits.{Limits}
 use Rattle.model.specs.Answer.{Answer, answered, ◌>>=◌}
 use Rattle.model.specs.Answers.{result_answer}
 use Rattle.model.specs.declared.Refusal.{Refusal}
-use Rattle.model.specs.Action.{tabulate}
 use Rattle.model.specs.ProblemBytes as model
 use Rattle.model.specs.Case as cases
 use Rattle.model.specs.Operations.{task_of}
 use Rattle.formula.specs.Views.{formula}
-use Rattle.fields.specs.ActionBytes.{action_of}
-use Rattle.blocks.specs.declared.task.Problem.{Problem}
+use Rattle.blocks.specs.Actions.{actions_in}
+use Rattle.blocks.specs.declared.problem.Problem.{Problem}
 use Rattle.blocks.specs.declared.task.Task.{Task}
 
 abbrev pub problem : Problem → model.Problem
@@ -19,7 +18,7 @@ problem p =
       facts = p.facts;
       initial = formula p.initial;
       goal = formula p.goal;
-      actions = tabulate p.actions (λ i. action_of (drop (slice_index p.at i) p.block.now));
+      actions = actions_in p.block.now p.actions p.at;
     }
 
 abbrev pub task : Task → cases.Task

@@ -1,4 +1,4 @@
-// The problem and plan blocks: reading them, refusing them, and where each part stands.
+// The problem and plan blocks: a problem and a task as values, read or refused, and the operations that read them.
 
 #![tactic(auto)]
 
@@ -7,5 +7,6 @@ pub mod plan;
 pub mod problem;
 pub mod task;
 
-pub use plan::{Task, check_plan, find_task, read_plan};
-pub use problem::{Places, find_problem, read_problem};
+pub use operations::{read_plan, read_problem};
+pub use problem::Problem;
+pub use task::Task;

@@ -5,7 +5,7 @@ ghost use Rattle.model.specs.Operations.{read_problem, read_plan};
 ghost use Rattle.model.specs.Answers.{plain_answer};
 ghost use Rattle.blocks.specs.Promise.{ProblemPromised, PlanPromised};
 
-use crate::task::Problem;
+use crate::problem::Problem;
 use model::{Counts, Refusal};
 
 // Read a problem: its refusal, or its fact and action counts.

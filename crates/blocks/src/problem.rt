@@ -1,113 +1,107 @@
-// Reading a problem block, and where its parts stand.
-ghost use Rattle.std.specs.Prelude.{◌≡◌, ◌≤◌};
+// A problem as a value: reading it from its block, and its actions.
+ghost use Rattle.std.specs.Prelude.{◌≡◌, ◌<◌, ◌≤◌, IfOk};
 ghost use Rattle.model.specs.Limits.{version1, max_actions};
-ghost use Rattle.model.specs.ProblemBytes as bytes;
-ghost use Rattle.model.specs.Operations.{read_problem};
-ghost use Rattle.model.specs.Answers.{plain_answer};
-ghost use Rattle.blocks.specs.Parts.{ActionsAt, Ends, Finds};
-ghost use Rattle.blocks.specs.Promise.{ProblemPromised};
+ghost use Rattle.model.specs.Answers.{result_answer};
+ghost use Rattle.model.specs.Read.{answer_of};
+ghost use Rattle.model.specs.WellFormed.{Sensible};
+ghost use Rattle.blocks.specs.Actions.{Begin, actions_in, last_actions};
 
-use fields::{check_header, count_at, read_action};
-use formula::{read_formula, refusal};
-use model::{Counts, Limits, Problem, Refusal};
+use fields::{Action, check_header, count_at, read_action};
+use formula::{Formula, find_formula};
+use model::{Block, Fault, Limits, Problem as Bounds, Refusal};
 
-// Where the formulas of a problem stand.
+// A problem by the numbers of a version. Each of its actions begins in the block where `at` says.
 #[derive(Clone, Copy)]
-pub struct Places {
-    pub initial: usize,
-    pub goal: usize,
+pub struct Problem<'a> {
+    pub limits: Limits,
+    pub facts: u8,
+    pub actions: u8,
+    pub initial: Formula<'a>,
+    pub goal: Formula<'a>,
+    block: &'a [u8],
+    at: [usize; Bounds::MAX_ACTIONS],
+    pub ghost sensible: { Sensible limits },
+    pub ghost some_facts: { 1 ≤ facts },
+    pub ghost few_facts: { facts ≤ limits.facts },
+    pub ghost few_actions: { actions ≤ max_actions },
+    ghost stand: { Begin facts actions at block.now },
 }
 
-// Where actions stand, and the position after them.
-#[derive(Clone, Copy)]
-pub struct Actions {
-    pub end: usize,
-    pub at: [usize; Problem::MAX_ACTIONS],
-}
-
-// Reads m actions from `at` on.
-fn read_actions(
-    s: &[u8],
-    limits: Limits,
-    at: usize,
-    facts: u8,
-    m: usize,
-) -> Result<Actions, Refusal>
-    requires { m ≤ max_actions }
-    ensures { ActionsAt limits s.now facts m at result }
-{
-    let mut stand = [0usize; Problem::MAX_ACTIONS];
-    let mut p = at;
-    for i in 0..m {
-        stand[i] = p;
-        p = read_action(s, limits, p, facts)?;
-    }
-    Ok(Actions { end: p, at: stand })
-}
-
-// The actions from `at` on, and the end of the block.
+// Reads so many actions from `begin` on, which end the block: where each of them begins.
 fn find_actions(
-    s: &[u8],
+    block: &[u8],
     limits: Limits,
-    initial: usize,
-    goal: usize,
-    at: usize,
+    begin: usize,
     facts: u8,
-    m: u8,
-) -> Result<Problem, Refusal>
-    requires { m ≤ max_actions }
-    ensures { Ends limits s.now initial goal at facts m result }
+    count: u8,
+) -> Result<[usize; Bounds::MAX_ACTIONS], Refusal>
+    requires limits { Sensible limits }
+    requires facts { facts ≤ limits.facts }
+    requires count { count ≤ max_actions }
+    ensures read { result_answer (actions_in block.now count) result ≡ answer_of (last_actions limits block.now facts count begin) }
+    ensures begin { IfOk result (λ at. Begin facts count at block.now) }
 {
-    let all = read_actions(s, limits, at, facts, m as usize)?;
-    if all.end < s.len() {
-        return Err(refusal(25, all.end));
+    let mut at = [0usize; Bounds::MAX_ACTIONS];
+    let mut next = begin;
+    for i in 0..count as usize {
+        at[i] = next;
+        next = read_action(block, limits, next, facts)?;
     }
-    let action = all.at;
-    Ok(Problem {
-        facts,
-        actions: m,
-        initial,
-        goal,
-        action,
-    })
+    if next < block.len() {
+        return Err(Fault::BytesLeft.at_byte(next));
+    }
+    Ok(at)
 }
 
-// The initial formula, the goal and the actions, from `at` on.
-fn find_parts(s: &[u8], limits: Limits, at: usize, facts: u8, m: u8) -> Result<Problem, Refusal>
-    requires some { facts ≤ limits.facts }
-    requires few { m ≤ max_actions }
-    ensures { Finds limits s.now (bytes.parts limits s.now facts m at) result }
-{
-    let goal = read_formula(s, at, facts)?;
-    let next = read_formula(s, goal, facts)?;
-    find_actions(s, limits, at, goal, next, facts, m)
-}
+impl<'a> Problem<'a> {
+    ghost use Rattle.model.specs.ProblemBytes.{problem_of, action_at};
+    ghost use Rattle.fields.specs.Actions.{action};
+    ghost use Rattle.blocks.specs.Values.{problem, problem_read};
 
-// The counts from `at` on, and what follows them.
-fn find_body(s: &[u8], limits: Limits, at: usize) -> Result<Problem, Refusal>
-    ensures { Finds limits s.now (bytes.body limits s.now at) result }
-{
-    let facts = count_at(s, at, 15, 1, limits.facts)?;
-    let m = count_at(s, at + 1, 16, 0, Problem::MAX_ACTIONS as u8)?;
-    find_parts(s, limits, at + 2, facts, m)
-}
+    // The problem in a block of version 1.
+    pub fn read(block: &'a [u8]) -> Result<Problem<'a>, Refusal>
+        ensures read { problem_read result ≡ problem_of version1 block.entry.now }
+        ensures limits { IfOk result (λ p. p.limits ≡ version1) }
+    {
+        Problem::read_with(block, Limits::version1())
+    }
 
-// The problem in a block: where its parts stand.
-pub fn find_problem(s: &[u8], limits: Limits) -> Result<Problem, Refusal>
-    ensures { Finds limits s.now (bytes.problem limits s.now 0) result }
-{
-    let at = check_header(s, 10, Problem::MAX_BYTES, limits.version)?;
-    find_body(s, limits, at)
-}
+    // The problem in a block, by the numbers of a version.
+    pub fn read_with(block: &'a [u8], limits: Limits) -> Result<Problem<'a>, Refusal>
+        requires { Sensible limits }
+        ensures read { problem_read result ≡ problem_of limits block.entry.now }
+        ensures limits { IfOk result (λ p. p.limits ≡ limits) }
+    {
+        let body = check_header(block, Block::Problem, Bounds::MAX_BYTES, limits.version)?;
+        let facts = count_at(block, body, Fault::FactCount, 1, limits.facts)?;
+        let actions = count_at(
+            block,
+            body + 1,
+            Fault::ActionCount,
+            0,
+            Bounds::MAX_ACTIONS as u8,
+        )?;
+        let initial = find_formula(block, body + 2, facts)?;
+        let goal = find_formula(block, initial.next, facts)?;
+        let at = find_actions(block, limits, goal.next, facts, actions)?;
+        Ok(Problem {
+            limits,
+            facts,
+            actions,
+            initial: initial.formula,
+            goal: goal.formula,
+            block,
+            at,
+        })
+    }
 
-// Read a problem: its refusal, or its fact and action counts.
-pub fn read_problem(s: &[u8]) -> Result<Counts, Refusal>
-    ensures answer { plain_answer result ≡ read_problem version1 s.now }
-    ensures promised { ProblemPromised s.now (plain_answer result) }
-{
-    let problem = find_problem(s, Limits::version1())?;
-    Ok(Counts {
-        facts: problem.facts,
-        actions: problem.actions,
-    })
+    // The action that a step names.
+    #[inline(always)]
+    pub fn action(&self, step: u8) -> Action<'a>
+        requires { step < self.now.actions }
+        ensures is { action result ≡ action_at (problem self.now).actions step }
+        ensures facts { result.effects.facts ≡ self.now.facts }
+    {
+        Action::of(&self.block[self.at[step as usize]..], self.facts)
+    }
 }

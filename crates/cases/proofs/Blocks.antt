@@ -3,11 +3,10 @@ use mathlib.Core.Path.{◌≡◌, refl, sym, ap, ◌∙◌}
 use mathlib.Core.Bool.{Bool, true, cond, ◌&&◌}
 use mathlib.Core.List.{List, [], ◌∷◌}
 use Prim.Native.Nat.{ℕ, zero, suc, ◌+◌, ◌*◌, ◌-◌, ◌^◌, ◌≤◌, ◌<◌}
-use native.Mathlib.Numerals.{add-one}
 use native.Mathlib.Omega.{arith}
 use native.Mathlib.Decide.{ℕ_discrete}
 use lib.ListN.{length, get_or, set, length-set}
-use lib.Seq.{get_or-set_other, set-get_or, set-set, set_comm}
+use lib.Seq.{get_or-set_same, get_or-set_other, set-get_or, set-set, set_comm}
 use lib.Dec.{eqb}
 use borrow.Author.Tests.{eqb-true, eq-eqb, ne_eqb}
 use Rattle.model.specs.Kleene.{Kleene, No, Unknown, Yes, known}
@@ -136,16 +135,28 @@ module _ (root : List Kleene) (k d e i : ℕ) (few : d ≤ 5) (inner : e < d) (l
   pub part-yes : block_case root k d (2 * i + 1) ≡ set (block_case root k d i) (k + e) Yes
   part-yes = part e i 1 (omega arith) lo hi (omega arith) root k d few inner
 
--- ---- from a case to its block, level by level
+-- ---- from a case to its block
 
-pub block-more :
-    (root v : List Kleene) (k d j : ℕ) (x : Kleene) → v ≡ block_case root k d j → x ≡ level_value d j → set v (k + d) x ≡ block_case root k (d + 1) j
-unfolding block_case
-block-more root v k d j x e i = rw (add-one, e, i) refl
+module _ (root : List Kleene) (k : ℕ) where
+  block-inside : (d j g : ℕ) → k + d ≤ length root → k ≤ g → g < k + d → get_or (block_case root k d j) g No ≡ level_value (g - k) j
+  unfolding block_case
+  block-inside zero j g h a b = absurd (omega arith)
+  block-inside (suc d) j g h a b =
+      elim (ℕ_discrete g (k + d)) [
+        | yes e ↦
+            let z : g - k ≡ d = omega arith in
+            rw (z, e) (get_or-set_same (block_case root k d j) (k + d) (level_value d j) No (omega (arith, length-block root k d j)))
+        | no n ↦
+            get_or-set_other (block_case root k d j) (k + d) g (level_value d j) No n ∙
+            block-inside d j g (omega arith) a (omega arith)
+      ]
 
-pub block_none : (root : List Kleene) (k j : ℕ) → root ≡ block_case root k 0 j
-unfolding block_case
-block_none root k j = refl
+  pub block-levels :
+      (d j : ℕ) → k + d ≤ length root → with_facts k (k + d) (λ f. level_value (f - k) j) root ≡ block_case root k d j
+  block-levels d j h =
+      with_facts-is k (k + d) (λ f. level_value (f - k) j) root (block_case root k d j) (length-block root k d j)
+      (λ g l a b. block-inside d j g h a b)
+      (λ g l out. block-outside root k d j g out)
 
 -- ---- from a block to one of its lanes
 

@@ -5,16 +5,32 @@ use mathlib.Core.List.{List}
 use Prim.Native.Nat.{ℕ, zero, suc, ◌+◌, ◌-◌, ◌≤◌, ◌<◌}
 use native.Mathlib.Omega.{arith}
 use Rattle.model.specs.Kleene.{Kleene, No, Unknown, Yes, both, either, three}
-use Rattle.model.specs.Formula.{Formula, Formulas, lit, all, any, none, more, value_of, eval}
-use Rattle.model.specs.FormulaBytes.{Group, conjunction, disjunction, grouped, literal_of, member_count}
+use Rattle.model.specs.Formula.{Literal, Formula, Formulas, lit, all, any, none, more, value_of, eval}
+use Rattle.model.specs.FormulaBytes.{Group, conjunction, disjunction, grouped, member_count}
 use Rattle.model.proofs.Laws.Agreement.{by_row}
 use Rattle.formula.specs.Decoding.{first, after}
-use Rattle.formula.specs.Views.{formulas}
+use Rattle.formula.specs.Views.{formulas, group, after_group}
+use Rattle.formula.specs.declared.formulas.Members.{Members}
+use Rattle.model.specs.Marks.{group_of}
+use Rattle.model.specs.declared.marks.Group.{Group as Kind}
+use Rattle.std.proofs.Math.Bridge.{le_prop}
+use Rattle.formula.proofs.Sizes.{sizes, sizes-split}
 use Rattle.cases.specs.declared.cases.Cases.{Cases}
 use Rattle.cases.specs.declared.met.Met.{Met}
-use Rattle.cases.specs.declared.evaluator.Joined.{Joined}
-use Rattle.cases.specs.Cases.{case_of}
-use Rattle.cases.specs.Values.{join_values, unit_value, deciding_value, met_at, Onto, Joins, JoinsLiterals, GroupValue}
+use Rattle.cases.specs.declared.value.Value.{Value}
+use Rattle.cases.specs.Cases.{case_of, value_at}
+use Rattle.cases.specs.Values.{join_values, unit_value, deciding_value, met_at, Onto, JoinsFirst, Joins, JoinsBefore, GroupValue}
+
+-- members of a kind that is known
+counted : (m : Members) → m.count ≤ member_count (formulas m.formulas) → Members
+counted m few = record { group = m.group; count = m.count; formulas = m.formulas; few = few }
+
+pub same-members :
+    (m : Members) (g : Kind) (few : m.count ≤ member_count (formulas m.formulas)) → m.group ≡ g →
+    ◌≡◌ {A = Members} (record { group = g; count = m.count; formulas = m.formulas; few = few }) m
+unfolding counted
+same-members m g few e =
+    rw (← e) (ap (counted m) (le_prop few m.few))
 
 -- ---- one kind of group
 
@@ -79,11 +95,6 @@ after-more zero none e = cc
 after-more (suc k) none e = cc
 after-more zero (more a ms) e = cc
 after-more (suc k) (more a ms) e = after-more k ms e
-
-pub count-after : (k : ℕ) (ms : Formulas) → member_count (after k ms) ≡ member_count ms - k
-count-after zero ms = omega arith
-count-after (suc k) none = omega arith
-count-after (suc k) (more m ms) = omega (arith, count-after k ms)
 
 -- ---- what is joined onto other words
 
@@ -175,17 +186,22 @@ onto-has : (c : Cases) (g : Group) (x : ℕ → Kleene) (n : ℕ) (ms : Formulas
 onto-has c g x n ms r O h j l = h j l ∙ O j l
 
 pub going-stops :
-    {c : Cases} {g : Group} {x : ℕ → Kleene} {n : ℕ} {ms : Formulas} {left : ℕ} {y : ℕ → Kleene} {now : Formulas} {r : Met} (left' : ℕ) (whole : Bool) →
-    Going c g x n ms left y now → left' ≡ left → Has r y → formulas r.rest ≡ now → Joins c g x (n - left') ms whole r
-going-stops {c} {g} {x} {n} {ms} {left} {r = r} left' whole G z h e =
-    rw z (record { onto = onto-has c g x (n - left) ms r G.onto h; rest = λ w. e ∙ G.rest })
+    {c : Cases} {g : Group} {x : ℕ → Kleene} {n : ℕ} {ms : Formulas} {left : ℕ} {y : ℕ → Kleene} {now : Formulas} (whole : Bool) →
+    Going c g x n ms left y now → JoinsFirst c g x (n - left) ms whole y now
+going-stops whole G = record { onto = G.onto; rest = λ w. G.rest }
 
 pub going-ends :
-    {c : Cases} {g : Group} {x : ℕ → Kleene} {n : ℕ} {ms : Formulas} {left : ℕ} {y : ℕ → Kleene} {now : Formulas} {r : Met} (whole : Bool) →
-    Going c g x n ms left y now → left ≤ 0 → Has r y → formulas r.rest ≡ now → Joins c g x n ms whole r
-going-ends {c} {g} {x} {n} {ms} {left} {r = r} whole G l h e =
+    {c : Cases} {g : Group} {x : ℕ → Kleene} {n : ℕ} {ms : Formulas} {left : ℕ} {y : ℕ → Kleene} {now : Formulas} (whole : Bool) →
+    Going c g x n ms left y now → left ≤ 0 → JoinsFirst c g x n ms whole y now
+going-ends {c} {g} {x} {n} {ms} {left} whole G l =
     let z : n - left ≡ n = omega arith in
-    record { onto = rw z at (onto-has c g x (n - left) ms r G.onto h); rest = λ w. e ∙ rw z at G.rest }
+    record { onto = rw z at G.onto; rest = λ w. rw z at G.rest }
+
+-- what was met is what was joined
+pub joins-met :
+    {c : Cases} {g : Group} {x : ℕ → Kleene} {n : ℕ} {ms : Formulas} {whole : Bool} {y : ℕ → Kleene} {now : Formulas} (r : Met) →
+    JoinsFirst c g x n ms whole y now → Has r y → formulas r.rest ≡ now → JoinsFirst c g x n ms whole (met_at r) (formulas r.rest)
+joins-met {c} {g} {x} {n} {ms} r K h e = record { onto = onto-has c g x n ms r K.onto h; rest = λ w. e ∙ K.rest w }
 
 -- what decides the first k decides all n
 decided-first :
@@ -208,66 +224,36 @@ decided-join conjunction x y z e h = both-no x y z e h
 decided-join disjunction x y z e h = either-yes x y z e h
 
 pub going-decided :
-    {c : Cases} {g : Group} {x : ℕ → Kleene} {n : ℕ} {ms : Formulas} {left : ℕ} {y : ℕ → Kleene} {now : Formulas} {r : Met} (whole : Bool) →
-    Going c g x n ms left y now → ((j : ℕ) → j < 64 → y j ≡ deciding_value g) → whole ≡ false → Has r y → Joins c g x n ms whole r
-going-decided {c} {g} {x} {n} {ms} {left} whole G d w h =
+    {c : Cases} {g : Group} {x : ℕ → Kleene} {n : ℕ} {ms : Formulas} {left : ℕ} {y : ℕ → Kleene} {now : Formulas} (whole : Bool) →
+    Going c g x n ms left y now → ((j : ℕ) → j < 64 → y j ≡ deciding_value g) → whole ≡ false → JoinsFirst c g x n ms whole y now
+going-decided {c} {g} {x} {n} {ms} {left} whole G d w =
     record {
       onto =
           λ j l.
-          h j l ∙ d j l ∙
+          d j l ∙
           sym
           (decided-join g (x j) _ _ (sym (G.onto j l) ∙ d j l) (decided-first (case_of c j) g (n - left) n ms (omega arith)));
       rest = λ v. absurd (false≢true (sym w ∙ v));
     }
 
--- ---- how much there is to read: each call has less
-
-unfoldable mutual
-  pub size : Formula → ℕ
-  size (lit l) = 1
-  size (all ms) = 1 + sizes ms
-  size (any ms) = 1 + sizes ms
-
-  pub sizes : Formulas → ℕ
-  sizes none = 0
-  sizes (more m ms) = size m + sizes ms
-
-pub sizes-after : (k : ℕ) (ms : Formulas) → sizes (after k ms) ≤ sizes ms
-unfolding sizes
-sizes-after zero ms = omega arith
-sizes-after (suc k) none = omega arith
-sizes-after (suc k) (more m ms) = omega (arith, sizes-after k ms)
-
-pub sizes-split : (k : ℕ) (ms : Formulas) → sizes (first k ms) + sizes (after k ms) ≡ sizes ms
-unfolding sizes
-sizes-split zero ms = omega arith
-sizes-split (suc k) none = refl
-sizes-split (suc k) (more m ms) = omega (arith, sizes-split k ms)
-
 -- ---- the calls
 
--- one member of n is still left
-pub member-left :
+-- what is still left is no more
+pub left-fewer :
     {c : Cases} {g : Group} {x y : ℕ → Kleene} {n : ℕ} {ms : Formulas} {left : ℕ} {rest : Formulas} → Going c g x n ms left y rest →
-    n ≤ member_count ms → (sizes rest ≤ sizes ms) × (left ≤ member_count rest)
-member-left {n = n} {ms = ms} {left = left} G h = rw G.rest (sizes-after (n - left) ms, omega (arith, G.few, count-after (n - left) ms))
-
--- a group has less to read than what it begins
-pub members-fewer : (g : Group) (n : ℕ) (ms fs : Formulas) → ms ≡ more (grouped g (first n fs)) (after n fs) → sizes fs < sizes ms
-unfolding sizes
-members-fewer conjunction n ms fs e = rw e (omega (arith, sizes-split n fs))
-members-fewer disjunction n ms fs e = rw e (omega (arith, sizes-split n fs))
+    sizes rest ≤ sizes ms
+left-fewer {n = n} {ms = ms} {left = left} G = rw G.rest (omega (arith, sizes-split (n - left) ms))
 
 pub literal-first :
-    (c : Cases) (b : ℕ) (ms : Formulas) (w : ℕ → Kleene) (rest : Formulas) → ms ≡ more (lit (literal_of b)) rest →
-    ((j : ℕ) → j < 64 → w j ≡ value_of three (case_of c j) (literal_of b)) → Begins c ms w rest
+    (c : Cases) (l : Literal) (ms : Formulas) (w : ℕ → Kleene) (rest : Formulas) → ms ≡ more (lit l) rest →
+    ((j : ℕ) → j < 64 → w j ≡ value_of three (case_of c j) l) → Begins c ms w rest
 unfolding eval
-literal-first c b ms w rest e h = rw e (is h)
+literal-first c l ms w rest e h = rw e (is h)
 
 pub group-first :
-    (c : Cases) (g : Group) (n : ℕ) (ms fs : Formulas) (w : ℕ → Kleene) (r : Met) → ms ≡ more (grouped g (first n fs)) (after n fs) →
-    GroupValue c g n fs true r → ((j : ℕ) → j < 64 → w j ≡ met_at r j) → Begins c ms w (formulas r.rest)
-group-first c g n ms fs w r e x h = rw (e, x.rest refl) (is (λ j l. h j l ∙ x.value j l))
+    (c : Cases) (ms : Formulas) (m : Members) (w : ℕ → Kleene) (r : Met) → ms ≡ more (group m) (after_group m) → GroupValue c m true r →
+    ((j : ℕ) → j < 64 → w j ≡ met_at r j) → Begins c ms w (formulas r.rest)
+group-first c ms m w r e x h = rw (e, x.rest refl) (is (λ j l. h j l ∙ x.value j l))
 
 -- ---- a group: its first literals, and all from there on
 
@@ -278,45 +264,44 @@ after-after (suc k) (suc m) none = rw (suc-more k (suc m)) refl
 after-after (suc k) m (more a ms) = rw (suc-more k m) (after-after k m ms)
 
 pub group-joined :
-    (c : Cases) (g : Group) {x : ℕ → Kleene} (n : ℕ) (ms : Formulas) (whole : Bool) (r : Met) → ((j : ℕ) → j < 64 → x j ≡ unit_value g) →
-    Joins c g x n ms whole r → GroupValue c g n ms whole r
-group-joined c g n ms whole r u J = record { value = onto-unit c g n ms u J.onto; rest = J.rest }
+    (c : Cases) (m : Members) {x : ℕ → Kleene} (whole : Bool) (r : Met) → ((j : ℕ) → j < 64 → x j ≡ unit_value (group_of m.group)) → Joins c m x whole r →
+    GroupValue c m whole r
+group-joined c m whole r u K = record { value = onto-unit c (group_of m.group) m.count (formulas m.formulas) u K.onto; rest = K.rest }
 
 pub literals-left :
-    {c : Cases} {g : Group} {x : ℕ → Kleene} {n : ℕ} {ms : Formulas} {whole : Bool} {j : Joined} → JoinsLiterals c g x n ms whole j → 0 < j.left →
-    n ≤ member_count ms → (sizes (formulas j.met.rest) ≤ sizes ms) × (j.left ≤ member_count (formulas j.met.rest))
-literals-left {n = n} {ms = ms} {j = j} J h l =
-    rw ((J.going h).rest refl) (sizes-after (n - j.left) ms, omega (arith, J.few, count-after (n - j.left) ms))
-
-onto-begun :
-    (c : Cases) (g : Group) {x y z : ℕ → Kleene} (n : ℕ) (ms : Formulas) → ((j : ℕ) → j < 64 → x j ≡ y j) → Onto c g x n ms z → Onto c g y n ms z
-onto-begun c g n ms e O j l = rw (← e j l) (O j l)
+    {c : Cases} {m : Members} {x : ℕ → Kleene} {v : Value} {left : Members} → JoinsBefore c m x v left → sizes (formulas left.formulas) ≤ sizes (formulas m.formulas)
+literals-left {m = m} {left = left} J =
+    rw (J.joined.rest refl) (omega (arith, sizes-split (m.count - left.count) (formulas m.formulas)))
 
 pub literals-then :
-    (c : Cases) (g : Group) {x y : ℕ → Kleene} (n : ℕ) (ms : Formulas) (whole : Bool) (j : Joined) (r : Met) → ((i : ℕ) → i < 64 → x i ≡ unit_value g) →
-    JoinsLiterals c g x n ms whole j → 0 < j.left → ((i : ℕ) → i < 64 → y i ≡ met_at j.met i) → Joins c g y j.left (formulas j.met.rest) whole r → GroupValue c g n ms whole r
-literals-then c g n ms whole j r u J h k K =
-    let G = J.going h in
+    (c : Cases) (m : Members) {x : ℕ → Kleene} (whole : Bool) (v : Value) (left : Members) (r : Met) → ((i : ℕ) → i < 64 → x i ≡ unit_value (group_of m.group)) →
+    JoinsBefore c m x v left → Joins c left (value_at v) whole r → GroupValue c m whole r
+literals-then c m whole v left r u J K' =
+    let g = group_of m.group in
+    let n = m.count in
+    let ms = formulas m.formulas in
+    let k = left.count in
+    let G = J.joined in
     let e = G.rest refl in
-    let z : n - j.left + j.left ≡ n = omega (arith, J.few) in
-    let o = onto-begun c g j.left (formulas j.met.rest) k K.onto in
+    let z : n - k + k ≡ n = omega (arith, J.few) in
+    let K = rw J.group at K' in
     record {
-      value = onto-unit c g n ms u (rw z at (onto-onto c g _ (n - j.left) j.left ms G.onto (rw e at o)));
-      rest = λ w. rw (e, after-after (n - j.left) j.left ms, z) at (K.rest w);
+      value = onto-unit c g n ms u (rw z at (onto-onto c g _ (n - k) k ms G.onto (rw e at K.onto)));
+      rest = λ w. rw (e, after-after (n - k) k ms, z) at (K.rest w);
     }
 
 -- ---- a formula alone
 
 pub literal-alone :
-    {m : Formula} {ms rest : Formulas} (c : Cases) (b : ℕ) {w : ℕ → Kleene} → ms ≡ more m none → ms ≡ more (lit (literal_of b)) rest →
-    ((j : ℕ) → j < 64 → w j ≡ value_of three (case_of c j) (literal_of b)) → (j : ℕ) → j < 64 → w j ≡ eval three (case_of c j) m
+    {m : Formula} {ms rest : Formulas} (c : Cases) (l : Literal) {w : ℕ → Kleene} → ms ≡ more m none → ms ≡ more (lit l) rest →
+    ((j : ℕ) → j < 64 → w j ≡ value_of three (case_of c j) l) → (j : ℕ) → j < 64 → w j ≡ eval three (case_of c j) m
 unfolding eval
-literal-alone {m = m} c b e f x = let i : m ≡ lit (literal_of b) = cc in rw i x
+literal-alone {m = m} c l e f x = let i : m ≡ lit l = cc in rw i x
 
 pub empty-alone :
-    {m : Formula} {ms : Formulas} (c : Cases) (g : Group) (n : ℕ) (fs : Formulas) {w : ℕ → Kleene} → n ≡ 0 → ms ≡ more m none →
-    ms ≡ more (grouped g (first n fs)) (after n fs) → ((j : ℕ) → j < 64 → w j ≡ unit_value g) → (j : ℕ) → j < 64 → w j ≡ eval three (case_of c j) m
-empty-alone {m = m} c g n fs z e f u =
-    let h = rw z at f in
-    let i : m ≡ grouped g none = cc in
-    rw i (λ j l. u j l ∙ sym (eval-none (case_of c j) g))
+    {f : Formula} {ms : Formulas} (c : Cases) (m : Members) {w : ℕ → Kleene} → m.count ≡ 0 → ms ≡ more f none → ms ≡ more (group m) (after_group m) →
+    ((j : ℕ) → j < 64 → w j ≡ unit_value (group_of m.group)) → (j : ℕ) → j < 64 → w j ≡ eval three (case_of c j) f
+empty-alone {f} c m z e h u =
+    let k = rw z at h in
+    let i : f ≡ grouped (group_of m.group) none = cc in
+    rw i (λ j l. u j l ∙ sym (eval-none (case_of c j) (group_of m.group)))

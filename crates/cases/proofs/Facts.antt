@@ -5,7 +5,7 @@ use mathlib.Core.List.{List}
 use Prim.Native.Nat.{ℕ, suc, ◌+◌, ◌-◌, ◌/◌, ◌^◌, ◌≤◌, ◌<◌, max}
 use native.Mathlib.Omega.{arith}
 use native.Mathlib.Decide.{dec_le, dec_lt, ℕ_discrete}
-use lib.ListN.{length, get_or, set, replicate, length-set, length-replicate, get_or-eq_default}
+use lib.ListN.{length, get_or, set, replicate, length-set, length-replicate, get_or-replicate, get_or-eq_default}
 use lib.Seq.{ext_get_or, get_or-set_same, get_or-set_other}
 use lib.Pow.{shr-shr}
 use lib.Dec.{eqb, ltb}
@@ -16,6 +16,8 @@ use Rattle.model.specs.Planes.{lane_bit}
 use Rattle.model.proofs.Laws.Tabulate.{length-tabulate, get_d_tabulate}
 use Rattle.model.proofs.Laws.Splitting.{case-known, case-unknown, length-case}
 use Rattle.cases.specs.Facts.{with_facts, bits_of, unfixed}
+use Rattle.cases.specs.Cases.{value_at, Makes}
+use Rattle.cases.specs.declared.value.Value.{Value}
 
 -- ---- several facts changed
 
@@ -96,39 +98,38 @@ with_facts-ends from f to t v hi lo =
     ]
 
 -- a loop over from .. to - 1 that has come to f
-pub record Changes (facts : ℕ) (old : ℕ → List Kleene) (from to : ℕ) (t : ℕ → Kleene) (facts' f : ℕ) (new : ℕ → List Kleene) : Type 0 where
+pub record Changes (changes : ℕ → Value → Value → Type 0) (facts : ℕ) (old : ℕ → List Kleene) (from to : ℕ) (facts' f : ℕ) (new : ℕ → List Kleene) : Type 0 where
   pub same : facts' ≡ facts
   pub within : f ≤ max from to
-  pub cases : (j : ℕ) → j < 64 → new j ≡ with_facts from f t (old j)
+  pub cases : (t : ℕ → ℕ → Kleene) → Makes changes from to old t → (j : ℕ) → j < 64 → new j ≡ with_facts from f (t j) (old j)
 
-module _ {facts : ℕ} {old : ℕ → List Kleene} {from to : ℕ} {t : ℕ → Kleene} where
-  pub changes-none : Changes facts old from to t facts from old
-  changes-none = record { same = refl; within = omega arith; cases = λ j l. sym (with_facts-none from from t (old j) (omega arith)) }
+module _ {changes : ℕ → Value → Value → Type 0} {facts : ℕ} {old : ℕ → List Kleene} {from to : ℕ} where
+  pub changes-none : Changes changes facts old from to facts from old
+  changes-none = record { same = refl; within = omega arith; cases = λ t m j l. sym (with_facts-none from from (t j) (old j) (omega arith)) }
 
+  -- the fact that comes next has the value v, and gets r
   pub changes-more :
-      {facts' f f' facts'' : ℕ} {new new' : ℕ → List Kleene} (x : ℕ → Kleene) → ((j : ℕ) → length (old j) ≡ facts) → from ≤ f → f < to → to ≤ facts →
-      f' ≡ f + 1 → Changes facts old from to t facts' f new → facts'' ≡ facts' → ((j : ℕ) → j < 64 → x j ≡ t f) →
-      ((j : ℕ) → j < 64 → new' j ≡ set (new j) f (x j)) → Changes facts old from to t facts'' f' new'
-  changes-more {f = f} {f' = f'} {new = new} x long a b few e C s h k =
+      {facts' f f' facts'' : ℕ} {new new' : ℕ → List Kleene} (v r : Value) → ((j : ℕ) → length (old j) ≡ facts) → from ≤ f → f < to → to ≤ facts →
+      f' ≡ f + 1 → Changes changes facts old from to facts' f new → facts'' ≡ facts' → ((j : ℕ) → j < 64 → value_at v j ≡ get_or (new j) f No) →
+      changes f v r → ((j : ℕ) → j < 64 → new' j ≡ set (new j) f (value_at r j)) → Changes changes facts old from to facts'' f' new'
+  changes-more {f = f} {f' = f'} {new = new} v r long a b few e C s h x k =
       record {
         same = s ∙ C.same;
         within = omega arith;
         cases =
+            λ t m.
+            let now = C.cases t m in
+            let was : (j : ℕ) → j < 64 → value_at v j ≡ get_or (old j) f No =
+            λ j l. h j l ∙ ap (λ w. get_or w f No) (now j l) ∙ with_facts-outside from f (t j) (old j) f (λ y z. omega arith) in
             λ j l.
-            k j l ∙ ap (λ v. set v f (x j)) (C.cases j l) ∙
-            with_facts-more from f f' t (old j) (x j) a (omega (arith, long j)) e (h j l);
+            k j l ∙ ap (λ w. set w f (value_at r j)) (now j l) ∙
+            with_facts-more from f f' (t j) (old j) (value_at r j) a (omega (arith, long j)) e (m f v r a b was x j l);
       }
 
   pub changes-ends :
-      {facts' f : ℕ} {new : ℕ → List Kleene} → to ≤ f → Changes facts old from to t facts' f new →
-      (j : ℕ) → j < 64 → new j ≡ with_facts from to t (old j)
-  changes-ends {f = f} h C j l = C.cases j l ∙ with_facts-ends from f to t (old j) C.within h
-
-  -- a fact that the loop has not come to
-  pub changes-later :
-      {facts' f : ℕ} {new : ℕ → List Kleene} → Changes facts old from to t facts' f new →
-      (j : ℕ) → j < 64 → get_or (new j) f No ≡ get_or (old j) f No
-  changes-later {f = f} C j l = ap (λ v. get_or v f No) (C.cases j l) ∙ with_facts-outside from f t (old j) f (λ a b. omega arith)
+      {facts' f : ℕ} {new : ℕ → List Kleene} → to ≤ f → Changes changes facts old from to facts' f new →
+      (t : ℕ → ℕ → Kleene) → Makes changes from to old t → (j : ℕ) → j < 64 → new j ≡ with_facts from to (t j) (old j)
+  changes-ends {f = f} h C t m j l = C.cases t m j l ∙ with_facts-ends from f to (t j) (old j) C.within h
 
 -- ---- the bits of a word
 
@@ -183,10 +184,17 @@ module _ (n k v k' v' m : ℕ) (few : k ≤ n) (few' : k' ≤ n) (first : m ≤ 
             sym (between-old g (omega arith) ∙ case-unknown 64 n k v g c (omega (arith, size)))
       ])
 
--- a state, from the case that fixes no fact
-pub state-fixed : (n word : ℕ) → with_facts 0 n (bits_of word) (replicate n Unknown) ≡ case_of 64 n n word
-state-fixed n word =
-    let size = length-replicate {A = Kleene} n Unknown in
-    with_facts-is 0 n (bits_of word) (replicate n Unknown) (case_of 64 n n word) (length-case 64 n n word ∙ sym size)
-    (λ g l a b. case-known 64 n n word g b b)
-    (λ g l out. absurd (out (omega arith) (omega (arith, size))))
+-- ---- every fact of a case is changed
+
+module _ (n : ℕ) (v : List Kleene) (size : length v ≡ n) where
+  pub state-fixed : (word : ℕ) → with_facts 0 n (bits_of word) v ≡ case_of 64 n n word
+  state-fixed word =
+      with_facts-is 0 n (bits_of word) v (case_of 64 n n word) (length-case 64 n n word ∙ sym size)
+      (λ g l a b. case-known 64 n n word g b b)
+      (λ g l out. absurd (out (omega arith) (omega (arith, size))))
+
+  pub all-freed : with_facts 0 n unfixed v ≡ replicate n Unknown
+  all-freed =
+      with_facts-is 0 n unfixed v (replicate n Unknown) (length-replicate {A = Kleene} n Unknown ∙ sym size)
+      (λ g l a b. get_or-replicate n g Unknown No b)
+      (λ g l out. absurd (out (omega arith) (omega (arith, size))))

@@ -7,7 +7,6 @@ use Rattle.model.specs.Formula.{Literal, fact, denial, value_of}
 use Rattle.model.specs.FormulaBytes.{is_literal, literal_of, literal_byte}
 use Rattle.model.specs.WellFormed.{Declared}
 use Rattle.model.proofs.Laws.FormulaCodec.{literal-got}
-use Rattle.formula.proofs.Encoding.{literal-small}
 use Rattle.model.specs.Action.{tabulate}
 use Rattle.model.specs.Planes.{lane_bit, some_bit, sure_bit, InLane, InLanes, Table}
 use Rattle.model.specs.Planes.{ones}
@@ -100,13 +99,6 @@ module _ (facts : ℕ) (few : facts ≤ max_facts) (case : ℕ → List Kleene) 
 
     pub put-cases : (j : ℕ) → j < 64 → case_in facts words' j ≡ put (literal_of b) t case j
     put-cases = case-in facts words' (put (literal_of b) t case) few (put-sized (literal_of b)) put-table
-
--- the byte of a literal of a declared fact
-pub literal-byte : (facts : ℕ) → facts ≤ 64 → (b : ℕ) → is_literal facts b ≡ true → b < 128
-literal-byte facts few b i =
-    let (d, e) = literal-got facts few b i in
-    let l = literal-small facts few (literal_of b) d in
-    omega (arith, e, l)
 
 -- and of a fact
 pub fact-literal : (facts : ℕ) → facts ≤ 64 → (f : ℕ) → f < facts → is_literal facts f ≡ true

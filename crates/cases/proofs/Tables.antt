@@ -1,85 +1,69 @@
--- A table in which no fact is fixed, and numbers as words. Assumes nothing.
-use mathlib.Core.Path.{◌≡◌, sym, ap, ◌∙◌}
-use mathlib.Core.List.{List}
+-- A table in which every fact is no, and numbers as words. Assumes nothing.
+use mathlib.Core.Path.{◌≡◌, refl, ◌∙◌}
+use mathlib.Core.List.{List, [], ◌++◌}
 use Prim.Native.Nat.{ℕ, suc, ◌+◌, ◌*◌, ◌-◌, ◌^◌, ◌≤◌, ◌<◌}
 use native.Mathlib.Nat.{mul-div-mul_right}
 use native.Mathlib.Omega.{arith}
 use native.Mathlib.Decide.{dec_lt}
-use lib.ListN.{length, get_or, set, replicate, length-set, get_or-replicate, length-replicate, get_or-eq_default}
-use lib.Seq.{get_or-set_same, get_or-set_other}
+use lib.ListN.{get_or, replicate, get_or-append, get_or-replicate, length-replicate, get_or-eq_default}
+use Rattle.std.proofs.lemmas.List.{get_or-append_right}
 use lib.Pow.{pow_pos}
-use borrow.Author.Count.{below_more}
-use Rattle.model.specs.Limits.{max_facts}
-use Rattle.model.specs.Kleene.{Kleene, No, Unknown, denied, three}
+use Rattle.model.specs.Kleene.{Kleene, No, Yes, three}
 use Rattle.model.specs.Formula.{value_of}
 use Rattle.model.specs.FormulaBytes.{literal_of}
 use Rattle.model.specs.Case.{bit, case_of}
 use Rattle.model.proofs.Laws.Cover.{pow-split}
-use Rattle.model.proofs.Laws.Planes.{ones, all-no, all-unknown, literal-fact, literal-denial}
+use Rattle.model.specs.Planes.{ones, Table}
+use Rattle.model.proofs.Laws.Planes.{all-no, all_yes, literal-fact, literal-denial, table_same}
 use Rattle.model.proofs.Laws.Tabulate.{tabulate-below}
-use Rattle.cases.specs.Words.{raised, SameCase, SetsLiteral, NoneFixed}
+use Rattle.cases.specs.Words.{raised, SameCase}
 
--- ---- the table in which every value is unknown
+-- ---- the table in which every fact is no
 
--- a denial of what is unknown is unknown
-unknown-value : (b : ℕ) → b < 128 → value_of three (replicate max_facts Unknown) (literal_of b) ≡ Unknown
-unknown-value b l =
-    elim (dec_lt b max_facts) [
-      | yes m ↦ rw (literal-fact b m) (get_or-replicate max_facts b Unknown No m)
-      | no m ↦ rw (literal-denial b (omega arith)) (ap denied (get_or-replicate max_facts (b - max_facts) Unknown No (omega arith)))
-    ]
+no-value : (b : ℕ) → b < 64 → value_of three [] (literal_of b) ≡ No
+no-value b l = rw (literal-fact b l) refl
 
--- the first i literals are unknown so far, and none is yes
-pub record Opened (c : List ℕ) (i : ℕ) : Type 0 where
-  pub size : length c ≡ 256
-  pub some : (b : ℕ) → b < i → get_or c (2 * b) 0 ≡ ones
-  pub sure : (b : ℕ) → get_or c (2 * b + 1) 0 ≡ 0
+yes-value : (b : ℕ) → 64 ≤ b → b < 128 → value_of three [] (literal_of b) ≡ Yes
+yes-value b h l = rw (literal-denial b (omega arith)) refl
 
-module _ (c : List ℕ) (i : ℕ) (h : Opened c i) where
-  pub opened-next : i < 128 → Opened (set c (2 * i) ones) (i + 1)
-  opened-next l =
-      record {
-        size = length-set c (2 * i) ones ∙ h.size;
-        some =
-            below_more _ i (λ b k. get_or-set_other c (2 * i) (2 * b) ones 0 (λ e. omega arith) ∙ h.some b k)
-            (get_or-set_same c (2 * i) ones 0 (omega (arith, h.size)));
-        sure = λ b. get_or-set_other c (2 * i) (2 * b + 1) ones 0 (λ e. omega arith) ∙ h.sure b;
-      }
+abbrev words : List ℕ
+words = replicate 128 0 ++ replicate 128 ones
 
-  pub opened-ends : 128 ≤ i → NoneFixed max_facts c
-  opened-ends l =
-      record {
-        size = h.size;
-        is =
-            record {
-              literal =
-                  λ b m. record { lane = λ j k. rw (h.some b (omega arith), h.sure b, unknown-value b m) (all-unknown k) };
-            };
-      }
+no-low : (k : ℕ) → k < 128 → get_or words k 0 ≡ 0
+no-low k h = get_or-append (replicate 128 0) (replicate 128 ones) 0 k h ∙ get_or-replicate 128 k 0 0 h
 
--- ---- the facts past the count, one fewer each time
+no-high : (k : ℕ) → 128 ≤ k → k < 256 → get_or words k 0 ≡ ones
+no-high k h l =
+    get_or-append_right (replicate 128 0) (replicate 128 ones) 128 k 0 (length-replicate {A = ℕ} 128 0) h ∙
+    get_or-replicate 128 (k - 128) ones 0 (omega arith)
 
-fewer-other : (n g : ℕ) → (g ≡ n → ⊥) → get_or (replicate n Unknown) g No ≡ get_or (replicate (suc n) Unknown) g No
-fewer-other n g d =
-    elim (dec_lt g n) [
-      | yes l ↦ get_or-replicate n g Unknown No l ∙ sym (get_or-replicate (suc n) g Unknown No (omega arith))
-      | no l ↦
-          get_or-eq_default (replicate n Unknown) No (omega (arith, length-replicate {A = Kleene} n Unknown)) ∙
-          sym (get_or-eq_default (replicate (suc n) Unknown) No (omega (arith, length-replicate {A = Kleene} (suc n) Unknown)))
-    ]
-
-pub one_fewer : (n m : ℕ) (c d : List ℕ) → m ≡ suc n → n < max_facts → NoneFixed m c → SetsLiteral c n 0 0 d → NoneFixed n d
-one_fewer n m c d e l h x =
+pub no-table : Table (replicate 128 0 ++ replicate 128 ones) (λ j. [])
+no-table =
     record {
-      size = x.size;
-      is =
-          x.is (λ j. replicate (suc n) Unknown) (λ j. replicate n Unknown) (λ j. No) (rw e at h.is)
-          (record { lane = λ j k. all-no })
-          (λ j g a b. fewer-other n g a)
-          (λ j k.
-          rw (literal-fact n l)
-          (get_or-eq_default (replicate n Unknown) No (omega (arith, length-replicate {A = Kleene} n Unknown))));
+      literal =
+          λ b m.
+          elim (dec_lt b 64) [
+            | yes s ↦
+                record { lane = λ j k. rw (no-low (2 * b) (omega arith), no-low (2 * b + 1) (omega arith), no-value b s) all-no }
+            | no s ↦
+                record {
+                  lane =
+                      λ j k.
+                      rw (no-high (2 * b) (omega arith) (omega arith), no-high (2 * b + 1) (omega arith) (omega arith), yes-value b (omega arith) m)
+                      (all_yes k);
+                }
+          ];
     }
+
+pub get_or-no : (n g : ℕ) → get_or (replicate n No) g No ≡ No
+get_or-no n g =
+    elim (dec_lt g n) [
+      | yes l ↦ get_or-replicate n g No No l
+      | no l ↦ get_or-eq_default (replicate n No) No (omega (arith, length-replicate {A = Kleene} n No))
+    ]
+
+pub no-facts : (words : List ℕ) (facts : ℕ) → Table words (λ j. []) → Table words (λ j. replicate facts No)
+no-facts words facts h = table_same words (λ j. []) (λ j. replicate facts No) h (λ j g l m. get_or-no facts g)
 
 -- ---- a number as a word
 

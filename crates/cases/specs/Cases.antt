@@ -1,6 +1,6 @@
 -- What 64 cases and a value in them show.
-use Rattle.std.specs.Prelude.{◌≡◌, List, ℕ, ◌≤◌, ◌<◌, set}
-use Rattle.model.specs.Kleene.{Kleene, both, either, denied}
+use Rattle.std.specs.Prelude.{◌≡◌, List, ℕ, ◌≤◌, ◌<◌, get_or, set}
+use Rattle.model.specs.Kleene.{Kleene, No, both, either, denied}
 use Rattle.model.specs.Formula.{Literal, fact, denial}
 use Rattle.model.specs.Case as model
 use Rattle.model.specs.Planes.{lane_bit}
@@ -20,6 +20,12 @@ value_at v j = value_in (lane_bit j v.some) (lane_bit j v.sure)
 -- the same value in every lane
 abbrev pub Everywhere : Kleene → Value → Type 0
 Everywhere t v = (j : ℕ) → j < 64 → value_at v j ≡ t
+
+-- a change of a fact and its value makes of each fact from .. to - 1 of these cases, a lane each, the value t
+abbrev pub Makes : (ℕ → Value → Value → Type 0) → ℕ → ℕ → (ℕ → List Kleene) → (ℕ → ℕ → Kleene) → Type 0
+Makes changes from to cases t =
+    (f : ℕ) (v r : Value) → from ≤ f → f < to → ((j : ℕ) → j < 64 → value_at v j ≡ get_or (cases j) f No) → changes f v r →
+    (j : ℕ) → j < 64 → value_at r j ≡ t j f
 
 -- the connectives, lane by lane
 abbrev pub GivesBoth : Value → Value → Value → Type 0

@@ -1,6 +1,6 @@
 -- Words of 64 lanes, and a table of 256 of them, as they are made and changed.
-use Rattle.std.specs.Prelude.{◌≡◌, List, ℕ, ◌+◌, ◌-◌, ◌*◌, ◌^◌, ◌≤◌, ◌<◌, length, get_or, replicate}
-use Rattle.model.specs.Kleene.{Kleene, No, Unknown, three}
+use Rattle.std.specs.Prelude.{◌≡◌, List, ℕ, ◌+◌, ◌-◌, ◌*◌, ◌^◌, ◌≤◌, ◌<◌, length, get_or}
+use Rattle.model.specs.Kleene.{Kleene, No, three}
 use Rattle.model.specs.Formula.{value_of}
 use Rattle.model.specs.FormulaBytes.{literal_of}
 use Rattle.model.specs.Case.{case_of}
@@ -26,8 +26,3 @@ pub record SetsLiteral (words : List ℕ) (b some sure : ℕ) (words' : List ℕ
       (case case' : ℕ → List Kleene) (t : ℕ → Kleene) → Table words case → InLanes some sure t →
       ((j g : ℕ) → (g ≡ b → ⊥) → (g + 64 ≡ b → ⊥) → get_or (case' j) g No ≡ get_or (case j) g No) →
       ((j : ℕ) → j < 64 → value_of three (case' j) (literal_of b) ≡ t j) → Table words' case'
-
--- every fact of every case is unknown
-pub record NoneFixed (facts : ℕ) (words : List ℕ) : Type 0 where
-  pub size : length words ≡ 256
-  pub is : Table words (λ j. replicate facts Unknown)

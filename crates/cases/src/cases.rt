@@ -9,27 +9,29 @@ use crate::block::value_of_level;
 use crate::case::Case;
 use crate::value::Value;
 use crate::words::{self, LANES, TABLE};
+use formula::Literal;
 
 // The two words of the literal with the byte b stand at twice b: in each lane its value in that lane's case, of so many facts.
 #[derive(Clone, Copy)]
 pub struct Cases {
-    pub facts: u8,
     words: [u64; TABLE],
+    pub facts: u8,
     ghost few: { facts ≤ max_facts },
     ghost hold: { Table words (case_in facts words) } by { Prim.hlevel props },
 }
 
 impl Cases {
     ghost use Rattle.std.specs.Prelude.{ℕ, ◌≡◌, ◌+◌, ◌<◌, ◌≤◌, IsTrue, replicate, set};
-    ghost use Rattle.model.specs.Kleene.{Unknown, three};
+    ghost use Rattle.model.specs.Kleene.{Kleene, No, Unknown, three};
     ghost use Rattle.model.specs.Formula.{value_of};
-    ghost use Rattle.model.specs.FormulaBytes.{is_literal, literal_of};
+    ghost use Rattle.model.specs.FormulaBytes.{is_literal, literal_of as with_byte};
+    ghost use Rattle.formula.specs.Views.{literal as literal_of};
     ghost use Rattle.model.specs.Case.{case_of as case_numbered};
     ghost use Rattle.model.specs.Planes.{lane_bit};
     ghost use Rattle.cases.specs.Lanes.{value_in};
     ghost use Rattle.cases.specs.Facts.{with_facts, bits_of, unfixed, fact_of};
     ghost use Rattle.cases.specs.Blocks.{block_case};
-    ghost use Rattle.cases.specs.Cases.{case_of, value_at, with_literal, values_of};
+    ghost use Rattle.cases.specs.Cases.{case_of, value_at, with_literal, values_of, Makes};
 
     // Every lane has the case that fixes no fact.
     pub fn none_fixed(facts: u8) -> Cases
@@ -37,9 +39,21 @@ impl Cases {
         ensures facts { result.facts ≡ facts }
         ensures cases { (j : ℕ) → j < 64 → case_of result j ≡ replicate facts Unknown }
     {
+        let mut cases = Cases::all_no(facts);
+        cases.free_facts(0, facts as usize);
+        cases
+    }
+
+    // Every lane has the state in which no fact is true.
+    #[inline(always)]
+    fn all_no(facts: u8) -> Cases
+        requires { facts ≤ max_facts }
+        ensures facts { result.facts ≡ facts }
+        ensures cases { (j : ℕ) → j < 64 → case_of result j ≡ replicate facts No }
+    {
         Cases {
+            words: words::all_no(),
             facts,
-            words: words::none_fixed(facts as usize),
         }
     }
 
@@ -49,39 +63,43 @@ impl Cases {
         ensures facts { result.facts ≡ facts }
         ensures cases { (j : ℕ) → j < 64 → case_of result j ≡ case_numbered 64 facts facts word }
     {
-        let mut cases = Cases::none_fixed(facts);
+        let mut cases = Cases::all_no(facts);
         cases.fix_bits(0, facts as usize, word);
         cases
     }
 
-    // The value of a literal, by its byte.
     #[inline(always)]
-    pub fn value(&self, b: u8) -> Value
-        requires { b < 128 }
-        ensures { (j : ℕ) → j < 64 → value_at result j ≡ value_of three (case_of self.now j) (literal_of b) }
-    {
-        self.value_of(b as usize)
-    }
-
-    #[inline(always)]
-    fn value_of(&self, literal: usize) -> Value
-        requires { literal < 128 }
+    pub fn value(&self, literal: Literal) -> Value
         ensures { (j : ℕ) → j < 64 → value_at result j ≡ value_of three (case_of self.now j) (literal_of literal) }
     {
+        self.value_of(literal.byte() as usize)
+    }
+
+    // The value of the literal with this byte.
+    #[inline(always)]
+    fn value_of(&self, byte: usize) -> Value
+        requires { byte < 128 }
+        ensures { (j : ℕ) → j < 64 → value_at result j ≡ value_of three (case_of self.now j) (with_byte byte) }
+    {
         Value {
-            some: self.words[2 * literal],
-            sure: self.words[2 * literal + 1],
+            some: self.words[2 * byte],
+            sure: self.words[2 * byte + 1],
         }
     }
 
-    // In each lane the literal with this byte becomes the lane's value.
+    // In each lane the literal becomes the lane's value.
     #[inline(always)]
-    pub fn put(&mut self, b: u8, value: Value)
-        requires { IsTrue (is_literal self.old.facts b) }
+    pub fn put(&mut self, literal: Literal, value: Value)
+        requires { IsTrue (is_literal self.old.facts literal.byte) }
         ensures facts { self.new.facts ≡ self.old.facts }
-        ensures cases { (j : ℕ) → j < 64 → case_of self.new j ≡ with_literal (literal_of b) (value_at value j) (case_of self.old j) }
+        ensures cases { (j : ℕ) → j < 64 → case_of self.new j ≡ with_literal (literal_of literal) (value_at value j) (case_of self.old j) }
     {
-        words::set_literal(&mut self.words, b as usize, value.some, value.sure);
+        words::set_literal(
+            &mut self.words,
+            literal.byte() as usize,
+            value.some,
+            value.sure,
+        );
     }
 
     // In each lane fact f becomes the lane's value.
@@ -104,16 +122,28 @@ impl Cases {
         self.set_fact(f as usize, Value::known(yes));
     }
 
+    // Each fact from .. to - 1 becomes what `change` makes of its number and of the value that it has.
+    #[inline(always)]
+    fn change_facts<F: Fn(usize, Value) -> Value>(&mut self, from: usize, to: usize, change: F)
+        requires inside { to ≤ self.old.facts }
+        requires callable { (f : ℕ) (v : Value) → from ≤ f → f < to → F.pre change f v }
+        ensures facts { self.new.facts ≡ self.old.facts }
+        ensures cases { (t : ℕ → ℕ → Kleene) → Makes (F.post change) from to (case_of self.old) t
+            → (j : ℕ) → j < 64 → case_of self.new j ≡ with_facts from to (t j) (case_of self.old j) }
+    {
+        for f in from..to {
+            let value = change(f, self.value_of(f));
+            self.set_fact(f, value);
+        }
+    }
+
     // The facts from .. to - 1 become, in every lane, the bits of `word`.
     pub fn fix_bits(&mut self, from: usize, to: usize, word: u64)
         requires { to ≤ self.old.facts }
         ensures facts { self.new.facts ≡ self.old.facts }
         ensures cases { (j : ℕ) → j < 64 → case_of self.new j ≡ with_facts from to (bits_of word) (case_of self.old j) }
     {
-        for f in from..to {
-            let value = Value::known(word).spread(LANES - 1 - f);
-            self.set_fact(f, value);
-        }
+        self.change_facts(from, to, |f, _| Value::known(word).spread(LANES - 1 - f));
     }
 
     // The facts from .. to - 1 become unknown in every lane.
@@ -122,9 +152,7 @@ impl Cases {
         ensures facts { self.new.facts ≡ self.old.facts }
         ensures cases { (j : ℕ) → j < 64 → case_of self.new j ≡ with_facts from to unfixed (case_of self.old j) }
     {
-        for f in from..to {
-            self.set_fact(f, Value::unknown());
-        }
+        self.change_facts(from, to, |_, _| Value::unknown());
     }
 
     // The case `from` of every lane gives way to `to`; only the facts past their common start are touched.
@@ -147,9 +175,7 @@ impl Cases {
         ensures facts { self.new.facts ≡ self.old.facts }
         ensures cases { (j : ℕ) → j < 64 → case_of self.new j ≡ block_case (case_of self.old j) k levels j }
     {
-        for level in 0..levels {
-            self.set_fact(k + level, value_of_level(level));
-        }
+        self.change_facts(k, k + levels, |f, _| value_of_level(f - k));
     }
 
     // From a block to one of its lanes: the facts k .. k + levels - 1 become in every lane what they are in this one.
@@ -159,9 +185,6 @@ impl Cases {
         ensures facts { self.new.facts ≡ self.old.facts }
         ensures cases { (j : ℕ) → j < 64 → case_of self.new j ≡ with_facts k (k + levels) (fact_of (case_of self.old lane)) (case_of self.old j) }
     {
-        for f in k..k + levels {
-            let value = self.value_of(f).spread(lane);
-            self.set_fact(f, value);
-        }
+        self.change_facts(k, k + levels, |_, value| value.spread(lane));
     }
 }

@@ -25,12 +25,12 @@ pub fn evaluate_first<'a>(members: Formulas<'a>, c: &Cases) -> First<'a>
     ensures rest { formulas result.rest ≡ after 1 (formulas members.entry) }
 {
     match members.next() {
-        Next::Literal(b, rest) => First {
-            value: c.value(b),
+        Next::Literal(literal, rest) => First {
+            value: c.value(literal),
             rest,
         },
-        Next::Group(kind, n, inner) => {
-            let group = inner_group(kind, inner, n, c);
+        Next::Group(inner) => {
+            let group = inner_group(inner, c);
             First {
                 value: group.value(),
                 rest: group.rest,

@@ -1,8 +1,7 @@
 // Words of 64 lanes, a bit each, and a table of 256 of them: the two words of the literal with the byte b stand at twice b.
-ghost use Rattle.std.specs.Prelude.{◌≡◌, ◌^◌, ◌≤◌, ◌<◌};
-ghost use Rattle.model.specs.Limits.{max_facts};
-ghost use Rattle.model.specs.Planes.{lane_bit};
-ghost use Rattle.cases.specs.Words.{Spread, raised, SameCase, SetsLiteral, NoneFixed};
+ghost use Rattle.std.specs.Prelude.{◌≡◌, ◌^◌, ◌≤◌, ◌<◌, []};
+ghost use Rattle.model.specs.Planes.{lane_bit, Table};
+ghost use Rattle.cases.specs.Words.{Spread, raised, SameCase, SetsLiteral};
 
 // Every lane.
 pub const ONES: u64 = u64::MAX;
@@ -61,25 +60,12 @@ pub fn set_literal(words: &mut [u64; TABLE], b: usize, some: u64, sure: u64)
     words[2 * denial + 1] = ONES ^ some;
 }
 
-// Every fact and every denial unknown in every lane.
-fn unknown() -> [u64; TABLE]
-    ensures { NoneFixed max_facts result }
+// Every fact no in every lane, and so every denial yes: what the case reads that has no fact.
+#[inline(always)]
+pub fn all_no() -> [u64; TABLE]
+    ensures { Table result (λ lane. []) }
 {
     let mut words = [0u64; TABLE];
-    for b in 0..LITERALS {
-        words[2 * b] = ONES;
-    }
-    words
-}
-
-// None of so many facts is fixed in any lane; the facts past them are no.
-pub fn none_fixed(facts: usize) -> [u64; TABLE]
-    requires { facts ≤ max_facts }
-    ensures { NoneFixed facts result }
-{
-    let mut words = unknown();
-    for f in (facts..FACTS).rev() {
-        set_literal(&mut words, f, 0, 0);
-    }
+    words[LITERALS..].fill(ONES);
     words
 }

@@ -17,6 +17,7 @@ use Rattle.model.specs.Read.{head_bytes, block}
 use Rattle.model.specs.ListBytes.{lines_bytes, encode_list}
 use Rattle.model.specs.Operations.{read_task, list_bytes, lines_for, written, list_for, write_list}
 use Rattle.model.specs.declared.Refusal.{Refusal}
+use Rattle.model.specs.Faults.{fault_number}
 use Rattle.model.specs.WellFormed.{Sensible}
 use Rattle.model.proofs.Laws.ListCodec.{length-lines}
 use Rattle.model.proofs.Laws.Reading.{length-bytes_of}
@@ -24,17 +25,18 @@ use Rattle.model.proofs.Laws.Lists.{length-encode_list}
 use Rattle.model.proofs.Laws.Judging.{judged-in, judged-out}
 use Rattle.model.proofs.Laws.Tasks.{list-for-is}
 use Rattle.std.specs.Prelude.{Result, Ok, Err}
-use Rattle.look.specs.Tasks.{ReadTask}
-use Rattle.look.proofs.Tasks.{task-fits}
+use Rattle.blocks.specs.declared.problem.Problem as problems
+use Rattle.blocks.specs.declared.task.Task as blocks
+use Rattle.blocks.specs.Values as values
+use Rattle.blocks.proofs.Tasks.{facts-fit}
 use Rattle.walk.specs.Pages.{PutsLines}
-use Rattle.look.specs.declared.task.Task.{Task}
 use Rattle.walk.specs.declared.page.Page.{Page}
 use Rattle.lines.specs.Putting.{Laid, LinesLaid}
 use Rattle.model.proofs.Laws.Stores.{sets-append}
-use Rattle.walk.specs.declared.cases.Closed.{Closed}
-use Rattle.walk.specs.declared.cases.Stopped.{Stopped}
-use Rattle.walk.specs.declared.cases.Stopped.TheVariants.{OutOfVisits, Failed}
-use Rattle.walk.specs.Walks.{Ended, WalksTask}
+use Rattle.walk.specs.declared.visits.Closed.{Closed}
+use Rattle.walk.specs.declared.visits.Stopped.{Stopped}
+use Rattle.walk.specs.declared.visits.Stopped.TheVariants.{OutOfVisits, Failed}
+use Rattle.walk.specs.Walks.{Ended, Walks}
 use Rattle.certificate.specs.Writing.{head_of, WritesTask}
 
 -- ---- the block
@@ -63,19 +65,13 @@ closes-covered g closed (Err OutOfVisits) w E ls a e h = absurd (omega (arith, a
 closes-covered g closed (Err (Failed s left)) w E ls a e h = let z : ◌≡◌ {A = ℕ} 0 1 = cc in absurd (omega arith)
 
 pub writes-task :
-    (task : Task) (g body : ℕ) (before after : List ℕ) (p q : Page) (r : Result Closed Stopped) → head_bytes + body ≤ length before →
-    p.out.now ≡ sets before 0 (head_of task.problem.now.limits body) → p.at ≡ head_bytes → WalksTask (PutsLines task.problem.now.limits) task g p r q → after ≡ q.out.now →
-    WritesTask task g body before after
-writes-task task g body before after p q r room em at W e =
-    record {
-      is =
-          λ T i ls a w h b.
-          let F = task.problem.now.limits in
-          let z : W.closed ≡ ls = closes-covered g W.closed r (walked T) (W.is T i) ls a w h in
-          let laid : LinesLaid F.line p.out.now p.at ls q.at q.out.now = subst (λ (l : List Line). LinesLaid F.line p.out.now p.at l q.at q.out.now) z W.put.laid in
-          let k : Laid F.line p.out.now p.at ls q.at q.out.now = laid (omega (arith, ap length em, length-sets before 0 (head_of F body))) in
-          block_written F task.problem.now.sensible before after ls body b room (e ∙ k.bytes F refl ∙ (λ j. sets (em j) (at j) (lines_bytes F ls)));
-    }
+    (F : Limits) → Sensible F → (w : Walked) (g body : ℕ) (before after : List ℕ) (p q : Page) (r : Result Closed Stopped) → head_bytes + body ≤ length before →
+    p.out.now ≡ sets before 0 (head_of F body) → p.at ≡ head_bytes → Walks (PutsLines F) w g p r q → after ≡ q.out.now → WritesTask F w g body before after
+writes-task F S w g body before after p q r room em at W e ls a c h b =
+    let z : W.closed ≡ ls = closes-covered g W.closed r w W.is ls a c h in
+    let laid : LinesLaid F p.out.now p.at ls q.at q.out.now = subst (λ (l : List Line). LinesLaid F p.out.now p.at l q.at q.out.now) z W.put.laid in
+    let k : Laid F p.out.now p.at ls q.at q.out.now = laid (omega (arith, ap length em, length-sets before 0 (head_of F body))) in
+    block_written F S before after ls body b room (e ∙ k.bytes ∙ (λ j. sets (em j) (at j) (lines_bytes F ls)))
 
 -- ---- the answer
 
@@ -96,45 +92,49 @@ left-refused F s t g before n q e = rw e (refl, refl)
 pub list-refused :
     (s t : List ℕ) (r : Refusal) → read_task version1 s t ≡ refusal r → (g : ℕ) (before : List ℕ) → Left version1 s t g before (refusal r) before
 unfolding list_for Answer.◌>>=◌
-list-refused s t r h g before = left-refused version1 s t g before r.number r.place (rw h)
+list-refused s t r h g before = left-refused version1 s t g before (fault_number r.fault) r.place (rw h)
 
-module _ (s t : List ℕ) (task : Task) (f : ReadTask s t task) (g : ℕ) (before : List ℕ) {L : Type 0} (puts : L → List Line → L → Type 0) (old new : L) where
+-- the task of a problem that was read by a version's numbers has these
+pub of-version : (t : blocks.Task) (p : problems.Problem) → t.problem.now ≡ p → {F : Limits} → p.limits ≡ F → t.problem.now.limits ≡ F
+of-version t p e f = ap (λ (x : problems.Problem). x.limits) e ∙ f
+
+module _ (s t : List ℕ) (lent : blocks.Task) (limits : lent.problem.now.limits ≡ version1) (read : read_task version1 s t ≡ answered (values.task lent))
+    (g : ℕ) (before : List ℕ) {L : Type 0} (puts : L → List Line → L → Type 0) (old new : L) where
   abbrev F : Limits
-  F = task.problem.now.limits
+  F = lent.problem.now.limits
 
   abbrev T : model.Task
-  T = f.of
+  T = values.task lent
 
   abbrev Leaves : Answer ℕ → List ℕ → Type 0
   Leaves a after = Left version1 s t g before a after
 
   -- the numbers that were found are the version's
   leaves : (a : Answer ℕ) (after : List ℕ) → Left F s t g before a after → Leaves a after
-  leaves a after = subst (λ (G : Limits). Left G s t g before a after) f.limits
+  leaves a after = subst (λ (G : Limits). Left G s t g before a after) limits
 
   n≤w : T.facts ≤ T.width
-  n≤w = task-fits f.is
+  n≤w = facts-fit lent
 
   for : list_for F s t g (length before) ≡ lines_for F (length before) (judged T g)
-  for = list-for-is F s t T (subst (λ (G : Limits). read_task G s t ≡ answered T) (sym f.limits) f.read) g (length before)
+  for = list-for-is F s t T (subst (λ (G : Limits). read_task G s t ≡ answered T) (sym limits) read) g (length before)
 
   found_as : (x : Walked) → walked T ≡ x → visits (walked T) ≤ g → list_for F s t g (length before) ≡ lines_for F (length before) (found T x)
   found_as x e l = for ∙ ap (lines_for F (length before)) (judged-in T n≤w g x e l)
 
-  pub list-undecided : WalksTask puts task g old (Err OutOfVisits) new → Leaves (refused 50 g) before
+  pub list-undecided : Walks puts (walked T) g old (Err OutOfVisits) new → Leaves (refused 50 g) before
   unfolding lines_for
-  list-undecided W = leaves _ _ (left-refused F s t g before 50 g (for ∙ ap (lines_for F (length before)) (judged-out T n≤w g (W.is T f.is))))
+  list-undecided W = leaves _ _ (left-refused F s t g before 50 g (for ∙ ap (lines_for F (length before)) (judged-out T n≤w g W.is)))
 
-  pub list-wrong : (x left : ℕ) → WalksTask puts task g old (Err (Failed x left)) new → Leaves (refused 51 (g - left)) before
+  pub list-wrong : (x left : ℕ) → Walks puts (walked T) g old (Err (Failed x left)) new → Leaves (refused 51 (g - left)) before
   unfolding lines_for
   list-wrong x left W =
-      let i = W.is T f.is in
-      leaves _ _ (left-refused F s t g before 51 (g - left) (found_as (failed x (g - left)) i (omega (arith, ap visits i))))
+      leaves _ _ (left-refused F s t g before 51 (g - left) (found_as (failed x (g - left)) W.is (omega (arith, ap visits W.is))))
 
-  module _ (c : Closed) (W : WalksTask puts task g old (Ok c) new) where
+  module _ (c : Closed) (W : Walks puts (walked T) g old (Ok c) new) where
     -- the lines of a right plan
     right-for : list_for F s t g (length before) ≡ lines_for F (length before) (found T (covered W.closed (g - c.left)))
-    right-for = let i = W.is T f.is in found_as (covered W.closed (g - c.left)) i (omega (arith, ap visits i))
+    right-for = found_as (covered W.closed (g - c.left)) W.is (omega (arith, ap visits W.is))
 
     pub list_over : F.lines < c.lines → Leaves (refused 52 c.lines) before
     unfolding lines_for
@@ -152,11 +152,11 @@ module _ (s t : List ℕ) (task : Task) (f : ReadTask s t task) (g : ℕ) (befor
 
       pub list_written :
           (after : List ℕ) (body : ℕ) → body ≡ F.line * c.lines → head_bytes + body ≤ length before →
-          WritesTask task g body before after → Leaves (answered (head_bytes + body)) after
+          WritesTask F (walked T) g body before after → Leaves (answered (head_bytes + body)) after
       unfolding lines_for list_bytes write_list written
       list_written after body b m P =
           let z : body ≡ F.line * length W.closed = b ∙ ap (λ (x : ℕ). F.line * x) W.counted.1 in
           let q : list_for F s t g (length before) ≡ answered W.closed =
           right-for ∙ rw (le-ltb F.lines (length W.closed) (omega (arith, W.counted.1)), le-ltb (length before) (head_bytes + F.line * length W.closed) (omega arith))
           in
-          leaves _ _ (rw (q, z) (refl, P.is T f.is W.closed (g - c.left) (W.is T f.is) (omega arith) z ∙ rw z))
+          leaves _ _ (rw (q, z) (refl, P W.closed (g - c.left) W.is (omega arith) z ∙ rw z))

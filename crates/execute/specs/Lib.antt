@@ -1,3 +1,2 @@
 -- What the functions of this crate answer, in the words of model/specs.
 pub mod Promise
-pub mod Start

@@ -1,10 +1,8 @@
-// Running a plan in 64 cases at once: one run, one look. The hot path: nothing that reading established is tested again, and a
-// step touches only the facts that its action names.
-
+// Running one state: by its number, in a task or in the blocks of a problem and a plan.
 #![tactic(auto)]
 
 pub mod operation;
 pub mod start;
 
 pub use operation::run;
-pub use start::{run_task, state_table};
+pub use start::run_task;

@@ -6,7 +6,7 @@ ghost use Rattle.model.specs.Answers.{run_answer};
 ghost use Rattle.execute.specs.Promise.{RunPromised};
 
 use crate::run_task;
-use look::Found;
+use blocks::Problem;
 use model::{Outcome, Refusal};
 
 // Run one state, which need not be a start state: the refusals of problem and plan, 40, or how the run ends.
@@ -14,7 +14,7 @@ pub fn run(problem: &[u8], plan: &[u8], state: u64) -> Result<Outcome, Refusal>
     ensures answer { run_answer result ≡ run_state version1 problem.now plan.now state }
     ensures promised { RunPromised problem.now plan.now state (run_answer result) }
 {
-    let found = Found::read(problem)?;
-    let task = found.plan(plan)?;
+    let problem = Problem::read(problem)?;
+    let task = problem.plan(plan)?;
     run_task(&task, state)
 }

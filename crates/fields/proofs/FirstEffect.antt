@@ -2,7 +2,7 @@
 use Rattle.std.proofs.Common.{◌≡◌, refl, ap, ℕ, zero, suc, ◌+◌, ◌-◌, ◌≤◌, ◌<◌, List, ◌∷◌, length, get_or, drop, arith, sub-one, true}
 use Rattle.std.proofs.lemmas.List.{length-drop}
 use borrow.Author.Tests.{leb-true, le-leb}
-use Rattle.model.specs.FormulaBytes.{is_literal, literal_of, literal_byte}
+use Rattle.model.specs.FormulaBytes.{is_literal, literal_of}
 use Rattle.model.proofs.Laws.FormulaCodec.{literal-got}
 use Rattle.model.proofs.Laws.Truth.{and-true, and_both}
 use Rattle.formula.specs.Decoding.{decode, head}

@@ -1,3 +1,3 @@
 pub mod Readers
 pub mod FirstEffect
-pub mod Standing
+pub mod Encoding

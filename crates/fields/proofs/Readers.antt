@@ -1,15 +1,15 @@
 -- What comes after a reader, what a header that was read says, an effect, and effects one by one. Assumes nothing.
-use mathlib.Core.Path.{◌≡◌, sym, ◌∙◌, refl, ap}
+use mathlib.Core.Path.{◌≡◌, sym, ◌∙◌, ap}
 use mathlib.Core.List.{List}
 use Prim.Native.Nat.{ℕ, ◌≤◌, suc, ◌+◌, ◌-◌, ◌<◌}
 use lib.ListN.{length, get_or}
 use borrow.Author.Tests.{leb-true, lt-ltb, le-leb}
-use Rattle.model.specs.Read.{Read, got, Reader, and_then, ◌>>◌, head_bytes, header, ◌>>=◌, done, position, require, byte}
+use Rattle.model.specs.Read.{Read, reject, got, Reader, and_then, ◌>>◌, head_bytes, header, ◌>>=◌, done, position, require, byte}
 use Rattle.model.specs.declared.Refusal.{Refusal}
 use Rattle.model.proofs.Laws.Reading.{got-inj, needed}
-use Rattle.formula.specs.Readings.{rejected, next_of}
+use Rattle.formula.specs.Readings.{rejected, position_read, forgotten}
 use Rattle.std.specs.Prelude.{Result, Ok, Err}
-use Rattle.formula.proofs.Readers.{Got, next-got, next-refused, then_next}
+use Rattle.formula.proofs.Readers.{next-got, next-refused, then_next}
 use mathlib.Core.Bool.{true}
 use native.Mathlib.Omega.{arith}
 use native.Mathlib.Decide.{dec_lt}
@@ -21,18 +21,11 @@ use Rattle.model.specs.ProblemBytes.{effect, effects}
 use Rattle.model.proofs.Laws.Planes.{literal-fact, literal-denial}
 use Rattle.fields.specs.Effects.{EffectGot, EffectRead}
 
--- what was refused stays refused; what was read goes on
-module _ {A : Type 0} {x : Read A} {r : Result ℕ Refusal} (h : r ≡ next_of x) where
-  pub was-refused : {y : Refusal} → r ≡ Err y → x ≡ rejected y
-  was-refused e = next-refused x _ (sym h ∙ e)
-
-  pub was-got : {q : ℕ} → r ≡ Ok q → Got x q
-  was-got e = next-got x _ (sym h ∙ e)
-
+-- what was refused stays refused
 pub stays-refused :
-    {A B : Type 0} (x : Read A) (k : A → Reader B) {r : Result ℕ Refusal} {y : Refusal} → r ≡ next_of x → r ≡ Err y → Err y ≡ next_of (and_then x k)
-unfolding and_then next_of
-stays-refused x k h e = rw (next-refused x _ (sym h ∙ e))
+    {A B : Type 0} (x : Read A) (k : A → Reader B) {n q : ℕ} → reject n q ≡ forgotten x → reject n q ≡ forgotten (and_then x k)
+unfolding and_then forgotten
+stays-refused x k e = rw (next-refused x _ _ e)
 
 -- a block whose header is right has one, and begins its body after it
 pub header-got :
@@ -60,19 +53,19 @@ module _ (s : List ℕ) (facts least p : ℕ) where
     unfolding effect ◌>>=◌ ◌>>◌ and_then position byte require
     effect_is = rw (lt-ltb p (length s) h, k, le-leb least (get_or s p 0) l)
 
-    pub effect-formula : (r : Result ℕ Refusal) → r ≡ next_of (formula s facts (p + 1)) → EffectRead s facts least p r
+    pub effect-formula : (r : Result ℕ Refusal) → position_read r ≡ forgotten (formula s facts (p + 1)) → EffectRead s facts least p r
     unfolding and_then done
-    effect-formula (Err r) e = effect_is ∙ ap conditioned (was-refused e refl)
+    effect-formula (Err r) e = effect_is ∙ ap conditioned (next-refused _ _ _ e)
     effect-formula (Ok q) e =
-        let g = was-got e refl in
+        let g = next-got _ _ e in
         record { effect = _; read = effect_is ∙ ap conditioned g.is; literal = literal-byte (get_or s p 0); inside = h }
 
 module _ (s : List ℕ) (facts least p : ℕ) where
-  pub effects-refused : {n : ℕ} {r : Refusal} → 0 < n → effect s facts least p ≡ rejected r → Err r ≡ next_of (effects s facts n least p)
-  unfolding effects ◌>>=◌ and_then next_of
-  effects-refused {n} h e = let z : n ≡ suc (n - 1) = omega arith in rw (z, e)
+  pub effects-refused : {n : ℕ} (r : Refusal) → 0 < n → effect s facts least p ≡ rejected r → rejected r ≡ forgotten (effects s facts n least p)
+  unfolding effects ◌>>=◌ and_then forgotten
+  effects-refused {n} r h e = let z : n ≡ suc (n - 1) = omega arith in rw (z, e)
 
   pub effects-next :
-      {n k q : ℕ} → n ≡ suc k → EffectGot s facts least p q → next_of (effects s facts n least p) ≡ next_of (effects s facts k (get_or s p 0 + 1) q)
+      {n k q : ℕ} → n ≡ suc k → EffectGot s facts least p q → forgotten (effects s facts n least p) ≡ forgotten (effects s facts k (get_or s p 0 + 1) q)
   unfolding effects ◌>>=◌ and_then done
   effects-next e g = rw (e, g.read, ← g.literal) (then_next _ _)

@@ -1,17 +1,16 @@
 -- What the views of an action show.
 use Rattle.std.specs.Prelude.{◌≡◌, List, ℕ}
 use Rattle.model.specs.Action as model
-use Rattle.model.specs.FormulaBytes.{literal_of}
 use Rattle.formula.specs.Decoding.{decode, head}
 use Rattle.fields.specs.ActionBytes.{effects_of, body, beyond}
-use Rattle.formula.specs.Views.{formula}
+use Rattle.formula.specs.Views.{literal, formula}
 use Rattle.fields.specs.declared.actions.Effect.{Effect}
 use Rattle.fields.specs.declared.actions.Effects.{Effects}
 use Rattle.fields.specs.declared.actions.Action.{Action}
 use Rattle.fields.specs.declared.actions.Cut.{Cut}
 
 abbrev pub effect : Effect → model.Effect
-effect e = record { literal = literal_of e.literal; condition = formula e.condition }
+effect e = record { literal = literal e.literal; condition = formula e.condition }
 
 abbrev pub effects : Effects → List model.Effect
 effects es = effects_of es.count es.bytes.now

@@ -3,4 +3,3 @@ pub mod Counts
 pub mod Effects
 pub mod ActionBytes
 pub mod Actions
-pub mod Reading

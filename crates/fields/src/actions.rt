@@ -4,7 +4,7 @@ ghost use Rattle.model.specs.Limits.{max_facts, max_effects};
 ghost use Rattle.model.specs.FormulaBytes.{is_literal};
 ghost use Rattle.fields.specs.ActionBytes.{is_stated, are_effects};
 
-use formula::Formula;
+use formula::{Formula, Literal};
 
 // The effects that begin the bytes, so many, over so many facts.
 #[derive(Clone, Copy)]
@@ -17,14 +17,14 @@ pub struct Effects<'a> {
     ghost sound: { IsTrue (are_effects facts 0 count bytes.now) },
 }
 
-// The byte of a literal of one of so many facts, and its condition.
+// A literal of one of so many facts, and its condition.
 #[derive(Clone, Copy)]
 pub struct Effect<'a> {
-    pub literal: u8,
+    pub literal: Literal,
     pub facts: u8,
     pub condition: Formula<'a>,
     pub ghost few_facts: { facts ≤ max_facts },
-    pub ghost declared: { IsTrue (is_literal facts literal) },
+    pub ghost declared: { IsTrue (is_literal facts literal.byte) },
 }
 
 // A formula, and the bytes after it.
@@ -98,7 +98,7 @@ impl<'a> Iterator for Effects<'a> {
         if self.count == 0 {
             return None;
         }
-        let literal = self.bytes[0];
+        let literal = Literal::of(self.bytes[0]);
         let cut = Cut::of(&self.bytes[1..]);
         let facts = self.facts;
         *self = Effects {

@@ -4,10 +4,8 @@
 
 pub mod action;
 pub mod actions;
-pub mod find;
 pub mod header;
 
 pub use action::read_action;
-pub use actions::{Action, Cut, Effect, Effects};
-pub use find::{FoundAction, find_action};
+pub use actions::{Action, Effect, Effects};
 pub use header::{check_header, count_at};

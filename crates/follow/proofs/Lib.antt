@@ -1,3 +1,4 @@
 -- Laws of the definitions, for several functions' proofs.
+pub mod Lines
 pub mod Following
 pub mod Promise

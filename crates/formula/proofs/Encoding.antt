@@ -10,14 +10,13 @@ use borrow.Author.Tests.{le-ltb, le-leb}
 use Rattle.model.specs.Formula.{Literal, fact, denial, Formula, Formulas, lit, all, any, none, more}
 use Rattle.model.specs.FormulaBytes.{formula, literal_byte, member_count, formula_bytes, member_bytes, encode_formula}
 use Rattle.model.specs.WellFormed.{Bytes, Declared, Formed, FormedAll}
-use Rattle.model.specs.Stands.{FormulaAt}
+use Rattle.model.proofs.Laws.Spans.{FormulaAt}
 use Rattle.model.proofs.Laws.Reading.{first as first-byte, span-is, span-length, span-end}
 use Rattle.model.proofs.Laws.FormulaCodec.{formula-got, literal-ok, stated-bytes}
 use Rattle.model.specs.Limits.{max_depth}
 use Rattle.model.specs.Read.{got, bytes_of}
-use Rattle.formula.specs.Readings.{next_of}
+use Rattle.formula.specs.Readings.{forgotten}
 use Rattle.formula.proofs.Readers.{next-got}
-use Rattle.std.specs.Prelude.{Ok}
 use Rattle.formula.specs.Decoding.{gathered, first, after, decode, is_sound}
 use Rattle.formula.proofs.Decoding.{leaf-first}
 
@@ -95,7 +94,7 @@ pub record Cut (s : List ℕ) (facts p q : ℕ) : Type 0 where
   pub ends : q ≤ length s
   pub decoded : Decoded (take (q - (p + 2)) (drop (p + 2) s)) (more value none)
 
-pub cut : (s : List ℕ) (facts p q : ℕ) → facts ≤ 64 → Bytes s → next_of (formula s facts p) ≡ Ok q → Cut s facts p q
+pub cut : (s : List ℕ) (facts p q : ℕ) → facts ≤ 64 → Bytes s → got tt q ≡ forgotten (formula s facts p) → Cut s facts p q
 cut s facts p q few b e =
     let g = next-got (formula s facts p) q e in
     let (k, v) = formula-got s facts few p g.value q b g.is in

@@ -1,12 +1,16 @@
 -- The literals of formulas, from their bytes: marks and counts are passed over. Assumes nothing.
-use Rattle.std.proofs.Common.{◌≡◌, refl, sym, ap, ◌∙◌, Bool, true, false, ℕ, zero, suc, ◌-◌, ◌<◌, List, [], ◌∷◌, ◌++◌, length, append_assoc, eqb, cond, arith}
+use Rattle.std.proofs.Common.{◌≡◌, refl, sym, ap, ◌∙◌, Bool, true, false, ℕ, zero, suc, ◌-◌, ◌%◌, ◌≤◌, ◌<◌, List, [], ◌∷◌, ◌++◌, length, append_assoc, eqb, cond, arith}
 use mathlib.Core.List.{append-nil}
 use Rattle.std.proofs.lemmas.Bool.{eqb-false}
-use lib.Dec.{ltb}
-use borrow.Author.Tests.{ltb-false, ne_eqb, eqb-true}
-use Rattle.model.specs.Formula.{Formula, Formulas, fact, denial, lit, none, more}
-use Rattle.model.specs.FormulaBytes.{Group, conjunction, disjunction, grouped, literal_of, literal_byte, member_count}
+use lib.Dec.{ltb, leb}
+use borrow.Author.Tests.{ltb-true, ltb-false, lt-leb, le-leb, ne_eqb, eqb-true}
+use Rattle.model.specs.Formula.{Literal, Formula, Formulas, fact, denial, lit, none, more}
+use Rattle.model.specs.FormulaBytes.{Group, conjunction, disjunction, grouped, is_literal, literal_of, member_count}
 use Rattle.formula.specs.Decoding.{decode, first, after, gathered}
+use Rattle.model.proofs.Laws.FormulaCodec.{literal-got}
+use Rattle.formula.proofs.Encoding.{literal-small}
+use Rattle.model.specs.Relevance.{fact_of}
+use Rattle.formula.specs.Views.{is_denial}
 use Rattle.formula.specs.Literals.{literals, member_literals}
 
 -- bytes hold no formula only where there is none
@@ -23,24 +27,40 @@ none-left (b ∷ n ∷ s) = ne_eqb (suc (suc (length s))) 0 (λ e. omega arith) 
 pub some-left : (n : ℕ) → eqb n 0 ≡ false → 0 < n
 some-left n e = omega (arith, eqb-false n 0 e)
 
-literal-byte-of : (b : ℕ) → b < 128 → literal_byte (literal_of b) ≡ b
+-- a literal's fact by its byte, and whether it is a denial
+pub byte-fact : (b : ℕ) → b < 128 → b % 64 ≡ fact_of (literal_of b)
 unfolding literal_of
-literal-byte-of b l = by-kind (ltb b 64) refl
+byte-fact b l = by-kind (ltb b 64) refl
   where
-    by-kind : (t : Bool) → ltb b 64 ≡ t → literal_byte (cond t (fact b) (denial (b - 64))) ≡ b
-    by-kind true e = refl
+    by-kind : (t : Bool) → ltb b 64 ≡ t → b % 64 ≡ fact_of (cond t (fact b) (denial (b - 64)))
+    by-kind true e = omega (arith, ltb-true b 64 e)
     by-kind false e = omega (arith, ltb-false b 64 e)
+
+pub byte-denial : (b : ℕ) → leb 64 b ≡ is_denial (literal_of b)
+unfolding literal_of
+byte-denial b = by-kind (ltb b 64) refl
+  where
+    by-kind : (t : Bool) → ltb b 64 ≡ t → leb 64 b ≡ is_denial (cond t (fact b) (denial (b - 64)))
+    by-kind true e = lt-leb _ _ (ltb-true b 64 e)
+    by-kind false e = le-leb _ _ (ltb-false b 64 e)
+
+-- the byte of a literal of a declared fact
+pub literal-byte : (facts : ℕ) → facts ≤ 64 → (b : ℕ) → is_literal facts b ≡ true → b < 128
+literal-byte facts few b i =
+    let (d, e) = literal-got facts few b i in
+    let l = literal-small facts few (literal_of b) d in
+    omega (arith, e, l)
 
 -- the first n and those after them are all
 first-after : (n : ℕ) (ms : Formulas) → member_literals (first n ms) ++ member_literals (after n ms) ≡ member_literals ms
 unfolding literals
 first-after zero ms = refl
 first-after (suc n) none = refl
-first-after (suc n) (more m ms) = append_assoc (literals m) _ _ ∙ ap (λ (x : List ℕ). literals m ++ x) (first-after n ms)
+first-after (suc n) (more m ms) = append_assoc (literals m) _ _ ∙ ap (λ (x : List Literal). literals m ++ x) (first-after n ms)
 
-pub literal-first : (b : ℕ) (ms rest : Formulas) → b < 128 → ms ≡ more (lit (literal_of b)) rest → member_literals ms ≡ b ∷ member_literals rest
+pub literal-first : (l : Literal) (ms rest : Formulas) → ms ≡ more (lit l) rest → member_literals ms ≡ l ∷ member_literals rest
 unfolding literals
-literal-first b ms rest l e = rw (e, literal-byte-of b l) refl
+literal-first l ms rest e = rw e
 
 pub group-first : (g : Group) (n : ℕ) (ms rest : Formulas) → ms ≡ more (grouped g (first n rest)) (after n rest) → member_literals rest ≡ member_literals ms
 unfolding literals

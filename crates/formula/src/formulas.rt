@@ -1,7 +1,10 @@
 // Formulas as they stand in a block, one after the other.
-ghost use Rattle.std.specs.Prelude.{◌≡◌, IsTrue};
+ghost use Rattle.std.specs.Prelude.{◌≡◌, ◌≤◌, IsTrue};
 ghost use Rattle.model.specs.FormulaBytes.{member_count};
 ghost use Rattle.formula.specs.Decoding.{decode, head, is_sound};
+
+use crate::literal::Literal;
+use model::Group;
 
 // Sound formulas: a group's count is at most that of the formulas after it, and a literal is one of 64 facts.
 #[derive(Clone, Copy)]
@@ -17,35 +20,24 @@ pub struct Formula<'a> {
     ghost one: { member_count (decode formulas.bytes.now) ≡ 1 },
 }
 
-// The kinds of group.
+// The members of a group: so many of the formulas, the first ones. The others come after the group.
 #[derive(Clone, Copy)]
-pub enum Kind {
-    All,
-    Any,
+pub struct Members<'a> {
+    pub group: Group,
+    pub count: u8,
+    pub formulas: Formulas<'a>,
+    pub ghost few: { count ≤ member_count (decode formulas.bytes.now) },
 }
 
-impl Kind {
-    ghost use Rattle.formula.specs.Decoding.{marked};
-    ghost use Rattle.formula.specs.Views.{group_of};
-
-    // The kind that a mark begins.
-    #[inline(always)]
-    fn of(mark: u8) -> Kind
-        ensures { group_of result ≡ marked mark }
-    {
-        if mark == 0x80 { Kind::All } else { Kind::Any }
-    }
-}
-
-// What the first formula is, and what follows it: a literal's byte; or a group's member count, its members, and the formulas after.
+// What the first formula is: a literal, and the formulas after it; or a group, by its members.
 #[derive(Clone, Copy)]
 pub enum Next<'a> {
-    Literal(u8, Formulas<'a>),
-    Group(Kind, u8, Formulas<'a>),
+    Literal(Literal, Formulas<'a>),
+    Group(Members<'a>),
 }
 
 impl<'a> Formulas<'a> {
-    ghost use Rattle.std.specs.Prelude.{◌<◌, ◌≤◌, length, drop, eqb};
+    ghost use Rattle.std.specs.Prelude.{◌<◌, length, drop, eqb};
     ghost use Rattle.formula.specs.Views.{formulas, IsNext};
 
     // Those from byte n on.
@@ -74,11 +66,41 @@ impl<'a> Formulas<'a> {
         ensures { IsNext (formulas self.entry) result }
     {
         let b = self.bytes[0];
-        if b < 128 {
-            return Next::Literal(b, self.from(1));
+        if b < Literal::COUNT {
+            return Next::Literal(Literal::of(b), self.from(1));
         }
-        let n = self.bytes[1];
-        Next::Group(Kind::of(b), n, self.from(2))
+        let group = if b == u8::from(Group::All) {
+            Group::All
+        } else {
+            Group::Any
+        };
+        Next::Group(Members {
+            group,
+            count: self.bytes[1],
+            formulas: self.from(2),
+        })
+    }
+}
+
+impl<'a> Members<'a> {
+    ghost use Rattle.std.specs.Prelude.{◌<◌, ◌-◌};
+    ghost use Rattle.formula.specs.Decoding.{after};
+    ghost use Rattle.formula.specs.Views.{formulas};
+
+    // Those after the first one, which these formulas follow.
+    #[inline(always)]
+    pub fn past_first(self, rest: Formulas<'a>) -> Members<'a>
+        requires some { 0 < self.count }
+        requires follow { formulas rest ≡ after 1 (formulas self.formulas) }
+        ensures group { result.group ≡ self.entry.group }
+        ensures count { result.count ≡ self.entry.count - 1 }
+        ensures formulas { formulas result.formulas ≡ formulas rest.entry }
+    {
+        Members {
+            group: self.group,
+            count: self.count - 1,
+            formulas: rest,
+        }
     }
 }
 

@@ -4,15 +4,12 @@
 
 pub mod find;
 pub mod formulas;
+pub mod literal;
 pub mod literals;
 pub mod read;
 
 pub use find::{Found, find_formula};
-pub use formulas::{Formula, Formulas, Kind, Next};
+pub use formulas::{Formula, Formulas, Members, Next};
+pub use literal::Literal;
 pub use literals::Literals;
-pub use read::{is_literal, read_formula, refusal};
-
-// The marks that begin a group.
-const ALL: u8 = 0x80;
-
-const ANY: u8 = 0x81;
+pub use read::{is_literal, read_formula};

@@ -3,8 +3,9 @@ ghost use Rattle.std.specs.Prelude.{◌≡◌};
 ghost use Rattle.formula.specs.Views.{formula};
 
 use crate::formulas::{Formula, Formulas, Next};
+use crate::literal::Literal;
 
-// The bytes of the literals that are left, in order, whatever groups they are in.
+// The literals that are left, in order, whatever groups they are in.
 #[derive(Clone, Copy)]
 pub struct Literals<'a> {
     formulas: Formulas<'a>,
@@ -13,7 +14,7 @@ pub struct Literals<'a> {
 impl<'a> Formula<'a> {
     ghost use Rattle.formula.specs.Literals.{literals_left, literals};
 
-    // The bytes of its literals.
+    // Its literals.
     #[inline(always)]
     pub fn literals(self) -> Literals<'a>
         ensures { literals_left result ≡ literals (formula self.entry) }
@@ -25,26 +26,27 @@ impl<'a> Formula<'a> {
 }
 
 impl<'a> Iterator for Literals<'a> {
-    ghost use Rattle.std.specs.Iterator.{YieldsFirst, item_count};
+    ghost use Rattle.std.specs.Iterator.{YieldsFirstBy, item_count};
+    ghost use Rattle.formula.specs.Views.{literal};
     ghost use Rattle.formula.specs.Literals.{literals_left};
 
-    type Item = u8;
+    type Item = Literal;
 
-    ghost next_gives = { YieldsFirst literals_left };
+    ghost next_gives = { YieldsFirstBy literal literals_left };
 
     ghost remaining = { item_count literals_left };
 
     #[inline(always)]
-    fn next(&mut self) -> Option<u8> {
+    fn next(&mut self) -> Option<Literal> {
         while !self.formulas.is_empty() {
             match self.formulas.next() {
-                Next::Literal(b, rest) => {
+                Next::Literal(literal, rest) => {
                     self.formulas = rest;
-                    return Some(b);
+                    return Some(literal);
                 }
                 // A group's members are the next formulas.
-                Next::Group(_, _, members) => {
-                    self.formulas = members;
+                Next::Group(members) => {
+                    self.formulas = members.formulas;
                 }
             }
         }

@@ -1,29 +1,32 @@
 // Judge with a grant.
 ghost use Rattle.std.specs.Prelude.{◌≡◌};
 ghost use Rattle.model.specs.Limits.{version1};
+ghost use Rattle.model.specs.Case.{run_of, IsState};
 ghost use Rattle.model.specs.Operations as operations;
-ghost use Rattle.model.specs.Answers.{judge_answer};
-ghost use Rattle.judge.specs.Verdicts.{OutcomeOf, JudgesTask};
+ghost use Rattle.model.specs.Answers.{outcome, judge_answer};
+ghost use Rattle.blocks.specs.Values.{task as task_of};
+ghost use Rattle.judge.specs.Verdicts.{JudgesTask};
 ghost use Rattle.judge.specs.Promise.{JudgePromised};
 
+use blocks::{Problem, Task};
 use execute::run_task;
-use look::{Found, Task};
 use model::{Outcome, Refusal, Verdict};
 use walk::{Lines, Stopped, Unkept, walk_task};
 
-// How the run of the state numbered `state` ends. (A number that is no state misses; the walk names none.)
+// How the run of a state ends.
 fn outcome_of(task: &Task, state: u64) -> Outcome
-    ensures { OutcomeOf task.now state result }
+    requires { IsState (task_of task.now) state }
+    ensures { outcome result ≡ run_of (task_of task.now) state }
 {
     match run_task(task, state) {
-        Err(_) => Outcome::Missed,
-        Ok(outcome) => outcome,
+        Ok(ended) => ended,
+        Err(_) => unreachable!(),
     }
 }
 
 // The verdict on a task, by one walk; what becomes of the lines of a right plan is the caller's choice.
 pub fn judge_task<L: Lines>(task: &Task, grant: u64, lines: &mut L) -> Verdict
-    ensures { JudgesTask (L.gives task.now.problem.now.limits) task.now grant lines.old result lines.new }
+    ensures { JudgesTask (L.gives task.now.problem.now.limits) (task_of task.now) grant lines.old result lines.new }
 {
     match walk_task(task, grant, lines) {
         Ok(closed) => Verdict::Right {
@@ -45,7 +48,7 @@ pub fn judge(problem: &[u8], plan: &[u8], grant: u64) -> Result<Verdict, Refusal
     ensures answer { judge_answer result ≡ operations.judge version1 problem.now plan.now grant }
     ensures promised { JudgePromised problem.now plan.now grant (judge_answer result) }
 {
-    let found = Found::read(problem)?;
+    let found = Problem::read(problem)?;
     let task = found.plan(plan)?;
     Ok(judge_task(&task, grant, &mut Unkept))
 }

@@ -2,9 +2,10 @@
 
 #![tactic(auto)]
 
-ghost use Rattle.std.specs.Prelude.{◌≡◌, [], ◌∷◌, get_or, ◌<◌};
+ghost use Rattle.std.specs.Prelude.{◌≡◌, [], ◌∷◌, get_or};
 ghost use Rattle.model.specs.Limits.{version1};
-ghost use Rattle.model.specs.Answers.{part as part_of, outcome as meaning, verdict as verdict_of, search_end, short_steps, Room, search_room};
+ghost use Rattle.model.specs.Answers.{part as part_of, outcome as meaning, verdict as verdict_of, search_end};
+ghost use Rattle.model.specs.Faults.{fault_number};
 ghost use Rattle.model.specs.Operations.{read_problem, read_plan, run_state, judge, write_list, follow_list, relevant_facts, search_plans};
 ghost use Rattle.larkhammock.specs.Words.{refusal_words, part_word, part_number, end_words, wrong_words, verdict_words, problem_words, count_words, run_words, judge_words, plan_words, searched_words, search_words};
 
@@ -49,9 +50,9 @@ fn row(tag: u64, a: u64, b: u64, c: u64, d: u64) -> Answer
 }
 
 fn refused(r: Refusal) -> Answer
-    ensures { result.word ≡ refusal_words r.number r.place }
+    ensures { result.word ≡ refusal_words (fault_number r.fault) r.place }
 {
-    row(0, r.number as u64, r.place, 0, 0)
+    row(0, r.fault.number() as u64, r.place, 0, 0)
 }
 
 #[unsafe(no_mangle)]
@@ -183,23 +184,18 @@ pub extern "C" fn larkhammock_relevant_facts(
 }
 
 // A step of a plan, or 0 past its last.
-fn step_word(plan: ShortPlan, i: usize) -> u64
-    requires { i < 4 }
-    ensures { result ≡ get_or (short_steps plan) i 0 }
+fn step_word(plan: &ShortPlan, i: usize) -> u64
+    ensures { result ≡ get_or plan.now i 0 }
 {
-    if i < plan.length {
-        let steps = plan.steps;
-        return steps[i] as u64;
-    }
-    0
+    let steps = plan.steps();
+    if i < steps.len() { steps[i] as u64 } else { 0 }
 }
 
 // The row of a search that ended at a plan: visits, length, and each step.
-fn plan_row(tag: u64, visits: u64, plan: ShortPlan) -> Answer
-    requires { Room plan 0 }
-    ensures { result.word ≡ plan_words tag visits (short_steps plan) }
+fn plan_row(tag: u64, visits: u64, plan: &ShortPlan) -> Answer
+    ensures { result.word ≡ plan_words tag visits plan.now }
 {
-    let length = plan.length as u64;
+    let length = plan.len() as u64;
     let first = step_word(plan, 0);
     let second = step_word(plan, 1);
     let third = step_word(plan, 2);
@@ -211,13 +207,12 @@ fn plan_row(tag: u64, visits: u64, plan: ShortPlan) -> Answer
 
 // The row of a search.
 fn searched(search: Search) -> Answer
-    requires { search_room (Ok search) }
     ensures { result.word ≡ searched_words (search_end search) }
 {
     match search {
-        Search::Found { plan, visits } => plan_row(1, visits, plan),
+        Search::Found { plan, visits } => plan_row(1, visits, &plan),
         Search::NoneRight { visits } => row(2, visits, 0, 0, 0),
-        Search::Undecided { plan, visits } => plan_row(3, visits, plan),
+        Search::Undecided { plan, visits } => plan_row(3, visits, &plan),
     }
 }
 

@@ -1,47 +1,43 @@
--- A line's bytes, and the faults of its form. Assumes nothing.
-use mathlib.Core.Path.{◌≡◌, refl, sym, ap, ◌∙◌, subst}
-use mathlib.Core.List.{List}
-use Prim.Native.Nat.{ℕ, ◌+◌, ◌-◌, ◌*◌, ◌%◌, ◌^◌, ◌≤◌, ◌<◌}
+-- The faults of a line's form. Assumes nothing.
+use mathlib.Core.Path.{◌≡◌, sym, ◌∙◌}
+use Prim.Native.Nat.{ℕ, suc, ◌-◌, ◌%◌, ◌^◌, ◌≤◌, ◌<◌}
 use native.Mathlib.Omega.{arith}
-use lib.ListN.{get_or, take, drop}
 use borrow.Author.Tests.{lt-ltb, le-ltb, eq-eqb, ne_eqb}
+use Rattle.model.specs.Answer.{refused, answered}
 use Rattle.model.specs.Walk as model
+use Rattle.model.specs.Walk.{empty, carries, kind_number}
 use Rattle.model.specs.CaseList.{first}
-use Rattle.model.specs.Read.{head_bytes, big_endian}
-use Rattle.model.proofs.Laws.Reading.{byte-bits}
-use Rattle.lines.specs.declared.form.Line.{Line}
-use Rattle.std.specs.Prelude.{Ok, Err}
-use Rattle.lines.specs.Lines.{width_of, line_number, line_of, Reads, form_fault, ChecksForm}
+use Rattle.lines.specs.Lines.{form_fault, checked}
 
-pub line_read :
-    (s : List ℕ) (i size x : ℕ) → x ≡ big_endian (take (size - 2) (drop (head_bytes + size * i + 2) s)) → x < 256 ^ (size - 2) →
-    Reads s i size (record { kind = get_or s (head_bytes + size * i) 0; k = get_or s (head_bytes + size * i + 1) 0; value = x })
-line_read s i size x e h =
-    record {
-      is = ap (λ (v : ℕ). record { kind = get_or s (head_bytes + size * i) 0; k = get_or s (head_bytes + size * i + 1) 0; value = v }) e;
-      small = rw (← byte-bits (size - 2)) h;
-    }
+-- a kind's mark
+pub past-kinds : (b : ℕ) → ((κ : model.Kind) → b ≡ kind_number κ → ⊥) → 1 < b
+past-kinds b h = let none : b ≡ 0 → ⊥ = h empty in let one : b ≡ 1 → ⊥ = h carries in omega arith
 
-module _ (s : List ℕ) (i n size : ℕ) (l : Line) (read : Reads s i size l) where
-  fault-is : (f : ℕ) → form_fault (width_of size) n (line_of l) ≡ f → form_fault (width_of size) n (line_number size s i) ≡ f
-  fault-is f e = subst (λ (m : model.Line). form_fault (width_of size) n m ≡ f) read.is e
+pub kind_small : (κ : model.Kind) → kind_number κ ≤ 1
+kind_small empty = omega arith
+kind_small carries = omega arith
 
-  pub line-kind : 1 < l.kind → ChecksForm s i n size (Err (record { place = i; number = 65 }))
+module _ (w n i : ℕ) (l : model.Line) where
+  faulty : (f : ℕ) → form_fault w n l ≡ suc f → refused (suc f) i ≡ checked w n i l
+  faulty f e = rw e
+
+  pub line-kind : 1 < l.kind → refused 65 i ≡ checked w n i l
   unfolding form_fault first
-  line-kind h = record { found = (fault-is 65 (rw (lt-ltb 1 l.kind h)), omega arith, refl) }
+  line-kind h = faulty 64 (rw (lt-ltb 1 l.kind h))
 
   module _ (kind : l.kind ≤ 1) where
-    pub line-facts : n < l.k → ChecksForm s i n size (Err (record { place = i; number = 66 }))
+    pub line-facts : n < l.k → refused 66 i ≡ checked w n i l
     unfolding form_fault first
-    line-facts h = record { found = (fault-is 66 (rw (le-ltb 1 l.kind kind, lt-ltb n l.k h)), omega arith, refl) }
+    line-facts h = faulty 65 (rw (le-ltb 1 l.kind kind, lt-ltb n l.k h))
 
-    module _ (facts : l.k ≤ n) (r : ℕ) (e : r ≡ l.value % 2 ^ (width_of size - l.k)) where
-      pub line-bit : (r ≡ 0 → ⊥) → ChecksForm s i n size (Err (record { place = i; number = 67 }))
+    module _ (facts : l.k ≤ n) (r : ℕ) (e : r ≡ l.value % 2 ^ (w - l.k)) where
+      pub line-value : (r ≡ 0 → ⊥) → refused 67 i ≡ checked w n i l
       unfolding form_fault first
-      line-bit h =
-          record { found = (fault-is 67 (rw (le-ltb 1 l.kind kind, le-ltb n l.k facts, ne_eqb (l.value % 2 ^ (width_of size - l.k)) 0 (λ z. h (e ∙ z)))), omega arith, refl) }
+      line-value h =
+          faulty 66 (rw (le-ltb 1 l.kind kind, le-ltb n l.k facts, ne_eqb (l.value % 2 ^ (w - l.k)) 0 (λ z. h (e ∙ z))))
 
-      pub line-sound : r ≡ 0 → ChecksForm s i n size (Ok l)
+      pub line-sound : r ≡ 0 → answered l ≡ checked w n i l
       unfolding form_fault first
       line-sound h =
-          record { found = (fault-is 0 (rw (le-ltb 1 l.kind kind, le-ltb n l.k facts, eq-eqb (l.value % 2 ^ (width_of size - l.k)) 0 (sym e ∙ h))), read) }
+          let none : form_fault w n l ≡ 0 = rw (le-ltb 1 l.kind kind, le-ltb n l.k facts, eq-eqb (l.value % 2 ^ (w - l.k)) 0 (sym e ∙ h)) in
+          rw none

@@ -1,53 +1,79 @@
-// A reader: a list, and the number of the line that it stands at. Its functions call `check_form`, and all else calls `check_at`.
-ghost use Rattle.std.specs.Prelude.{◌≡◌, ◌+◌, ◌*◌, ◌<◌, ◌≤◌, ◌^◌, length};
+// A reader of a case list.
+ghost use Rattle.std.specs.Prelude.{◌≡◌, ◌+◌, ◌*◌, ◌^◌, ◌<◌, ◌≤◌, length, IfOk};
+ghost use Rattle.model.specs.ListBytes.{line_at};
+ghost use Rattle.lines.specs.Lines.{line_read, checked};
 ghost use Rattle.model.specs.Read.{head_bytes};
-ghost use Rattle.lines.specs.Lines.{width_of, ChecksForm};
+ghost use Rattle.model.specs.WellFormed.{Sensible};
 
-use crate::form::{Line, check_form};
-use model::Refusal;
+use crate::line::Line;
+use crate::raw::RawLine;
+use model::{Limits, Refusal};
 
+// The line of this number in a list, over so many facts, once its form is checked.
+#[inline(always)]
+pub fn check_line(list: &[u8], line: usize, facts: u8, limits: &Limits) -> Result<Line, Refusal>
+    requires sensible { Sensible limits.now }
+    requires inside { head_bytes + limits.now.line * line + limits.now.line ≤ length list.now }
+    requires few { facts ≤ limits.now.facts }
+    ensures line { line_read result ≡ checked limits.now.width facts line (line_at limits.now list.now (head_bytes + limits.now.line * line)) }
+    ensures fits { IfOk result (λ l. l.value < 2 ^ limits.now.width) }
+{
+    RawLine::read(list, line, limits).check_form(line, facts, limits)
+}
+
+// A list, by the numbers of a version, and the number of the line that the reader stands at.
 #[derive(Clone, Copy)]
 pub struct ListReader<'a> {
     pub list: &'a [u8],
     pub line: usize,
+    pub limits: Limits,
+    pub ghost sensible: { Sensible limits },
+    pub ghost inside: { head_bytes + limits.line * line + limits.line ≤ length list.now },
 }
 
-pub fn reader_at<'a>(list: &'a [u8], line: usize) -> ListReader<'a>
-    ensures same { result.list ≡ list.entry }
-    ensures at { result.line ≡ line }
-{
-    ListReader { list, line }
-}
+impl<'a> ListReader<'a> {
+    ghost use Rattle.lines.specs.Lines.{raw_line};
+    ghost use Rattle.lines.specs.Readers.{line_here};
 
-pub fn next_line<'a>(r: ListReader<'a>) -> ListReader<'a>
-    requires { r.line + 1 < 2 ^ 64 }
-    ensures same { result.list ≡ r.entry.list }
-    ensures at { result.line ≡ r.entry.line + 1 }
-{
-    ListReader {
-        list: r.list,
-        line: r.line + 1,
+    // The reader that stands at a line.
+    #[inline(always)]
+    pub fn at(list: &'a [u8], line: usize, limits: Limits) -> ListReader<'a>
+        requires sensible { Sensible limits }
+        requires inside { head_bytes + limits.line * line + limits.line ≤ length list.now }
+        ensures list { result.list ≡ list.entry }
+        ensures line { result.line ≡ line }
+        ensures limits { result.limits ≡ limits }
+    {
+        ListReader { list, line, limits }
     }
-}
 
-// The line that the reader stands at, as `check_form` checks it.
-pub fn check_here<'a>(r: ListReader<'a>, facts: u8, size: usize) -> Result<Line, Refusal>
-    requires least { 2 < size }
-    requires most { size ≤ 10 }
-    requires inside { head_bytes + size * r.line + size ≤ length r.list.now }
-    requires fits { facts ≤ width_of size }
-    ensures { ChecksForm r.entry.list.now r.entry.line facts size result }
-{
-    check_form(r.list, r.line, facts, size)
-}
+    // It goes on to the next line.
+    #[inline(always)]
+    pub fn next_line(self) -> ListReader<'a>
+        requires { head_bytes + self.limits.line * (self.line + 1) + self.limits.line ≤ length self.list.now }
+        ensures list { result.list ≡ self.entry.list }
+        ensures line { result.line ≡ self.entry.line + 1 }
+        ensures limits { result.limits ≡ self.entry.limits }
+    {
+        ListReader::at(self.list, self.line + 1, self.limits)
+    }
 
-// The line numbered `line`, by a reader that stands at it.
-pub fn check_at(list: &[u8], line: usize, facts: u8, size: usize) -> Result<Line, Refusal>
-    requires least { 2 < size }
-    requires most { size ≤ 10 }
-    requires inside { head_bytes + size * line + size ≤ length list.now }
-    requires fits { facts ≤ width_of size }
-    ensures { ChecksForm list.now line facts size result }
-{
-    check_here(reader_at(list, line), facts, size)
+    // The line that it stands at, as it stands.
+    #[inline(always)]
+    pub fn read(&self) -> RawLine
+        ensures line { raw_line result ≡ line_here self.now }
+        ensures fits { result.value < 2 ^ self.now.limits.width }
+    {
+        RawLine::read(self.list, self.line, &self.limits)
+    }
+
+    // The line that it stands at, over so many facts, once `check_form` has checked it.
+    #[inline(always)]
+    pub fn check_here(&self, facts: u8) -> Result<Line, Refusal>
+        requires { facts ≤ self.now.limits.facts }
+        ensures line { line_read result ≡ checked self.now.limits.width facts self.now.line (line_here self.now) }
+        ensures fits { IfOk result (λ l. l.value < 2 ^ self.now.limits.width) }
+    {
+        check_line(self.list, self.line, facts, &self.limits)
+    }
 }

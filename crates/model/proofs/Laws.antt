@@ -13,6 +13,7 @@ pub mod Verdicts
 pub mod Beliefs
 pub mod Grants
 pub mod Following
+pub mod Spans
 pub mod Reading
 pub mod FormulaCodec
 pub mod ProblemCodec

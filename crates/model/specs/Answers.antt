@@ -1,8 +1,8 @@
 -- The answers of src/lib.rt: each operation returns a refusal or its value, and these say which answer of the paper that is. The
 -- contracts of the operations are equations between these and the definitions of Operations.
-use Rattle.std.specs.Prelude.{◌≡◌, List, ℕ, ◌+◌, ◌≤◌, length, take, Result, Ok, Err}
-use Rattle.model.specs.Limits.{max_length}
+use Rattle.std.specs.Prelude.{ℕ, Result, Ok, Err}
 use Rattle.model.specs.Answer.{Answer, refused, answered}
+use Rattle.model.specs.Faults.{fault_number}
 use Rattle.model.specs.Run as Run
 use Rattle.model.specs.Walk as Walk
 use Rattle.model.specs.Search as Search
@@ -13,13 +13,12 @@ use Rattle.model.specs.declared.Outcome.{Outcome}
 use Rattle.model.specs.declared.Outcome.TheVariants.{Reached, Missed, Blocked}
 use Rattle.model.specs.declared.Verdict.{Verdict}
 use Rattle.model.specs.declared.Verdict.TheVariants.{Right, Wrong, Undecided}
-use Rattle.model.specs.declared.ShortPlan.{ShortPlan}
 use Rattle.model.specs.declared.Search as Declared
 use Rattle.model.specs.declared.Search.TheVariants.{Found, NoneRight, Undecided as SearchUndecided}
 
 -- "Each refusal carries a number and a place"
 abbrev pub refusal : {A : Type 0} → Refusal → Answer A
-refusal r = refused r.number r.place
+refusal r = refused (fault_number r.fault) r.place
 
 -- a refusal or a value, which `meaning` reads
 abbrev pub result_answer : {A B : Type 0} → (A → B) → Result A Refusal → Answer B
@@ -54,27 +53,11 @@ verdict (Undecided a) = Walk.undecided a
 abbrev pub judge_answer : Result Verdict Refusal → Answer (Walk.Verdict ℕ)
 judge_answer = result_answer verdict
 
--- a plan of a search
-abbrev pub short_steps : ShortPlan → List ℕ
-short_steps p = take p.length p.steps
-
--- the plan has room for so many more steps
-pub record Room (plan : ShortPlan) (more : ℕ) : Type 0 where
-  pub size : length plan.steps ≡ max_length
-  pub fits : plan.length + more ≤ max_length
-
 -- "the first right plan, or that none is right, or undecided .., each with the visits used in all" (W-205)
 abbrev pub search_end : Declared.Search → Search.Search
-search_end (Found p a) = Search.first_right (short_steps p) a
+search_end (Found p a) = Search.first_right p a
 search_end (NoneRight a) = Search.none_right a
-search_end (SearchUndecided p a) = Search.undecided_at (short_steps p) a
+search_end (SearchUndecided p a) = Search.undecided_at p a
 
 abbrev pub search_answer : Result Declared.Search Refusal → Answer Search.Search
 search_answer = result_answer search_end
-
--- the plan of an answer is no longer than it may be
-abbrev pub search_room : Result Declared.Search Refusal → Type 0
-search_room (Ok (Found p a)) = Room p 0
-search_room (Ok (NoneRight a)) = Unit {0}
-search_room (Ok (SearchUndecided p a)) = Room p 0
-search_room (Err r) = Unit {0}

@@ -18,12 +18,14 @@ pub mod ProblemBytes
 pub mod ListBytes
 pub mod Operations
 pub mod Values
+pub mod ShortPlans
 pub mod Planes
+pub mod Faults
+pub mod Marks
 pub mod Answers
 pub mod Text
 pub mod DeskText
 pub mod WellFormed
-pub mod Stands
 pub mod Demands
 pub mod Trials
 pub mod Theorems

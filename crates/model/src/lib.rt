@@ -6,20 +6,20 @@ ghost use Rattle.std.specs.Prelude.{◌≡◌, ◌≤◌};
 ghost use Rattle.model.specs.Limits.{version1};
 ghost use Rattle.model.specs.Values.{Shows, ShowsEach, first_case, empty_state};
 
+pub mod fault;
+pub mod marks;
+pub mod short_plan;
 pub mod theorems;
+
+pub use fault::{Block, Fault, HeaderFault};
+pub use marks::{Group, Kind, UnknownMark};
+pub use short_plan::ShortPlan;
 
 // The values of a case or a state as the code holds them, one byte a fact: 0 no, 1 unknown, 2 yes.
 pub type Values = [u8; Problem::SLOTS];
 
-// A problem block that was read, and where its parts stand in it.
-#[derive(Clone, Copy)]
-pub struct Problem {
-    pub facts: u8,
-    pub actions: u8,
-    pub initial: usize,
-    pub goal: usize,
-    pub action: [usize; Problem::MAX_ACTIONS],
-}
+// A problem block's limits.
+pub struct Problem;
 
 impl Problem {
     pub const MAX_BYTES: usize = 32768;
@@ -57,10 +57,7 @@ impl Problem {
 }
 
 // A plan block's limits: its steps stand from byte 5 on, one byte each.
-#[derive(Clone, Copy)]
-pub struct Plan {
-    pub steps: usize,
-}
+pub struct Plan;
 
 impl Plan {
     pub const MAX_STEPS: usize = 256;
@@ -69,10 +66,7 @@ impl Plan {
 }
 
 // A list block's limits: its lines stand from byte 5 on.
-#[derive(Clone, Copy)]
-pub struct CaseList {
-    pub lines: usize,
-}
+pub struct CaseList;
 
 impl CaseList {
     pub const MAX_LINES: usize = 8191;
@@ -119,11 +113,11 @@ impl Limits {
     }
 }
 
-// A refusal's number and place. The place is first, so that it lies where a reading that goes on has its position, and neither is moved.
-#[derive(Clone, Copy)]
+// What is wrong and where. The place is first, so that it lies where a reading that goes on has its position, and neither is moved.
+#[derive(Clone, Copy, PartialEq, Eq, Debug)]
 pub struct Refusal {
     pub place: u64,
-    pub number: u8,
+    pub fault: Fault,
 }
 
 // What keeps a step from being applicable: the first member of its precondition, from 0, that is false, or the lowest fact that it would
@@ -171,19 +165,6 @@ pub enum Verdict {
     Undecided {
         visits: u64,
     },
-}
-
-// A plan of a search: its first `length` steps.
-#[derive(Clone, Copy)]
-pub struct ShortPlan {
-    pub length: usize,
-    pub steps: [u8; ShortPlan::MAX_STEPS],
-}
-
-impl ShortPlan {
-    pub const MAX_STEPS: usize = 4;
-    // The plans that a search may have to try.
-    pub const MAX_PLANS: u64 = 1000000;
 }
 
 // How a search ends: with the first right plan, or with the first whose walk needs more than the visits left, and the visits used in all.

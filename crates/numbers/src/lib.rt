@@ -1,33 +1,30 @@
 // Numbers in bytes, the highest first, and the numbers of a case.
 #![tactic(auto)]
 
-ghost use Rattle.std.specs.Prelude.{◌≡◌, ◌+◌, ◌-◌, ◌%◌, ◌^◌, ◌≤◌, ◌<◌, length, take, drop};
-ghost use Rattle.std.proofs.lemmas.List.Edits.{sets};
+ghost use Rattle.std.specs.Prelude.{◌≡◌, ◌+◌, ◌-◌, ◌%◌, ◌^◌, ◌≤◌, ◌<◌, length};
 ghost use Rattle.model.specs.Read.{big_endian, bytes_of};
 
-// The number in the n bytes from `at` on.
-pub fn read_number(s: &[u8], at: usize, n: usize) -> u64
-    requires few { n ≤ 8 }
-    requires inside { at + n ≤ length s.now }
-    ensures value { result ≡ big_endian (take n (drop at s.now)) }
-    ensures small { result < 256 ^ n }
+// The number that these bytes make.
+pub fn read_number(bytes: &[u8]) -> u64
+    requires { length bytes.now ≤ 8 }
+    ensures value { result ≡ big_endian bytes.now }
+    ensures small { result < 256 ^ length bytes.now }
 {
     let mut x: u64 = 0;
-    for i in 0..n {
-        x = x * 256 + s[at + i] as u64;
+    for b in bytes {
+        x = x * 256 + *b as u64;
     }
     x
 }
 
-// The n lowest bytes of x, from `at` on.
-pub fn put_number(out: &mut [u8], at: usize, n: usize, x: u64)
-    requires few { n ≤ 8 }
-    requires room { at + n ≤ length out.old }
-    ensures { out.new ≡ sets out.old at (bytes_of n x) }
+// Fills `out` with the lowest bytes of x.
+pub fn put_number(out: &mut [u8], x: u64)
+    requires { length out.old ≤ 8 }
+    ensures { out.new ≡ bytes_of (length out.old) x }
 {
     let mut rest = x;
-    for i in (0..n).rev() {
-        out[at + i] = (rest % 256) as u8;
+    for i in (0..out.len()).rev() {
+        out[i] = (rest % 256) as u8;
         rest = rest / 256;
     }
 }

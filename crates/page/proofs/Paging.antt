@@ -1,8 +1,8 @@
 -- The page of a problem and a plan is the definition's text. Assumes nothing.
-use mathlib.Core.Path.{◌≡◌, refl, ap, ap₂, ◌∙◌, subst}
+use mathlib.Core.Path.{◌≡◌, refl, sym, ap, ap₂, ◌∙◌, subst}
 use mathlib.Core.Bool.{Bool, true, false}
 use mathlib.Core.List.{List, [], ◌++◌}
-use Prim.Native.Nat.{ℕ, ◌+◌, ◌-◌, ◌*◌, ◌≤◌}
+use Prim.Native.Nat.{ℕ, ◌+◌, ◌*◌, ◌≤◌}
 use native.Mathlib.Nat.{mul-le-mul_left}
 use native.Mathlib.Omega.{arith}
 use lib.Dec.{leb}
@@ -22,15 +22,16 @@ use Rattle.model.specs.Walk.{Line, walked, Verdict, right, wrong, undecided, jud
 use Rattle.model.specs.Operations.{read_task, line_count}
 use Rattle.model.specs.ListBytes.{lines_from, lines_bytes}
 use Rattle.model.specs.WellFormed.{LineOk, Each, Sensible}
-use Rattle.model.specs.Stands.{Span}
+use Rattle.model.proofs.Laws.Spans.{Span}
 use Rattle.model.specs.DeskText.{judged_line, lines_text, list_text, verdict_rest, desk_grant, answer_line, answer_rest, first_line, later_lines, desk_text}
 use Rattle.model.proofs.Laws.Reading.{split, span-length, is_whole}
 use Rattle.model.proofs.Laws.ListCodec as codec
 use Rattle.model.proofs.Laws.Verdicts.{Means, judged-means, walk-passes}
 use Rattle.model.proofs.Laws.Lists.{follows-ok}
-use Rattle.look.specs.declared.task.Task.{Task}
-use Rattle.look.specs.Tasks.{facts_of, ReadTask}
-use Rattle.look.proofs.Tasks.{task-width, task-facts, task-few}
+use Rattle.blocks.specs.declared.problem.Problem.{Problem}
+use Rattle.blocks.specs.declared.task.Task.{Task}
+use Rattle.blocks.specs.Values.{task}
+use Rattle.blocks.proofs.Tasks.{task-width, task-facts}
 use Rattle.lines.specs.Putting.{LinesLaid}
 use Rattle.walk.specs.declared.page.Page.{Page}
 use Rattle.walk.specs.Pages.{PutsLines}
@@ -65,23 +66,23 @@ module _ (F : Limits) (S : Sensible F) where
 
   module _ (n : ℕ) (before after : List ℕ) (room : head_bytes + F.line * F.lines ≤ length before) where
     list-is :
-        (ls : List Line) (b : Bool) → leb (length ls) F.lines ≡ b → Each (LineOk F) ls → (next : ℕ) → LinesLaid F.line before head_bytes ls next after → (a : ℕ) →
+        (ls : List Line) (b : Bool) → leb (length ls) F.lines ≡ b → Each (LineOk F) ls → (next : ℕ) → LinesLaid F before head_bytes ls next after → (a : ℕ) →
         following F n after (answered (right (length ls) a)) ≡ list_text F n ls
     unfolding list_text
     list-is ls true e ok next laid a =
         let h : head_bytes + F.line * length ls ≤ length before = omega (arith, mul-le-mul_left F.line (leb-true (length ls) F.lines e)) in
         rw e
-        (ap (λ (l : List ℕ). lines_text F n (lines_from F l (length ls) head_bytes)) ((laid h).bytes F refl) ∙
+        (ap (λ (l : List ℕ). lines_text F n (lines_from F l (length ls) head_bytes)) ((laid h).bytes) ∙
         ap (lines_text F n) (lines-read before ls h ok))
     list-is ls false e ok next laid a = rw e
 
     following-is :
         (v : Verdict (List Line)) → ((ls : List Line) (a : ℕ) → v ≡ right ls a → Each (LineOk F) ls) →
-        (closed : List Line) → HasLines closed v → (next : ℕ) → LinesLaid F.line before head_bytes closed next after →
+        (closed : List Line) → HasLines closed v → (next : ℕ) → LinesLaid F before head_bytes closed next after →
         following F n after (answered (line_count v)) ≡ verdict_rest F n v
     unfolding verdict_rest
     following-is (right ls a) ok closed h next laid =
-        list-is ls _ refl (ok ls a refl) next (subst (λ (x : List Line). LinesLaid F.line before head_bytes x next after) h laid) a
+        list-is ls _ refl (ok ls a refl) next (subst (λ (x : List Line). LinesLaid F before head_bytes x next after) h laid) a
     following-is (wrong s o a) ok closed h next laid = refl
     following-is (undecided a) ok closed h next laid = refl
 
@@ -95,24 +96,28 @@ refused-text F n s t list y e = rw e
 
 -- a verdict's
 pub judged-text :
-    (s t after : List ℕ) → head_bytes + version1.line * version1.lines ≤ length after → (task : Task) → ReadTask s t task →
-    (a : declared.Verdict) (p q : Page) → JudgesTask (PutsLines task.problem.now.limits) task desk_grant p a q → p.at ≡ head_bytes → after ≡ q.out.now →
-    (n : ℕ) → n ≡ facts_of task.problem.now → page_of task.problem.now.limits n after (judge_answer (Ok a)) ≡ desk_text version1 s t
+    (s t after : List ℕ) → head_bytes + version1.line * version1.lines ≤ length after →
+    (lent : Task) (found : Problem) → lent.problem.now ≡ found → found.limits ≡ version1 → read_task version1 s t ≡ answered (task lent) →
+    (a : declared.Verdict) (p q : Page) → JudgesTask (PutsLines lent.problem.now.limits) (task lent) desk_grant p a q → p.at ≡ head_bytes → after ≡ q.out.now →
+    page_of found.limits found.facts after (judge_answer (Ok a)) ≡ desk_text version1 s t
 unfolding desk_text first_line answer_line later_lines answer_rest
-judged-text s t after fit task R a p q J at e n z =
-    let T = R.of in
-    let F = task.problem.now.limits in
-    let S = task.problem.now.sensible in
-    let j = J.is T R.is in
-    let f : n ≡ T.facts = z ∙ task-facts R.is in
-    let room : head_bytes + F.line * F.lines ≤ length after = rw R.limits fit in
-    let laid : LinesLaid F.line p.out.now head_bytes J.closed q.at after = rw (e, ← at) J.put.laid in
+judged-text s t after fit lent found same-problem limits read a p q J at e =
+    let T = task lent in
+    let F = found.limits in
+    let n = found.facts in
+    let S = found.sensible in
+    let same-limits : lent.problem.now.limits ≡ F = ap (λ (x : Problem). x.limits) same-problem in
+    let f : n ≡ T.facts = ap (λ (x : Problem). x.facts) (sym same-problem) ∙ sym (task-facts lent) in
+    let w : T.width ≡ F.width = task-width lent ∙ ap (λ (x : Limits). x.width) same-limits in
+    let few : T.facts ≤ F.facts = omega (arith, f, found.few_facts) in
+    let room : head_bytes + F.line * F.lines ≤ length after = rw limits fit in
+    let laid : LinesLaid F p.out.now head_bytes J.closed q.at after = rw (e, ← at, ← same-limits) J.put.laid in
     let first : judged_line F n (answered (verdict a)) ≡ answer_line version1 (read_task version1 s t) =
-    ap (λ v. judged_line F n (answered v)) j.answer ∙ rw (R.read, f, R.limits)
+    ap (λ v. judged_line F n (answered v)) J.answer ∙ rw (read, f, limits)
     in
     let rest : following F n after (answered (verdict a)) ≡ answer_rest version1 (read_task version1 s t) =
-    ap (λ v. following F n after (answered v)) j.answer ∙
-    following-is F S n p.out.now after (omega (arith, room, J.put.size, ap length e)) (judged T desk_grant) (lines_fit F S T (task-few R.is) (task-width R.is) desk_grant) J.closed j.lines q.at laid ∙
-    rw (R.read, f, R.limits)
+    ap (λ v. following F n after (answered v)) J.answer ∙
+    following-is F S n p.out.now after (omega (arith, room, J.put.size, ap length e)) (judged T desk_grant) (lines_fit F S T few w desk_grant) J.closed J.lines q.at laid ∙
+    rw (read, f, limits)
     in
     ap₂ (λ (x y : List ℕ). x ++ y) first rest

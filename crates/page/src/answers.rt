@@ -1,21 +1,22 @@
 // What an answer displays: the parts of a verdict, and the first line of a page.
 ghost use Rattle.std.specs.Prelude.{◌≡◌, Some};
+ghost use Rattle.model.specs.Faults.{fault_number};
 ghost use Rattle.model.specs.Answers.{part, outcome, verdict, judge_answer};
 ghost use Rattle.model.specs.DeskText.{block_text, refusal_line, part_text, where_text, verdict_line, judged_line};
 
 use crate::marks::{Facts, Marks};
 use crate::number::Decimal;
-use model::{Outcome, Part, Refusal, Verdict};
+use model::{Fault, Outcome, Part, Refusal, Verdict};
 use std::fmt;
 
 // The refusals of a plan are numbered from here on.
 const PLAN_NUMBERS: u8 = 30;
 
-// Which block a refusal of this number is of.
-fn block_of(number: u8) -> &'static str
-    ensures { result.now ≡ block_text number }
+// Which block a fault is of.
+fn block_of(fault: Fault) -> &'static str
+    ensures { result.now ≡ block_text (fault_number fault) }
 {
-    if number < PLAN_NUMBERS {
+    if fault.number() < PLAN_NUMBERS {
         return "problem";
     }
     "plan"
@@ -26,12 +27,13 @@ fn block_of(number: u8) -> &'static str
 pub struct RefusalLine(pub Refusal);
 
 impl fmt::Display for RefusalLine {
-    ghost output = { λ r. Some (refusal_line r.0.number r.0.place) };
+    ghost output = { λ r. Some (refusal_line (fault_number r.0.fault) r.0.place) };
 
     fn fmt<W: fmt::Write>(&self, f: &mut fmt::Formatter<W>) -> fmt::Result {
-        let block = block_of(self.0.number);
-        let number = Decimal(self.0.number as u64);
-        let place = Decimal(self.0.place);
+        let Refusal { place, fault } = self.0;
+        let block = block_of(fault);
+        let number = Decimal(fault.number() as u64);
+        let place = Decimal(place);
         writeln!(f, "refused {block} {number} at {place}")
     }
 }

@@ -3,10 +3,10 @@ ghost use Rattle.std.specs.Prelude.{◌≡◌, ◌+◌, ◌*◌, ◌≤◌, ◌<
 ghost use Rattle.model.specs.Read.{head_bytes};
 ghost use Rattle.model.specs.DeskText.{kind_text, line_text, lines_text, too_long};
 ghost use Rattle.model.specs.ListBytes.{line_at, lines_from};
-ghost use Rattle.lines.specs.Lines.{line_of};
+ghost use Rattle.lines.specs.Lines.{raw_line};
 
 use crate::marks::{Facts, Marks};
-use lines::{Line, read_line};
+use lines::{ListReader, RawLine};
 use std::fmt;
 
 // What a line claims of its case.
@@ -23,11 +23,11 @@ fn kind_of(kind: u8) -> &'static str
 #[derive(Clone, Copy)]
 pub struct ListLine {
     pub facts: Facts,
-    pub line: Line,
+    pub line: RawLine,
 }
 
 impl fmt::Display for ListLine {
-    ghost output = { λ l. Some (line_text l.facts.limits l.facts.count (line_of l.line)) };
+    ghost output = { λ l. Some (line_text l.facts.limits l.facts.count (raw_line l.line)) };
 
     fn fmt<W: fmt::Write>(&self, f: &mut fmt::Formatter<W>) -> fmt::Result {
         let kind = kind_of(self.line.kind);
@@ -66,12 +66,12 @@ impl ListLines<'_> {
     fn line(&self, number: usize) -> ListLine
         requires { number < self.now.count }
         ensures facts { result.facts ≡ self.now.facts }
-        ensures line { line_of result.line ≡ line_at self.now.facts.limits self.now.list.now (head_bytes + self.now.facts.limits.line * number) }
+        ensures line { raw_line result.line ≡ line_at self.now.facts.limits self.now.list.now (head_bytes + self.now.facts.limits.line * number) }
     {
-        let size = self.facts.limits.line;
+        let reader = ListReader::at(self.list, number, self.facts.limits);
         ListLine {
             facts: self.facts,
-            line: read_line(self.list, number, size),
+            line: reader.read(),
         }
     }
 }

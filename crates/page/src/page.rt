@@ -10,8 +10,8 @@ ghost use Rattle.page.specs.Pages.{following, PageOf};
 use crate::answers::FirstLine;
 use crate::list::{ListLines, TooLong};
 use crate::marks::Facts;
+use blocks::Problem;
 use judge::judge_task;
-use look::Found;
 use model::{CaseList, Limits, Refusal, Verdict};
 use std::io::Write;
 use std::{fmt, io};
@@ -102,7 +102,7 @@ fn judge_blocks(problem: &[u8], plan: &[u8], list: &mut [u8]) -> FirstLine
     requires { head_bytes + version1.line * version1.lines ≤ length list.old }
     ensures { PageOf problem.now plan.now list.new result }
 {
-    let found = match Found::read(problem) {
+    let found = match Problem::read(problem) {
         Err(refusal) => return refused(refusal),
         Ok(found) => found,
     };
@@ -117,8 +117,8 @@ fn judge_blocks(problem: &[u8], plan: &[u8], list: &mut [u8]) -> FirstLine
     let verdict = judge_task(&task, GRANT, &mut lines);
     FirstLine {
         facts: Facts {
-            limits: task.problem.limits,
-            count: task.problem.facts(),
+            limits: found.limits,
+            count: found.facts,
         },
         answer: Ok(verdict),
     }

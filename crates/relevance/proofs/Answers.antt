@@ -1,38 +1,41 @@
 -- What is refused, and what is answered of a task that was read. Assumes nothing.
 use mathlib.Core.Path.{◌≡◌, refl, sym, ap, ap₂, ◌∙◌}
 use mathlib.Core.Bool.{Bool, true, false, cond}
-use mathlib.Core.List.{List, ◌++◌, map}
+use mathlib.Core.List.{List, ◌++◌}
 use Prim.Native.Nat.{ℕ, suc, ◌+◌, ◌*◌, ◌≤◌}
 use native.Mathlib.Nat.{mul-le-mul_left, mul-le-mul_right, le_trans}
 use native.Mathlib.Omega.{arith}
 use lib.ListN.{length, drop}
 use lib.Seq.{sets-eq}
 use lib.Dec.{ltb}
-use Rattle.std.specs.Prelude.{Ok, Err}
+use Rattle.std.specs.Prelude.{Result, Ok, Err}
 use Rattle.model.specs.declared.Refusal.{Refusal}
+use Rattle.model.specs.Faults.{fault_number}
 use Rattle.model.specs.Limits.{version1, max_steps}
-use Rattle.model.specs.Kleene.{known}
 use Rattle.model.specs.Answer as Answer
 use Rattle.model.specs.Answer.{Answer, refused, answered}
-use Rattle.model.specs.Answers.{refusal}
+use Rattle.model.specs.Answers.{refusal, plain_answer}
 use Rattle.model.specs.Run as Run
 use Rattle.model.specs.Run.{run}
 use Rattle.model.specs.Case.{state_of, Task, run_of}
 use Rattle.model.specs.Relevance.{relevant, states, rows, number_of, relevant_to, work_bytes, run_rows}
-use Rattle.model.specs.Operations.{is_state_number, when_reached, read_task, reached_task, relevant_facts}
+use Rattle.model.specs.Operations.{when_reached, read_task, reached_task, relevant_facts}
 use Rattle.model.proofs.Laws.Relevance.{relevant-length, start-length}
 use Rattle.model.proofs.Laws.Tracing.{rows-length}
 use borrow.Author.Tests.{ltb-false}
-use Rattle.blocks.specs.declared.task.Problem as problems
+use Rattle.blocks.specs.declared.problem.Problem as problems
 use Rattle.blocks.specs.declared.task.Task as tasks
 use Rattle.blocks.specs.Values.{task}
-use Rattle.blocks.proofs.FoundTasks.{task-width, task-facts, plan-length}
+use Rattle.blocks.proofs.Tasks.{task-facts, plan-length}
 use Rattle.cases.specs.declared.cases.Cases.{Cases}
+use Rattle.cases.specs.Cases.{case_of}
 use Rattle.backward.specs.declared.facts.FactSet.{FactSet}
 use Rattle.backward.specs.Facts.{HasFacts}
 use Rattle.backward.specs.Rows.{Shows, WithinTask, PutsRun, TracesBack}
 use Rattle.backward.proofs.Writing.{rows_in}
-use Rattle.relevance.specs.Tracing.{numbers_state, HasState, ReadsState, ChecksRun, ChecksRoom, TracesTask}
+use Rattle.runs.specs.States.{HasState, StateOf}
+use Rattle.runs.proofs.States.{case-known, state-run}
+use Rattle.relevance.specs.Tracing.{ChecksRun, ChecksRoom, TracesTask}
 
 -- ---- the run of a state, written down and gone through backward
 
@@ -66,10 +69,10 @@ unfolding relevant_facts
 leaves-refused problem plan s before n q e = rw e (refl, refl)
 
 pub relevant-refused :
-    (problem plan : List ℕ) {y : Refusal} → read_task version1 problem plan ≡ refusal y → (s : ℕ) (before : List ℕ) →
+    (problem plan : List ℕ) (y : Refusal) → read_task version1 problem plan ≡ refusal y → (s : ℕ) (before : List ℕ) →
     Leaves problem plan s before (refusal y) before
 unfolding reached_task Answer.◌>>=◌
-relevant-refused problem plan {y} e s before = leaves-refused problem plan s before y.number y.place (rw e)
+relevant-refused problem plan y e s before = leaves-refused problem plan s before (fault_number y.fault) y.place (rw e)
 
 -- a run that is not reached, and one that is
 abbrev passed : Answer (Unit {0})
@@ -94,44 +97,39 @@ is-reached Run.reached e = refl
 is-reached Run.missed e = cc
 is-reached (Run.blocked p) e = cc
 
-module _ (problem plan : List ℕ) (T : Task) (read : read_task version1 problem plan ≡ answered T) (n≤w : T.facts ≤ T.width) (s : ℕ) (before : List ℕ)
-    (w n : ℕ) (w-is : w ≡ T.width) (n-is : n ≡ T.facts) where
+module _ (problem plan : List ℕ) (T : Task) (read : read_task version1 problem plan ≡ answered T) (s : ℕ) (before : List ℕ) where
   abbrev room : ℕ
   room = length before
 
-  tested : numbers_state w n s ≡ is_state_number T s
-  unfolding is_state_number
-  tested = ap₂ (λ (x y : ℕ). numbers_state x y s) w-is n-is
-
-  pub relevant-no-state : {y : Refusal} → ReadsState w n s (Err y) → Leaves problem plan s before (refusal y) before
+  pub relevant-no-state : (y : Refusal) → StateOf T s (Err y) → Leaves problem plan s before (refusal y) before
   unfolding reached_task Answer.◌>>=◌
-  relevant-no-state {y} (none, e) = leaves-refused problem plan s before y.number y.place (rw (read, sym tested ∙ none, e) refl)
+  relevant-no-state y (none, e) = leaves-refused problem plan s before (fault_number y.fault) y.place (rw (read, none, e) refl)
 
-  module _ (c : Cases) (H : HasState w n s c) where
+  module _ (c : Cases) (H : HasState T s c) where
     shows : Shows c (state_of T.width T.facts s)
-    shows = H.shows ∙ ap₂ (λ (x y : ℕ). map known (state_of x y s)) w-is n-is
+    shows = H.cases 0 (omega arith) ∙ case-known T.width T.facts s
 
     checked : reached_task version1 problem plan s room ≡ when_reached (run_of T s) (cond (ltb room (work_bytes T)) (refused 42 0) (answered T))
     unfolding reached_task Answer.◌>>=◌
-    checked = rw (read, sym tested ∙ H.is) refl
+    checked = rw (read, H.is) refl
 
-    pub relevant-unrun : {y : Refusal} → ChecksRun T c (Err y) → Leaves problem plan s before (refusal y) before
-    unfolding run_of
-    relevant-unrun {y} R =
-        leaves-refused problem plan s before y.number y.place
-        (checked ∙ not-reached (run_of T s) y.number y.place (R (state_of T.width T.facts s) (start-length T n≤w s) shows) _)
+    ran : (r : Result (Unit {0}) Refusal) → ChecksRun T (case_of c 0) r → plain_answer r ≡ when_reached (run_of T s) passed
+    ran r R = R ∙ ap (λ (o : Run.Outcome). when_reached o passed) (state-run T s c H)
 
-    module _ (u : Unit {0}) (R : ChecksRun T c (Ok u)) where
+    pub relevant-unrun : (y : Refusal) → ChecksRun T (case_of c 0) (Err y) → Leaves problem plan s before (refusal y) before
+    relevant-unrun y R =
+        leaves-refused problem plan s before (fault_number y.fault) y.place (checked ∙ not-reached (run_of T s) (fault_number y.fault) y.place (ran (Err y) R) _)
+
+    module _ (u : Unit {0}) (R : ChecksRun T (case_of c 0) (Ok u)) where
       reaches : run_of T s ≡ Run.reached
-      unfolding run_of
-      reaches = is-reached (run_of T s) (R (state_of T.width T.facts s) (start-length T n≤w s) shows)
+      reaches = is-reached (run_of T s) (ran (Ok u) R)
 
       module _ (need : ℕ) (need-is : need ≡ work_bytes T) where
         tests-room : reached_task version1 problem plan s room ≡ cond (ltb room need) (refused 42 0) (answered T)
         tests-room = checked ∙ rw (reaches, need-is) refl
 
-        pub relevant-short : {y : Refusal} → ChecksRoom need room (Err y) → Leaves problem plan s before (refusal y) before
-        relevant-short {y} C = leaves-refused problem plan s before y.number y.place (tests-room ∙ too-short (ltb room need) y.number y.place C (answered T))
+        pub relevant-short : (y : Refusal) → ChecksRoom need room (Err y) → Leaves problem plan s before (refusal y) before
+        relevant-short y C = leaves-refused problem plan s before (fault_number y.fault) y.place (tests-room ∙ too-short (ltb room need) (fault_number y.fault) y.place C (answered T))
 
         pub relevant-found : (v : Unit {0}) → ChecksRoom need room (Ok v) → (m : ℕ) (after : List ℕ) → WithinTask T → TracesTask T c before m after → Leaves problem plan s before (answered m) after
         unfolding relevant_facts
@@ -142,9 +140,6 @@ module _ (problem plan : List ℕ) (T : Task) (read : read_task version1 problem
 -- ---- a task of a problem, and the bytes that its rows need
 
 module _ (t : tasks.Task) (p : problems.Problem) (e : t.problem.now ≡ p) where
-  pub width-is : p.limits.width ≡ (task t).width
-  width-is = sym (task-width t ∙ ap (λ (x : problems.Problem). x.limits.width) e)
-
   pub facts-is : p.facts ≡ (task t).facts
   facts-is = sym (task-facts t ∙ ap (λ (x : problems.Problem). x.facts) e)
 

@@ -1,5 +1,4 @@
 -- Laws of the definitions, for several functions' proofs.
 pub mod Answers
 pub mod Promise
-pub mod Running
 pub mod Within

@@ -21,7 +21,7 @@ use Rattle.model.specs.Operations.{task_of, read_task}
 use Rattle.model.proofs.Laws.Truth.{or_cases}
 use Rattle.model.proofs.Laws.Tasks.{answer-then}
 use Rattle.model.proofs.Demands.{version1-holds}
-use Rattle.blocks.proofs.Standing.{step-action}
+use Rattle.blocks.proofs.Tasks.{step-action}
 use Rattle.backward.specs.Rows.{WithinAction, WithinTask}
 
 mutual

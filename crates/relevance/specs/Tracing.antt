@@ -1,7 +1,7 @@
 -- What is refused before anything is written, and what is answered then.
-use Rattle.std.specs.Prelude.{◌≡◌, Bool, true, false, cond, ◌&&◌, List, ◌++◌, ℕ, ◌-◌, ◌%◌, ◌^◌, length, drop, eqb, ltb, Result, Ok, Err}
+use Rattle.std.specs.Prelude.{◌≡◌, cond, List, ◌++◌, ℕ, drop, ltb, Result}
 use Rattle.model.specs.declared.Refusal.{Refusal}
-use Rattle.model.specs.Kleene.{two}
+use Rattle.model.specs.Kleene.{Kleene, three}
 use Rattle.model.specs.Answer.{refused, answered}
 use Rattle.model.specs.Answers.{plain_answer}
 use Rattle.model.specs.Run.{reached, run}
@@ -11,23 +11,9 @@ use Rattle.model.specs.Operations.{when_reached}
 use Rattle.cases.specs.declared.cases.Cases.{Cases}
 use Rattle.backward.specs.Rows.{Shows, WithinTask}
 
--- whether s is the number of a state of n facts, w bits wide
-abbrev pub numbers_state : ℕ → ℕ → ℕ → Bool
-numbers_state w n s = ltb s (2 ^ w) && eqb (s % 2 ^ (w - n)) 0
-
--- it is one, and lane 0 has that state
-pub record HasState (w n s : ℕ) (c : Cases) : Type 0 where
-  pub is : numbers_state w n s ≡ true
-  pub facts : c.facts ≡ n
-  pub shows : Shows c (state_of w n s)
-
-abbrev pub ReadsState : ℕ → ℕ → ℕ → Result Cases Refusal → Type 0
-ReadsState w n s (Err r) = (numbers_state w n s ≡ false) × (r ≡ record { number = 40; place = 0 })
-ReadsState w n s (Ok c) = HasState w n s c
-
 -- "41 if the run is not reached"
-abbrev pub ChecksRun : Task → Cases → Result (Unit {0}) Refusal → Type 0
-ChecksRun T c r = (st : List Bool) → length st ≡ T.facts → Shows c st → plain_answer r ≡ when_reached (run two T.facts T.goal T.plan 0 st) (answered tt)
+abbrev pub ChecksRun : Task → List Kleene → Result (Unit {0}) Refusal → Type 0
+ChecksRun T v r = plain_answer r ≡ when_reached (run three T.facts T.goal T.plan 0 v) (answered tt)
 
 -- "and 42 if the work area is short"
 abbrev pub ChecksRoom : ℕ → ℕ → Result (Unit {0}) Refusal → Type 0

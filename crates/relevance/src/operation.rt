@@ -4,69 +4,35 @@ ghost use Rattle.model.specs.Limits.{version1};
 ghost use Rattle.model.specs.Operations.{relevant_facts};
 ghost use Rattle.model.specs.Answers.{plain_answer};
 ghost use Rattle.blocks.specs.Values.{task as task_of};
-ghost use Rattle.relevance.specs.Tracing.{ReadsState, ChecksRun, ChecksRoom, TracesTask};
+ghost use Rattle.cases.specs.Cases.{case_of};
+ghost use Rattle.relevance.specs.Tracing.{ChecksRun, ChecksRoom, TracesTask};
 ghost use Rattle.relevance.specs.Promise.{RelevantPromised};
 
 use backward::{put_run, trace_back};
-use blocks::task::{Problem, Task};
-use cases::{Cases, evaluate};
-use model::Refusal;
-use numbers::low_bits;
-use obey::{Conditions, obey};
+use blocks::{Problem, Task};
+use cases::Cases;
+use model::{Fault, Outcome, Refusal};
+use runs::{run_of_case, state_cases};
+use step::Conditions;
 
-fn refusal(number: u8) -> Refusal
-    ensures { result ≡ record { place = 0; number = number } }
-{
-    Refusal { number, place: 0 }
-}
-
-// The state with this number in every lane; 40 if it has a bit past the declared facts.
-fn read_state(problem: &Problem, state: u64) -> Result<Cases, Refusal>
-    ensures { ReadsState problem.now.limits.width problem.now.facts state result }
-{
-    let width = problem.limits.width;
-    if low_bits(state, width as usize) != state {
-        return Err(refusal(40));
-    }
-    if low_bits(state, (width - problem.facts) as usize) != 0 {
-        return Err(refusal(40));
-    }
-    let mut cases = Cases::none_fixed(problem.facts);
-    for f in 0..problem.facts {
-        let yes = if (state >> (width - 1 - f)) % 2 == 1 {
-            u64::MAX
-        } else {
-            0
-        };
-        cases.fix(f, yes);
-    }
-    Ok(cases)
-}
-
-// 41 if the run of the state that the cases have is not reached.
+// Refuses the run of the state that the cases have, unless it reaches the goal.
 fn check_run(task: &Task, cases: &Cases) -> Result<(), Refusal>
     requires { cases.now.facts ≡ task.now.problem.now.facts }
-    ensures { ChecksRun (task_of task.now) cases.now result }
+    ensures { ChecksRun (task_of task.now) (case_of cases.now 0) result }
 {
-    let mut current = *cases;
     let mut conditions = Conditions::new();
-    for i in 0..task.steps.len() {
-        let Ok(_) = obey(task.action(i), &mut current, &mut conditions, 1) else {
-            return Err(refusal(41));
-        };
+    match run_of_case(task, cases, &mut conditions) {
+        Outcome::Reached => Ok(()),
+        Outcome::Missed | Outcome::Blocked(_) => Err(Fault::RunNotReached.at(0)),
     }
-    if !evaluate(task.problem.goal, &current).is_yes(0) {
-        return Err(refusal(41));
-    }
-    Ok(())
 }
 
-// 42 if there is less room than a run's rows need.
+// Refuses less room than a run's rows need.
 fn check_room(need: usize, room: usize) -> Result<(), Refusal>
     ensures { ChecksRoom need room result }
 {
     if room < need {
-        return Err(refusal(42));
+        return Err(Fault::ShortWork.at(0));
     }
     Ok(())
 }
@@ -96,7 +62,7 @@ pub fn relevant_facts(
 {
     let found = Problem::read(problem)?;
     let task = found.plan(plan)?;
-    let mut cases = read_state(&found, state)?;
+    let mut cases = state_cases(&task, state)?;
     check_run(&task, &cases)?;
     let need = (task.steps.len() + 1) * found.facts as usize;
     check_room(need, work.len())?;

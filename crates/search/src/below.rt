@@ -1,107 +1,120 @@
-// The plans of a problem, tried one after another. Those that begin alike share the table of cases after their first steps, so that a plan costs
-// its last step and the goal before the walk goes through the looks.
-ghost use Rattle.std.specs.Prelude.{◌+◌, ◌≤◌, ◌<◌};
-ghost use Rattle.look.specs.Tasks.{actions_of};
-ghost use Rattle.model.specs.Answers.{Room};
+// The plans of a problem, tried one after another. Those that begin alike share the cases after their first steps, so that a plan costs its
+// last step and the goal before the walk goes through the looks.
+ghost use Rattle.std.proofs.Props.{props};
+ghost use Rattle.std.specs.Prelude.{◌≤◌};
 ghost use Rattle.model.specs.Limits.{max_length};
-ghost use Rattle.search.specs.Trying.{Extends, TriesBelow, TriesStep, TriesLengths};
+ghost use Rattle.search.specs.Beginning.{IsBegun};
+ghost use Rattle.search.specs.Trying.{ComesToEnd};
 
 use crate::plan::{Ended, Root};
-use look::Desk;
+use blocks::Task;
+use cases::{Cases, ONES};
 use model::ShortPlan;
+use runs::{Looks, reached_lanes};
+use step::{Conditions, obey};
+use walk::{Stopped, Unkept, walk_first};
 
-// The plans that begin so: their first steps, the lanes that go on after them, and the table of their values.
+// The plans that begin so: their first steps, the lanes of the first block that go on after them, and the cases there then.
 #[derive(Clone, Copy)]
 pub struct Begun<'a> {
+    pub root: &'a Root<'a>,
     pub plan: ShortPlan,
     pub alive: u64,
-    pub table: &'a [u64; 256],
+    pub cases: &'a Cases,
+    pub ghost begun: { IsBegun root.now plan alive cases.now } by { Prim.hlevel props },
 }
 
-// A plan with a step more.
-fn extended(plan: ShortPlan, step: u8) -> ShortPlan
-    requires { Room plan 1 }
-    ensures { Extends plan step result }
-{
-    let length = plan.length;
-    let mut steps = plan.steps;
-    steps[length] = step;
-    ShortPlan {
-        length: length + 1,
-        steps,
-    }
-}
+impl Begun<'_> {
+    ghost use Rattle.std.specs.Prelude.{[], ◌∷◌, ◌++◌, ◌+◌, ◌≤◌, ◌<◌, length};
+    ghost use Rattle.search.specs.Trying.{longer, Comes};
 
-// Every plan that begins so and has so many more steps.
-#[cycle(plans)]
-fn try_below(
-    root: &Root,
-    begun: &Begun,
-    more: usize,
-    left: u64,
-    desk: &mut Desk,
-) -> Result<u64, Ended>
-    requires { Room begun.now.plan more }
-    ensures { TriesBelow root.now begun.now more left result }
-{
-    if more == 0 {
-        let carries = root.reached_lanes(begun.table, begun.alive);
-        return root.try_plan(begun.plan, carries, left);
+    // The plan with no more steps, judged with the visits that are left: those that are left after it, where it is wrong.
+    fn try_plan(&self, left: u64, conditions: &mut Conditions) -> Result<u64, Ended>
+        ensures { Comes self.now.root.now.problem.now (self.now.plan ∷ []) left result }
+    {
+        let root = self.root;
+        let task = Task::of(root.problem, self.plan.steps());
+        let looks = Looks {
+            empty: ONES ^ root.starts,
+            carries: reached_lanes(root.problem, self.cases, self.alive),
+        };
+        match walk_first(&task, root.first, looks, left, &mut Unkept, conditions) {
+            Ok(closed) => Err(Ended::Right {
+                plan: self.plan,
+                left: closed.left,
+            }),
+            Err(Stopped::OutOfVisits) => Err(Ended::Undecided { plan: self.plan }),
+            Err(Stopped::Failed { state: _, left }) => Ok(left),
+        }
     }
-    let mut rest = left;
-    let actions = root.problem.actions();
-    for step in 0..actions {
-        rest = try_step(root, begun, step, more - 1, rest, desk)?;
-    }
-    Ok(rest)
-}
 
-// Those whose next step is `step`, with so many more after it. Where no lane goes on there is nothing to obey.
-#[cycle(plans)]
-fn try_step(
-    root: &Root,
-    begun: &Begun,
-    step: u8,
-    more: usize,
-    left: u64,
-    desk: &mut Desk,
-) -> Result<u64, Ended>
-    requires action { step < actions_of root.now.problem.now }
-    requires room { Room begun.now.plan (more + 1) }
-    ensures { TriesStep root.now begun.now step more left result }
-{
-    let plan = extended(begun.plan, step);
-    if begun.alive == 0 {
-        let next = Begun { plan, ..*begun };
-        return try_below(root, &next, more, left, desk);
+    // Every plan with so many more steps.
+    #[cycle(plans)]
+    fn try_below(&self, more: usize, left: u64, conditions: &mut Conditions) -> Result<u64, Ended>
+        requires { length self.now.plan + more ≤ max_length }
+        ensures { let p = self.now.root.now.problem.now in Comes p (longer p self.now.plan more) left result }
+    {
+        if more == 0 {
+            return self.try_plan(left, conditions);
+        }
+        let mut rest = left;
+        for step in 0..self.root.problem.actions {
+            rest = self.try_step(step, more - 1, rest, conditions)?;
+        }
+        Ok(rest)
     }
-    let mut table = *begun.table;
-    let going = root.problem.obey(step, &mut table, desk, begun.alive);
-    let next = Begun {
-        plan,
-        alive: going.lanes,
-        table: &table,
-    };
-    try_below(root, &next, more, left, desk)
+
+    // Those whose next step is `step`, with so many more after it. Where no lane goes on there is nothing to obey.
+    #[cycle(plans)]
+    fn try_step(
+        &self,
+        step: u8,
+        more: usize,
+        left: u64,
+        conditions: &mut Conditions,
+    ) -> Result<u64, Ended>
+        requires action { step < self.now.root.now.problem.now.actions }
+        requires room { length self.now.plan + more < max_length }
+        ensures { let p = self.now.root.now.problem.now in Comes p (longer p (self.now.plan ++ step ∷ []) more) left result }
+    {
+        let plan = self.plan.extended(step);
+        if self.alive == 0 {
+            let next = Begun {
+                root: self.root,
+                plan,
+                alive: 0,
+                cases: self.cases,
+            };
+            return next.try_below(more, left, conditions);
+        }
+        let mut cases = *self.cases;
+        let action = self.root.problem.action(step);
+        let going = obey(action, &mut cases, conditions, self.alive).unwrap_or(0);
+        let next = Begun {
+            root: self.root,
+            plan,
+            alive: going,
+            cases: &cases,
+        };
+        next.try_below(more, left, conditions)
+    }
 }
 
 // Every plan of each length up to the longest: the visits that are left, where none is right.
 pub fn try_lengths(root: &Root, longest: usize, grant: u64) -> Result<u64, Ended>
     requires { longest ≤ max_length }
-    ensures { TriesLengths root.now longest grant result }
+    ensures { ComesToEnd root.now.problem.now longest grant result }
 {
-    let mut desk = Desk::new();
+    let mut conditions = Conditions::new();
     let begun = Begun {
-        plan: ShortPlan {
-            length: 0,
-            steps: [0u8; ShortPlan::MAX_STEPS],
-        },
+        root,
+        plan: ShortPlan::empty(),
         alive: root.starts,
-        table: root.table,
+        cases: root.first.cases,
     };
     let mut left = grant;
     for length in 0..longest + 1 {
-        left = try_below(root, &begun, length, left, &mut desk)?;
+        left = begun.try_below(length, left, &mut conditions)?;
     }
     Ok(left)
 }

@@ -1,18 +1,19 @@
 // Try every short plan, in order.
 ghost use Rattle.std.specs.Prelude.{◌≡◌, ◌≤◌};
 ghost use Rattle.model.specs.Limits.{version1, max_actions, max_length};
-ghost use Rattle.model.specs.Search.{plan_count};
-ghost use Rattle.model.specs.Operations.{search_plans};
-ghost use Rattle.model.specs.Answers.{search_answer, search_room};
-ghost use Rattle.search.specs.Trying.{TriesProblem};
+ghost use Rattle.model.specs.Search.{plan_count, search};
+ghost use Rattle.model.specs.Operations.{plans_in, search_plans};
+ghost use Rattle.model.specs.Answers.{search_end, search_answer};
+ghost use Rattle.blocks.specs.Values.{problem as problem_of};
+ghost use Rattle.search.specs.Beginning.{task_with};
 ghost use Rattle.search.specs.Promise.{SearchPromised};
 
 use crate::below::try_lengths;
-use crate::plan::{Ended, Root};
-use look::Found;
-use model::{Refusal, Search, ShortPlan};
-use table::{fix_levels, none_fixed};
-use walk::first_levels;
+use crate::plan::Root;
+use blocks::Problem;
+use cases::{Cases, evaluate};
+use model::{Fault, Refusal, Search, ShortPlan};
+use walk::FirstBlock;
 
 // The plans up to a length: the empty one, and each action before every plan that is a step shorter.
 fn plan_count(actions: u64, longest: u64) -> u64
@@ -28,33 +29,22 @@ fn plan_count(actions: u64, longest: u64) -> u64
 }
 
 // The plans of a problem, up to a length.
-fn search_problem(problem: &Found, longest: usize, grant: u64) -> Search
+fn search_problem(problem: &Problem, longest: usize, grant: u64) -> Search
     requires { longest ≤ max_length }
-    ensures { TriesProblem problem.now longest grant result }
+    ensures { search_end result ≡ search (task_with problem.now) grant (plans_in (problem_of problem.now) longest) 0 }
 {
-    let facts = problem.facts() as usize;
-    let levels = first_levels(facts);
-    let mut table = none_fixed(facts);
-    fix_levels(&mut table, 0, levels);
-    let looked = problem.initial(&table);
+    let mut cases = Cases::none_fixed(problem.facts);
+    let first = FirstBlock::of(&mut cases);
     let root = Root {
         problem,
-        table: &table,
-        levels,
-        starts: looked.some,
+        first: &first,
+        starts: evaluate(problem.initial, first.cases).some,
     };
     match try_lengths(&root, longest, grant) {
         Ok(left) => Search::NoneRight {
             visits: grant - left,
         },
-        Err(Ended::Right { plan, left }) => Search::Found {
-            plan,
-            visits: grant - left,
-        },
-        Err(Ended::Undecided { plan }) => Search::Undecided {
-            plan,
-            visits: grant,
-        },
+        Err(ended) => ended.answer(grant),
     }
 }
 
@@ -63,20 +53,13 @@ fn search_problem(problem: &Found, longest: usize, grant: u64) -> Search
 pub fn search_plans(problem: &[u8], longest: u64, grant: u64) -> Result<Search, Refusal>
     ensures answer { search_answer result ≡ search_plans version1 problem.now longest grant }
     ensures promised { SearchPromised problem.now longest grant (search_answer result) }
-    ensures room { search_room result }
 {
-    let found = Found::read(problem)?;
+    let found = Problem::read(problem)?;
     if longest > ShortPlan::MAX_STEPS as u64 {
-        return Err(Refusal {
-            number: 43,
-            place: 0,
-        });
+        return Err(Fault::PlanLength.at(0));
     }
-    if plan_count(found.actions() as u64, longest) > ShortPlan::MAX_PLANS {
-        return Err(Refusal {
-            number: 44,
-            place: 0,
-        });
+    if plan_count(found.actions as u64, longest) > ShortPlan::MAX_PLANS {
+        return Err(Fault::TooManyPlans.at(0));
     }
     Ok(search_problem(&found, longest as usize, grant))
 }

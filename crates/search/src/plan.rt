@@ -1,23 +1,22 @@
-// One plan: what all plans of a problem have in common, and its walk with the visits that are left.
-ghost use Rattle.std.specs.Prelude.{◌≡◌, length};
-ghost use Rattle.look.specs.Tasks.{facts_of};
-ghost use Rattle.model.specs.Answers.{Room};
-ghost use Rattle.walk.specs.Walks.{BlockFits, whole_case};
+// What all plans of a problem have in common, and what ends their search.
+ghost use Rattle.std.proofs.Props.{props};
+ghost use Rattle.std.specs.Prelude.{◌≡◌};
+ghost use Rattle.blocks.specs.Values.{problem as problem_of};
+ghost use Rattle.cases.specs.Cases.{case_of};
+ghost use Rattle.search.specs.Starts.{NotEmpty};
 
-use look::{Found, Looks, Task};
-use model::ShortPlan;
-use table::ONES;
-use walk::{Block, Case, Closed, Stopped, Unkept, walk_case};
+use blocks::Problem;
+use model::{Search, ShortPlan};
+use walk::FirstBlock;
 
-// What all plans have in common: the problem, the table of the first block and its levels, and which of its lanes are not empty.
+// The problem, the block that every walk begins with, and which of its lanes are not empty.
 #[derive(Clone, Copy)]
 pub struct Root<'a> {
-    pub problem: &'a Found<'a>,
-    pub table: &'a [u64; 256],
-    pub levels: usize,
+    pub problem: &'a Problem<'a>,
+    pub first: &'a FirstBlock<'a>,
     pub starts: u64,
-    ghost fits: { BlockFits problem.now.limits.width (whole_case (facts_of problem.now)) levels },
-    ghost sized: { length table.now ≡ 256 },
+    pub ghost facts: { first.now.cases.now.facts ≡ problem.now.facts },
+    pub ghost not_empty: { NotEmpty (problem_of problem.now).initial (case_of first.now.cases.now) starts } by { Prim.hlevel props },
 }
 
 // What ends a search: the first right plan, with the visits that are left, or the first plan that needs more.
@@ -27,59 +26,24 @@ pub enum Ended {
     Undecided { plan: ShortPlan },
 }
 
-impl Root<'_> {
-    ghost use Rattle.search.specs.Trying.{WalksPlan, TriesPlan, ReachedLanes};
+impl Ended {
+    ghost use Rattle.model.specs.Answers.{search_end};
+    ghost use Rattle.search.specs.Trying.{ended_at, EndsWithin};
 
-    // The walk of a plan whose first block carries in these lanes.
-    fn walk_plan(&self, steps: &[u8], carries: u64, left: u64) -> Result<Closed, Stopped>
-        ensures { WalksPlan self.now steps.now carries left result }
+    // The answer of a search under this grant.
+    pub fn answer(self, grant: u64) -> Search
+        requires { EndsWithin grant self }
+        ensures { search_end result ≡ ended_at grant self }
     {
-        let task = Task {
-            problem: self.problem,
-            steps,
-        };
-        let block = Block {
-            table: self.table,
-            first: 0,
-            levels: self.levels,
-            looks: Looks {
-                empty: ONES ^ self.starts,
-                carries,
-            },
-        };
-        let case = Case {
-            k: 0,
-            left: self.problem.facts() as usize,
-            number: 0,
-            lane: 1,
-        };
-        walk_case(&task, &block, case, left, &mut Unkept)
-    }
-
-    // One plan, judged with the visits that are left: those that are left after it, where it is wrong.
-    pub fn try_plan(&self, plan: ShortPlan, carries: u64, left: u64) -> Result<u64, Ended>
-        requires { Room plan 0 }
-        ensures { TriesPlan self.now plan carries left result }
-    {
-        let steps = plan.steps;
-        match self.walk_plan(&steps[..plan.length], carries, left) {
-            Ok(closed) => Err(Ended::Right {
+        match self {
+            Ended::Right { plan, left } => Search::Found {
                 plan,
-                left: closed.left,
-            }),
-            Err(Stopped::OutOfVisits) => Err(Ended::Undecided { plan }),
-            Err(Stopped::Failed { state: _, left }) => Ok(left),
+                visits: grant - left,
+            },
+            Ended::Undecided { plan } => Search::Undecided {
+                plan,
+                visits: grant,
+            },
         }
-    }
-
-    // The lanes that go on after a plan's last step, and in which the goal holds.
-    pub fn reached_lanes(&self, current: &[u64; 256], alive: u64) -> u64
-        ensures { ReachedLanes self.now current.now alive result }
-    {
-        if alive == 0 {
-            return 0;
-        }
-        let r = self.problem.goal(current);
-        alive & r.sure
     }
 }

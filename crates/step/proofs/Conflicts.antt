@@ -3,11 +3,11 @@
 use mathlib.Core.Path.{◌≡◌, refl, sym, ap, ◌∙◌, subst}
 use mathlib.Core.Bool.{Bool, true, false, ◌&&◌}
 use mathlib.Core.List.{List}
-use Prim.Native.Nat.{ℕ, suc, ◌+◌, ◌*◌, ◌-◌, ◌≤◌, ◌<◌, min}
+use Prim.Native.Nat.{ℕ, suc, ◌+◌, ◌-◌, ◌≤◌, ◌<◌, min}
 use native.Mathlib.Omega.{arith}
 use native.Mathlib.Decide.{dec_lt, ℕ_discrete}
 use lib.ListN.{length, get_or}
-use lib.Bits.{bit_and, bit_xor, and_le_l}
+use lib.Bits.{bit_and, and_le_l}
 use Rattle.model.specs.Limits.{max_facts}
 use Rattle.model.specs.Kleene.{Kleene, No, Unknown, Yes, both, denied, is_yes, three}
 use Rattle.model.specs.Formula.{Literal, fact, denial, eval}
@@ -15,20 +15,29 @@ use Rattle.model.specs.FormulaBytes.{literal_byte}
 use Rattle.model.specs.Action.{Effect, Action, condition_of, every, exclusive}
 use Rattle.model.specs.Run.{lowest_false}
 use Rattle.model.specs.Case.{flag}
-use Rattle.model.specs.WellFormed.{Declared, EffectsOk}
-use Rattle.model.specs.Planes.{lane_bit, sure_bit, Table}
+use Rattle.model.specs.WellFormed.{Declared}
+use Rattle.fields.specs.ActionBytes.{Rising}
+use Rattle.model.specs.Planes.{lane_bit, sure_bit}
 use Rattle.model.proofs.Laws.Agreement.{by_row}
 use Rattle.model.proofs.Laws.Conflicts.{every-at, every-last, every-same, every-all, lowest-is}
-use Rattle.model.proofs.Laws.Planes.{ones, low_bit, bit-small, bit-and, bit-zero, lane-both, lane-denied}
-use Rattle.effects.specs.Effects.{entry_at, Entries}
-use Rattle.step.specs.Conflicts.{WithoutConflicts}
-use Rattle.effects.proofs.Entries.{byte_at, declared-at, rises, rises-from, condition-at, condition-none}
-use Rattle.effects.proofs.Settling.{fact-at, denial-at}
+use Rattle.model.proofs.Laws.Planes.{low_bit, bit-small, bit-and, bit-zero}
+use Rattle.cases.specs.declared.value.Value.{Value}
+use Rattle.cases.specs.Cases.{value_at}
+use Rattle.cases.proofs.Lanes.{lanes-of}
+use Rattle.step.specs.declared.conditions.Conditions.{Conditions}
+use Rattle.step.specs.Conditions.{entry_at, condition_at, never, Hold, LeftOut, AllLeftOut}
+use Rattle.step.proofs.Entries.{byte_at, declared-at, rises, rises-from, condition-at, condition-none}
+use Rattle.step.proofs.Settling.{fact-at, denial-at}
+use Rattle.step.proofs.Holding.{held-byte, held-rise, read-value}
 
 pub sure-flag : (t : Kleene) → sure_bit t ≡ flag (is_yes t)
 sure-flag No = refl
 sure-flag Unknown = refl
 sure-flag Yes = refl
+
+-- where a value is yes
+pub sure-yes : (v : Value) (j : ℕ) → j < 64 → lane_bit j v.sure ≡ flag (is_yes (value_at v j))
+sure-yes v j l = ((lanes-of v.some v.sure v.consistent).lane j l).is_sure ∙ sure-flag (value_at v j)
 
 pub flag-and : (a b : Bool) → flag (a && b) ≡ min (flag a) (flag b)
 flag-and true true = refl
@@ -55,9 +64,16 @@ byte-declared : (facts : ℕ) (l : Literal) → Declared facts l → literal_byt
 byte-declared facts (fact f) d = omega arith
 byte-declared facts (denial f) d = omega arith
 
+-- where one of two conditions that were read is no
+pub exclusive-is :
+    (xs : List Value) (i e : ℕ) (d d' : Value) → i < length xs → e < length xs → (y x : Value) →
+    ((j : ℕ) → j < 64 → value_at y j ≡ both (value_at (get_or xs i d) j) (value_at (get_or xs e d') j)) → ((j : ℕ) → j < 64 → value_at x j ≡ denied (value_at y j)) →
+    (j : ℕ) → j < 64 → value_at x j ≡ denied (both (value_at (get_or xs i never) j) (value_at (get_or xs e never) j))
+exclusive-is xs i e d d' h k y x p q j l = q j l ∙ rw (p j l, read-value xs i d never h, read-value xs e d' never k) refl
+
 -- ---- one fact
 
-module _ (facts : ℕ) (h : facts ≤ max_facts) (a : Action) (ok : EffectsOk facts 0 a.effects) (v : List Kleene) (f : ℕ) where
+module _ (facts : ℕ) (h : facts ≤ max_facts) (a : Action) (ok : Rising facts 0 a.effects) (v : List Kleene) (f : ℕ) where
   abbrev es : List Effect
   es = a.effects
 
@@ -92,25 +108,24 @@ pub record Passed (facts : ℕ) (a : Action) (case : ℕ → List Kleene) (n ali
   pub from : (k : ℕ) → e ≤ k → k < n → 64 ≤ byte_at a.effects k → limit + 64 ≤ byte_at a.effects k
   pub sets : (k : ℕ) → k < i → (l : ℕ) → e ≤ l → l < n → byte_at a.effects k + 64 < byte_at a.effects l
 
-pub record Passing (n : ℕ) (literals found : List ℕ) (alive lanes i e : ℕ) : Type 0 where
-  pub few : e ≤ n
+-- the entries before number e are passed, and those before number i set nothing that is yet to be cleared; these lanes are left
+pub record Passing (c : Conditions) (alive i e lanes : ℕ) : Type 0 where
+  pub few : e ≤ c.count
   pub behind : i ≤ e
   pub among : lanes ≤ alive
-  pub some : lanes ≡ 0 → alive ≡ 0
-  pub is :
-      (facts : ℕ) (a : Action) → facts ≤ max_facts → EffectsOk facts 0 a.effects → n ≡ length a.effects → (c : List ℕ) → Entries c literals found a.effects n →
-      (case : ℕ → List Kleene) → Table c case → Passed facts a case n alive lanes i e
+  pub some : lanes ≡ 0 → ⊥
+  pub is : (a : Action) (case : ℕ → List Kleene) → Hold c a.effects case → Passed c.facts a case c.count alive lanes i e
 
-pub passing_begins : (n : ℕ) (literals found : List ℕ) (alive : ℕ) → Passing n literals found alive alive 0 0
+pub passing-begins : (c : Conditions) (alive : ℕ) → 0 < alive → Passing c alive 0 0 alive
 unfolding every
-passing_begins n literals found alive =
+passing-begins c alive h =
     record {
       few = omega arith;
       behind = omega arith;
       among = omega arith;
-      some = λ e. e;
+      some = λ e. omega arith;
       is =
-          λ facts a h ok z c x case t.
+          λ a case H.
           record {
             limit = 0;
             few = omega arith;
@@ -121,20 +136,24 @@ passing_begins n literals found alive =
           };
     }
 
-module _ (n : ℕ) (literals found : List ℕ) (alive lanes i e : ℕ) (P : Passing n literals found alive lanes i e) (more : e < n) where
+module _ (c : Conditions) (alive lanes i e : ℕ) (P : Passing c alive i e lanes) (more : e < c.count) where
+  abbrev byte : ℕ → ℕ
+  byte k = get_or c.literals k 0
+
   -- entry i sets a fact that no entry from e on clears
-  pub passing-set : get_or literals i 0 + 64 < get_or literals e 0 → Passing n literals found alive lanes (i + 1) e
+  pub passing-set : byte i + 64 < byte e → Passing c alive (i + 1) e lanes
   passing-set b =
       record {
         few = P.few;
-        behind = elim (ℕ_discrete i e) [ yes d ↦ absurd (omega (arith, ap (λ (x : ℕ). get_or literals x 0) d)) | no d ↦ omega (arith, P.behind) ];
+        behind = elim (ℕ_discrete i e) [ yes d ↦ absurd (omega (arith, ap byte d)) | no d ↦ omega (arith, P.behind) ];
         among = P.among;
         some = P.some;
         is =
-            λ facts a h ok z c x case t.
-            let p = P.is facts a h ok z c x case t in
-            let u = x.literal i (omega (arith, P.behind)) in
-            let w = x.literal e more in
+            λ a case H.
+            let p = P.is a case H in
+            let u = held-byte c a.effects case H i (omega (arith, P.behind)) in
+            let w = held-byte c a.effects case H e more in
+            let ok = held-rise c a.effects case H in
             record {
               limit = p.limit;
               few = p.few;
@@ -144,14 +163,13 @@ module _ (n : ℕ) (literals found : List ℕ) (alive lanes i e : ℕ) (P : Pass
               sets =
                   λ k l m d q.
                   elim (ℕ_discrete k i) [
-                    | yes g ↦ rw g (omega (arith, rises-from facts a.effects e m ok d (omega arith)))
+                    | yes g ↦ rw g (omega (arith, rises-from c.facts a.effects e m ok d (omega (arith, H.count))))
                     | no g ↦ p.sets k (omega arith) m d q
                   ];
             };
       }
 
-  module _ (facts : ℕ) (a : Action) (h : facts ≤ max_facts) (ok : EffectsOk facts 0 a.effects) (z : n ≡ length a.effects)
-      (case : ℕ → List Kleene) (p : Passed facts a case n alive lanes i e) where
+  module _ (a : Action) (case : ℕ → List Kleene) (H : Hold c a.effects case) (p : Passed c.facts a case c.count alive lanes i e) where
     -- entry e
     abbrev b : ℕ
     b = byte_at a.effects e
@@ -159,16 +177,19 @@ module _ (n : ℕ) (literals found : List ℕ) (alive lanes i e : ℕ) (P : Pass
     abbrev q : ℕ → ℕ → Bool
     q j = exclusive three a (case j)
 
-    within : b < facts + 64
-    within = byte-declared facts (entry_at a.effects e).literal (declared-at facts 0 a.effects e ok (omega arith))
+    ok : Rising c.facts 0 a.effects
+    ok = held-rise c a.effects case H
+
+    within : b < c.facts + 64
+    within = byte-declared c.facts (entry_at a.effects e).literal (declared-at c.facts 0 a.effects e ok (omega (arith, H.count)))
 
     -- no entry clears the facts between
     between : (j f : ℕ) → p.limit ≤ f → f + 64 < b → q j f ≡ true
     between j f l m =
-        not-cleared facts h a ok (case j) f (omega (arith, within)) λ k d y.
+        not-cleared c.facts c.few_facts a ok (case j) f (omega (arith, within)) λ k d y.
         elim (dec_lt k e) [
           | yes u ↦ omega (arith, p.before k u)
-          | no u ↦ omega (arith, rises-from facts a.effects e k ok (omega arith) d)
+          | no u ↦ omega (arith, rises-from c.facts a.effects e k ok (omega arith) d)
         ]
 
     one_more : 64 ≤ b → (j : ℕ) → flag (every (suc (b - 64)) (q j)) ≡ min (flag (every p.limit (q j))) (flag (q j (b - 64)))
@@ -180,7 +201,7 @@ module _ (n : ℕ) (literals found : List ℕ) (alive lanes i e : ℕ) (P : Pass
     -- it was passed, and these lanes are left: where it clears a fact, those in which that is not in conflict
     passed :
         (lanes' : ℕ) → (b < 64 → lanes' ≡ lanes) → (64 ≤ b → (j : ℕ) → j < 64 → lane_bit j lanes' ≡ min (lane_bit j lanes) (flag (q j (b - 64)))) →
-        Passed facts a case n alive lanes' i (e + 1)
+        Passed c.facts a case c.count alive lanes' i (e + 1)
     passed lanes' low high =
         elim (dec_lt b 64) [
           | yes l ↦
@@ -188,7 +209,7 @@ module _ (n : ℕ) (literals found : List ℕ) (alive lanes i e : ℕ) (P : Pass
                 limit = p.limit;
                 few = p.few;
                 bits = λ j m. ap (lane_bit j) (low l) ∙ p.bits j m;
-                before = λ k d. omega (arith, rises-from facts a.effects k e ok (omega arith) (omega arith));
+                before = λ k d. omega (arith, rises-from c.facts a.effects k e ok (omega arith) (omega (arith, H.count)));
                 from = λ k d. p.from k (omega arith);
                 sets = λ k d m u. p.sets k d m (omega arith);
               }
@@ -197,15 +218,14 @@ module _ (n : ℕ) (literals found : List ℕ) (alive lanes i e : ℕ) (P : Pass
                 limit = suc (b - 64);
                 few = omega (arith, within);
                 bits = λ j m. high (omega arith) j m ∙ rw (p.bits j m, one_more (omega arith) j) (omega arith);
-                before = λ k d. omega (arith, rises-from facts a.effects k e ok (omega arith) (omega arith));
-                from = λ k d u v. omega (arith, rises facts 0 a.effects e k ok (omega arith) (omega arith));
+                before = λ k d. omega (arith, rises-from c.facts a.effects k e ok (omega arith) (omega (arith, H.count)));
+                from = λ k d u v. omega (arith, rises c.facts 0 a.effects e k ok (omega arith) (omega (arith, H.count)));
                 sets = λ k d m u. p.sets k d m (omega arith);
               }
         ]
 
   -- entry e clears no fact that an entry sets
-  pub passing-other :
-      (get_or literals i 0 + 64 < get_or literals e 0 → ⊥) → (get_or literals i 0 + 64 ≡ get_or literals e 0 → ⊥) → Passing n literals found alive lanes i (e + 1)
+  pub passing-other : (byte i + 64 < byte e → ⊥) → (byte i + 64 ≡ byte e → ⊥) → Passing c alive i (e + 1) lanes
   passing-other less other =
       record {
         few = omega arith;
@@ -213,102 +233,101 @@ module _ (n : ℕ) (literals found : List ℕ) (alive lanes i e : ℕ) (P : Pass
         among = P.among;
         some = P.some;
         is =
-            λ facts a h ok z c x case t.
-            let p = P.is facts a h ok z c x case t in
-            let u = x.literal i (omega (arith, P.behind)) in
-            let w = x.literal e more in
-            passed facts a h ok z case p lanes (λ l. refl) λ l j m.
+            λ a case H.
+            let p = P.is a case H in
+            let u = held-byte c a.effects case H i (omega (arith, P.behind)) in
+            let w = held-byte c a.effects case H e more in
+            passed a case H p lanes (λ l. refl) λ l j m.
             rw
-            (not_set facts h a ok (case j) (byte_at a.effects e - 64) (omega (arith, within facts a h ok z case p)) λ k d y.
+            (not_set c.facts c.few_facts a (ok a case H p) (case j) (byte_at a.effects e - 64) (omega (arith, within a case H p)) λ k d y.
             elim (dec_lt k i) [
               | yes v ↦ omega (arith, p.sets k v e (omega arith) more)
-              | no v ↦ omega (arith, rises-from facts a.effects i k ok (omega arith) d)
+              | no v ↦ omega (arith, rises-from c.facts a.effects i k (ok a case H p) (omega arith) d)
             ])
             (omega (arith, bit-small j lanes));
       }
 
   -- it clears the fact that entry i sets
-  module _ (same : get_or literals i 0 + 64 ≡ get_or literals e 0) (lanes' : ℕ)
-      (left : lanes' ≡ bit_and lanes (bit_xor ones (bit_and (get_or found (2 * i) 0) (get_or found (2 * e) 0)))) where
+  module _ (same : byte i + 64 ≡ byte e) (x : Value)
+      (x-is : (j : ℕ) → j < 64 → value_at x j ≡ denied (both (value_at (condition_at c i) j) (value_at (condition_at c e) j)))
+      (lanes' : ℕ) (left : lanes' ≡ bit_and lanes x.sure) where
     fewer : lanes' ≤ alive
-    fewer = omega (arith, left, and_le_l lanes (bit_xor ones (bit_and (get_or found (2 * i) 0) (get_or found (2 * e) 0))), P.among)
+    fewer = omega (arith, left, and_le_l lanes x.sure, P.among)
 
-    module _ (facts : ℕ) (a : Action) (h : facts ≤ max_facts) (ok : EffectsOk facts 0 a.effects) (z : n ≡ length a.effects) (c : List ℕ)
-        (x : Entries c literals found a.effects n) (case : ℕ → List Kleene) (t : Table c case) where
+    module _ (a : Action) (case : ℕ → List Kleene) (H : Hold c a.effects case) where
       abbrev f : ℕ
       f = byte_at a.effects i
 
-      in_row : i < n
+      in_row : i < c.count
       in_row = omega (arith, P.behind)
 
+      now : Passed c.facts a case c.count alive lanes i e
+      now = P.is a case H
+
+      rise : Rising c.facts 0 a.effects
+      rise = held-rise c a.effects case H
+
       clears : byte_at a.effects e ≡ f + 64
-      clears = omega (arith, x.literal i in_row, x.literal e more)
+      clears = omega (arith, held-byte c a.effects case H i in_row, held-byte c a.effects case H e more)
 
       pair-bits : (j : ℕ) → j < 64 → lane_bit j lanes' ≡ min (lane_bit j lanes) (flag (exclusive three a (case j) f))
       pair-bits j l =
-          ap (lane_bit j) left ∙ bit-and j lanes _ ∙
+          ap (lane_bit j) left ∙ bit-and j lanes x.sure ∙
           ap (min (lane_bit j lanes))
-          ((lane-denied j (lane-both j ((x.condition case t i in_row).lane j l) ((x.condition case t e more).lane j l)) l).is_sure ∙
-          sure-flag (denied (both (eval three (case j) (entry_at a.effects i).condition) (eval three (case j) (entry_at a.effects e).condition))) ∙
-          ap flag (sym (set-and-cleared facts h a ok (case j) f i e (omega (arith, in_row)) (omega arith) refl clears)))
+          (sure-yes x j l ∙
+          rw (x-is j l, H.value i in_row j l, H.value e more j l)
+          (ap flag (sym (set-and-cleared c.facts c.few_facts a rise (case j) f i e (omega (arith, in_row, H.count)) (omega (arith, H.count)) refl clears))))
 
-      now : Passed facts a case n alive lanes i e
-      now = P.is facts a h ok z c x case t
-
-      later : Passed facts a case n alive lanes' i (e + 1)
+      later : Passed c.facts a case c.count alive lanes' i (e + 1)
       later =
           let g : byte_at a.effects e - 64 ≡ f = omega (arith, clears) in
-          passed facts a h ok z case now lanes' (λ l. absurd (omega (arith, clears))) (λ l j m. pair-bits j m ∙ ap (λ (y : ℕ). min (lane_bit j lanes) (flag (exclusive three a (case j) y))) (sym g))
+          passed a case H now lanes' (λ l. absurd (omega (arith, clears))) (λ l j m. pair-bits j m ∙ ap (λ (y : ℕ). min (lane_bit j lanes) (flag (exclusive three a (case j) y))) (sym g))
 
       -- no lane is left
       module _ (none : lanes' ≡ 0) where
-        stopped : (j : ℕ) → j < 64 → lane_bit j lanes' ≡ min (lane_bit j alive) (flag (every facts (exclusive three a (case j))))
+        stopped : (j : ℕ) → j < 64 → min (lane_bit j alive) (flag (every c.facts (exclusive three a (case j)))) ≡ 0
         stopped j l =
             let k : lane_bit j lanes' ≡ 0 = ap (lane_bit j) none ∙ bit-zero j in
             elim (ℕ_discrete (flag (every later.limit (exclusive three a (case j)))) 0) [
-              | yes y ↦ k ∙ rw (flag-fewer later.limit facts (exclusive three a (case j)) later.few y) (omega arith)
-              | no y ↦ let d : lane_bit j alive ≡ 0 = omega (arith, later.bits j l) in rw (k, d) (omega arith)
+              | yes y ↦ rw (flag-fewer later.limit c.facts (exclusive three a (case j)) later.few y) (omega arith)
+              | no y ↦ let d : lane_bit j alive ≡ 0 = omega (arith, later.bits j l) in rw d (omega arith)
             ]
 
-        lowest : alive ≡ 1 → get_or literals i 0 ≡ lowest_false facts (exclusive three a (case 0))
+        lowest : alive ≡ 1 → byte i ≡ lowest_false c.facts (exclusive three a (case 0))
         lowest one =
-            let g : lanes ≡ 1 = elim (ℕ_discrete lanes 0) [ yes u ↦ absurd (omega (arith, P.some u)) | no u ↦ omega (arith, P.among) ] in
+            let g : lanes ≡ 1 = elim (ℕ_discrete lanes 0) [ yes u ↦ absurd (P.some u) | no u ↦ omega (arith, P.among) ] in
             let w : lane_bit 0 lanes ≡ 1 = low_bit lanes ∙ rw g in
             let o : every now.limit (exclusive three a (case 0)) ≡ true = flag_true _ (λ u. omega (arith, u, now.bits 0 (omega arith))) in
             let k : exclusive three a (case 0) f ≡ false = flag-false _ (omega (arith, pair-bits 0 (omega arith), ap (lane_bit 0) none ∙ bit-zero 0)) in
-            x.literal i in_row ∙
+            held-byte c a.effects case H i in_row ∙
             sym
-            (lowest-is facts (exclusive three a (case 0)) f
+            (lowest-is c.facts (exclusive three a (case 0)) f
             (record {
-              below = omega (arith, clears, within facts a h ok z case now);
+              below = omega (arith, clears, within a case H now);
               here = k;
               before =
                   λ d l.
                   elim (dec_lt d now.limit) [
                     | yes u ↦ every-at now.limit (exclusive three a (case 0)) o d u
-                    | no u ↦ between facts a h ok z case now 0 d (omega arith) (omega (arith, clears))
+                    | no u ↦ between a case H now 0 d (omega arith) (omega (arith, clears))
                   ];
             })).1
 
-    pub passing-pair : (lanes' ≡ 0 → ⊥) → Passing n literals found alive lanes' i (e + 1)
-    passing-pair some =
-        record { few = omega arith; behind = omega (arith, P.behind); among = fewer; some = λ y. absurd (some y); is = later }
+    pub passing-pair : (lanes' ≡ 0 → ⊥) → Passing c alive i (e + 1) lanes'
+    passing-pair some = record { few = omega arith; behind = omega (arith, P.behind); among = fewer; some = some; is = later }
 
-    pub passing-stops : lanes' ≡ 0 → (f : ℕ) → f ≡ get_or literals i 0 → WithoutConflicts n literals found alive (record { lanes = lanes'; fact = f })
-    passing-stops none f named =
-        record { among = fewer; is = λ facts a h ok z c x case t. (stopped facts a h ok z c x case t none, λ one y. named ∙ lowest facts a h ok z c x case t none one) }
+    pub passing-stops : lanes' ≡ 0 → AllLeftOut c alive (byte i)
+    passing-stops none = record { bits = λ a case H. stopped a case H none; lowest = λ a case H. lowest a case H none }
 
-pub passing-ends :
-    (n : ℕ) (literals found : List ℕ) (alive lanes i e : ℕ) → Passing n literals found alive lanes i e → n ≤ e →
-    WithoutConflicts n literals found alive (record { lanes = lanes; fact = 0 })
-passing-ends n literals found alive lanes i e P l =
+pub passing-ends : (c : Conditions) (alive lanes i e : ℕ) → Passing c alive i e lanes → c.count ≤ e → LeftOut c alive lanes
+passing-ends c alive lanes i e P l =
     record {
       among = P.among;
-      is =
-          λ facts a h ok z c x case t.
-          let p = P.is facts a h ok z c x case t in
-          let all : (j : ℕ) → every facts (exclusive three a (case j)) ≡ every p.limit (exclusive three a (case j)) =
-          λ j. every-same p.limit facts _ p.few (λ f u v. not-cleared facts h a ok (case j) f v (λ k d y. omega (arith, p.before k (omega (arith, P.few)))))
-          in
-          ((λ j m. p.bits j m ∙ rw (all j)), λ one none. absurd (omega (arith, P.some none)));
+      some = P.some;
+      bits =
+          λ a case H j m.
+          let p = P.is a case H in
+          p.bits j m ∙
+          rw (every-same p.limit c.facts (exclusive three a (case j)) p.few
+          (λ f u v. not-cleared c.facts c.few_facts a (held-rise c a.effects case H) (case j) f v (λ k d y. omega (arith, p.before k (omega (arith, P.few, H.count)))))) refl;
     }

@@ -1,3 +1,8 @@
 -- Laws of the definitions, for several functions' proofs.
+pub mod Settling
+pub mod Entries
+pub mod Holding
+pub mod Turns
 pub mod Conflicts
 pub mod Obeying
+pub mod Members

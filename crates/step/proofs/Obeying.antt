@@ -1,112 +1,74 @@
 -- One action: it is obeyed in the lanes that go on. Assumes nothing.
-use mathlib.Core.Path.{◌≡◌, refl, sym, ap, ◌∙◌, subst}
-use mathlib.Core.Bool.{true}
-use mathlib.Core.List.{List, ◌∷◌}
-use Prim.Native.Nat.{ℕ, ◌≤◌, ◌<◌, min, zero-le}
-use native.Mathlib.Omega.{arith}
-use lib.ListN.{length}
-use lib.Bits.{bit_and, and_le_l}
-use Rattle.model.specs.Limits.{max_facts}
-use Rattle.model.specs.Kleene.{Kleene, three}
+use Rattle.std.proofs.Common.{◌≡◌, refl, sym, ap, ◌∙◌, ℕ, ◌≤◌, ◌<◌, min, bit_and, arith}
+use Rattle.std.proofs.lemmas.Nat.{and_le_l}
+use Rattle.model.specs.Kleene.{Kleene, is_yes, three}
 use Rattle.model.specs.Formula.{eval}
-use Rattle.model.specs.Action.{Action, every, exclusive, applicable}
-use Rattle.model.specs.Run.{holds_in, lowest_false}
+use Rattle.model.specs.Action.{Action, every, exclusive, applicable, step}
+use Rattle.model.specs.Run.{holds_in}
 use Rattle.model.specs.Case.{flag}
-use Rattle.model.specs.FormulaBytes.{encode_formula}
-use Rattle.model.specs.ProblemBytes.{effects_bytes, action_bytes}
-use Rattle.model.specs.Planes.{lane_bit, Table}
-use Rattle.model.specs.Stands.{Span, ActionAt}
-use Rattle.model.proofs.Laws.Reading.{split}
-use Rattle.model.proofs.Laws.Planes.{low_bit, bit-and, bit-zero}
-use Rattle.evaluate.specs.declared.Planes.{Planes}
-use Rattle.evaluate.specs.Planes.{FormulaPlanes}
-use Rattle.step.specs.declared.conflict.Going.{Going}
-use Rattle.effects.specs.Effects.{Entries, FindsConditions, Settles}
-use Rattle.step.specs.Conflicts.{WithoutConflicts}
-use Rattle.step.specs.Actions.{ObeysAction}
-use Rattle.effects.proofs.Finding.{applies}
-use Rattle.step.proofs.Conflicts.{sure-flag, flag-and}
+use Rattle.model.specs.Planes.{lane_bit}
+use Rattle.model.proofs.Laws.Planes.{low_bit, bit-and, bit-zero, bit-small}
+use Rattle.cases.specs.declared.value.Value.{Value}
+use Rattle.cases.specs.declared.cases.Cases.{Cases}
+use Rattle.cases.specs.Cases.{case_of, value_at}
+use Rattle.step.specs.declared.conditions.Conditions.{Conditions}
+use Rattle.step.specs.declared.action.Hindrance.TheVariants.{Precondition, Conflict}
+use Rattle.step.specs.Conditions.{Hold, LeftOut, AllLeftOut}
+use Rattle.step.specs.Actions.{applicable_bit, GoesOn, IsHindered}
+use Rattle.step.proofs.Conflicts.{sure-yes, flag-and, flag_true, flag-false}
 
--- the lanes in which the precondition reads yes, and the effects after it
-met :
-    (problem : List ℕ) (p : ℕ) (c : List ℕ) (r : Planes) → FormulaPlanes problem c p r →
-    (facts : ℕ) (a : Action) (q : ℕ) → facts ≤ max_facts → ActionAt problem facts p a q → (case : ℕ → List Kleene) → Table c case →
-    ((j : ℕ) → j < 64 → lane_bit j r.sure ≡ flag (holds_in three (case j) a.precondition)) ×
-    Span problem (length problem) r.next (length a.effects ∷ effects_bytes a.effects) q
-unfolding action_bytes
-met problem p c r x facts a q h at case t =
-    split (encode_formula a.precondition) at.bytes λ m v w.
-    let (e, lanes) = x.is facts a.precondition m h (record { ok = at.precondition; bytes = v }) in (
-      (λ j l. ((lanes case t).lane j l).is_sure ∙ sure-flag (eval three (case j) a.precondition)),
-      subst (λ (y : ℕ). Span problem (length problem) y (length a.effects ∷ effects_bytes a.effects) q) (sym e) w,
-    )
+-- lane 0 alone
+pub lane-0 : (alive x : ℕ) → alive ≡ 1 → lane_bit 0 (bit_and alive x) ≡ lane_bit 0 x
+lane-0 alive x e = bit-and 0 alive x ∙ rw (e, low_bit 1) (omega (arith, bit-small 0 x))
 
-module _ (problem : List ℕ) (p : ℕ) (c : List ℕ) (alive : ℕ) (r : Planes) (x : FormulaPlanes problem c p r) where
-  applies-flag : (facts : ℕ) (a : Action) (v : List Kleene) → flag (applicable three facts a v) ≡ min (flag (holds_in three v a.precondition)) (flag (every facts (exclusive three a v)))
+module _ (c : Cases) (a : Action) (alive : ℕ) (v : Value) (x : (j : ℕ) → j < 64 → value_at v j ≡ eval three (case_of c j) a.precondition) where
+  abbrev met : ℕ
+  met = bit_and alive v.sure
+
+  holds-bit : (j : ℕ) → j < 64 → lane_bit j v.sure ≡ flag (holds_in three (case_of c j) a.precondition)
+  holds-bit j l = sure-yes v j l ∙ ap (λ (t : Kleene). flag (is_yes t)) (x j l)
+
+  met-bit : (j : ℕ) → j < 64 → lane_bit j met ≡ min (lane_bit j alive) (flag (holds_in three (case_of c j) a.precondition))
+  met-bit j l = bit-and j alive v.sure ∙ ap (min (lane_bit j alive)) (holds-bit j l)
+
+  applicable-bit : (j : ℕ) → j < 64 → applicable_bit c a alive j ≡ min (lane_bit j met) (flag (every c.facts (exclusive three a (case_of c j))))
   unfolding applicable
-  applies-flag facts a v = flag-and (holds_in three v a.precondition) (every facts (exclusive three a v))
+  applicable-bit j l =
+      rw (flag-and (holds_in three (case_of c j) a.precondition) (every c.facts (exclusive three a (case_of c j))), met-bit j l) (omega arith)
 
   -- no lane meets the precondition
-  pub obeys-none : length c ≡ 256 → bit_and alive r.sure ≡ 0 → ObeysAction problem p c alive c (record { lanes = 0; fact = 0 })
-  obeys-none w e =
+  pub obeys-none : met ≡ 0 → IsHindered c a alive c Precondition
+  obeys-none e =
       record {
-        size = w;
-        among = zero-le;
-        kept = λ z. refl;
-        is = λ facts a q h at case z t. ((λ j l. bit-zero j ∙ rw (applies-flag facts a (case j)) (omega (arith, none facts a q h at case t j l))), λ n. absurd (n refl));
-        lowest =
-            λ facts a q h at case t one z y.
-            absurd (omega (arith, none facts a q h at case t 0 (omega arith), ap (lane_bit 0) one ∙ low_bit 1, ap flag y));
+        kept = refl;
+        none = λ j l. applicable-bit j l ∙ rw (e, bit-zero j) (omega arith);
+        hinders =
+            λ one.
+            flag-false _ (sym (holds-bit 0 (omega arith)) ∙ sym (lane-0 alive v.sure one) ∙ ap (lane_bit 0) e ∙ bit-zero 0);
       }
-    where
-      none :
-          (facts : ℕ) (a : Action) (q : ℕ) → facts ≤ max_facts → ActionAt problem facts p a q → (case : ℕ → List Kleene) → Table c case → (j : ℕ) → j < 64 →
-          min (lane_bit j alive) (flag (holds_in three (case j) a.precondition)) ≡ 0
-      none facts a q h at case t j l =
-          rw (← (met problem p c r x facts a q h at case t).0 j l) (sym (bit-and j alive r.sure) ∙ ap (lane_bit j) e ∙ bit-zero j)
 
   -- its conditions were found, and the lanes in conflict left out
-  module _ (found literals : List ℕ) (n : ℕ) (F : FindsConditions problem r.next c found literals n) (going : Going)
-      (W : WithoutConflicts n literals found (bit_and alive r.sure) going) where
-    among : going.lanes ≤ alive
-    among = omega (arith, W.among, and_le_l alive r.sure)
-
-    module _ (facts : ℕ) (a : Action) (q : ℕ) (h : facts ≤ max_facts) (at : ActionAt problem facts p a q) (case : ℕ → List Kleene) (t : Table c case) where
-      entries : (n ≡ length a.effects) × Entries c literals found a.effects n
-      entries = F.is facts a.effects q h at.few at.effects (met problem p c r x facts a q h at case t).1
-
-      bits : (j : ℕ) → j < 64 → lane_bit j going.lanes ≡ min (lane_bit j alive) (flag (applicable three facts a (case j)))
-      bits j l =
-          let e = (W.is facts a h at.effects entries.0 c entries.1 case t).0 j l in
-          e ∙ rw (bit-and j alive r.sure, (met problem p c r x facts a q h at case t).0 j l, applies-flag facts a (case j)) (omega arith)
-
-      lowest : alive ≡ 1 → going.lanes ≡ 0 → holds_in three (case 0) a.precondition ≡ true → going.fact ≡ lowest_false facts (exclusive three a (case 0))
-      lowest one none y =
-          let k : lane_bit 0 (bit_and alive r.sure) ≡ 1 =
-          bit-and 0 alive r.sure ∙ rw ((met problem p c r x facts a q h at case t).0 0 (omega arith), y, one, low_bit 1)
-          in
-          (W.is facts a h at.effects entries.0 c entries.1 case t).1
-          (omega (arith, and_le_l alive r.sure, low_bit (bit_and alive r.sure))) none
-
-    pub obeys-left-out : length c ≡ 256 → going.lanes ≡ 0 → ObeysAction problem p c alive c going
-    obeys-left-out w e =
+  module _ (k : Conditions) (same : k.facts ≡ c.facts) (H : Hold k a.effects (case_of c)) where
+    pub obeys-conflict : 0 < met → (f : ℕ) → AllLeftOut k met f → IsHindered c a alive c (Conflict f)
+    obeys-conflict some f W =
         record {
-          size = w;
-          among = among;
-          kept = λ z. refl;
-          is = λ facts a q h at case z t. (bits facts a q h at case t, λ n. absurd (n e));
-          lowest = lowest;
+          kept = refl;
+          none = λ j l. applicable-bit j l ∙ (rw same at (W.bits a (case_of c) H j l));
+          hinders =
+              λ one.
+              let most : met ≤ alive = and_le_l alive v.sure in
+              let only : met ≡ 1 = omega arith in
+              let bit : lane_bit 0 v.sure ≡ 1 = sym (lane-0 alive v.sure one) ∙ ap (lane_bit 0) only ∙ low_bit 1 in
+              (flag_true _ (λ z. omega (arith, bit, z, holds-bit 0 (omega arith))), rw same at (W.lowest a (case_of c) H only));
         }
 
-    pub obeys-some : (d : List ℕ) → (going.lanes ≡ 0 → ⊥) → Settles n literals found c d → ObeysAction problem p c alive d going
-    obeys-some d m S =
+    pub obeys-some :
+        (lanes : ℕ) (d : Cases) → LeftOut k met lanes →
+        ((b : Action) → Hold k b.effects (case_of c) → (j : ℕ) → j < 64 → case_of d j ≡ step three c.facts b (case_of c j)) → GoesOn c a alive d lanes
+    obeys-some lanes d W S =
         record {
-          size = S.size;
-          among = among;
-          kept = λ z. absurd (m z);
-          is =
-              λ facts a q h at case z t.
-              let (i, y) = entries facts a q h at case t in
-              (bits facts a q h at case t, λ n. applies c found literals _ d S facts a h at.effects i y case z t);
-          lowest = lowest;
+          among = omega (arith, W.among, and_le_l alive v.sure);
+          some = W.some;
+          bits = λ j l. (rw same at (W.bits a (case_of c) H j l)) ∙ sym (applicable-bit j l);
+          cases = S a H;
         }

@@ -1,3 +1,3 @@
 -- What the functions of this crate answer, in the words of model/specs.
-pub mod Conflicts
+pub mod Conditions
 pub mod Actions

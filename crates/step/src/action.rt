@@ -1,35 +1,41 @@
 // One action in 64 cases at once.
-ghost use Rattle.std.specs.Prelude.{◌≡◌, length};
-ghost use Rattle.step.specs.Actions.{ObeysAction};
+ghost use Rattle.std.specs.Prelude.{◌≡◌};
+ghost use Rattle.fields.specs.Actions as fields;
+ghost use Rattle.step.specs.Actions.{Obeys};
 
-use crate::conflict::{Going, without_conflicts};
-use effects::{find_conditions, settle};
-use evaluate::formula_planes;
+use crate::conditions::Conditions;
+use cases::{Cases, evaluate};
+use fields::Action;
 
-// Obeys the action that stands at `at`, in the lanes in `alive` in which it is applicable, and answers these; where lane 0 alone is asked
-// and a conflict stops it, also the lowest fact that is in conflict.
-pub fn obey_action(
-    problem: &[u8],
-    at: usize,
-    c: &mut [u64; 256],
-    found: &mut [u64; 256],
-    literals: &mut [u8; 128],
+// What keeps an action from being applicable: its precondition, or a fact that it would set and clear at once.
+#[derive(Clone, Copy)]
+pub enum Hindrance {
+    Precondition,
+    Conflict { fact: usize },
+}
+
+// Obeys the action in those lanes of `alive` in which it is applicable, and answers these. Where there is none, the cases stay as they are; and
+// where lane 0 alone is asked, what hinders the action there: an unmet precondition, or else the lowest fact in conflict.
+pub fn obey(
+    action: Action,
+    cases: &mut Cases,
+    conditions: &mut Conditions,
     alive: u64,
-) -> Going
-    ensures obeys { ObeysAction problem.now at c.old alive c.new result }
-    ensures found_size { length found.new ≡ 256 }
-    ensures literals_size { length literals.new ≡ 128 }
+) -> Result<u64, Hindrance>
+    requires { action.effects.facts ≡ cases.old.facts }
+    ensures facts { cases.new.facts ≡ cases.old.facts }
+    ensures obeys { Obeys cases.old (fields.action action.entry) alive cases.new result }
 {
-    let r = formula_planes(problem, at, c);
-    let met = alive & r.sure;
+    let met = alive & evaluate(action.precondition, cases).sure;
     if met == 0 {
-        return Going { lanes: 0, fact: 0 };
+        return Err(Hindrance::Precondition);
     }
-    let n = find_conditions(problem, r.next, c, found, literals);
-    let going = without_conflicts(n, literals, found, met);
-    if going.lanes == 0 {
-        return going;
+    conditions.find(action.effects, cases);
+    match conditions.without_conflicts(met) {
+        Err(fact) => Err(Hindrance::Conflict { fact }),
+        Ok(lanes) => {
+            conditions.settle(cases);
+            Ok(lanes)
+        }
     }
-    settle(n, literals, found, c);
-    going
 }

@@ -4,39 +4,42 @@ use mathlib.Core.Path.{◌≡◌, refl, sym, ap, ◌∙◌, subst}
 use mathlib.Core.List.{List, [], ◌∷◌, ◌++◌}
 use Prim.Native.Nat.{ℕ, zero, suc, ◌+◌, ◌*◌, ◌-◌, ◌%◌, ◌^◌, ◌≤◌, ◌<◌}
 use native.Mathlib.Omega.{arith}
-use native.Mathlib.Nat.{pow-suc}
-use native.Mathlib.Decide.{ℕ_discrete}
-use lib.ListN.{length, set, length-append}
+use native.Mathlib.Nat.{pow-suc, zero-mod}
+use lib.ListN.{length, get_or, set, replicate, length-append}
 use lib.Pow.{pow_pos, pow_mono}
-use Rattle.std.specs.Prelude.{Result, Ok, Err}
-use Rattle.model.specs.Kleene.{Kleene, No, Yes, three}
+use Rattle.std.specs.Prelude.{Option, None, Some, Result, Ok, Err}
+use Rattle.model.specs.Kleene.{Kleene, No, Unknown, Yes, three}
 use Rattle.model.specs.Formula.{eval}
 use Rattle.model.specs.Run.{run}
-use Rattle.model.specs.Case.{case_of, Task}
+use Rattle.model.specs.Case as model-case
+use Rattle.model.specs.Operations.{task_of as task_of_steps}
 use Rattle.model.specs.Walk as model
-use Rattle.model.specs.Walk.{Line, Walked, covered, failed, visits, join, walk_from, look_of, look_at}
-use Rattle.model.specs.Planes.{lane_bit, Table}
-use Rattle.model.proofs.Laws.Cover.{Block, pow-half, rescale, next-block, block-of-mod, mod-of-block}
+use Rattle.model.specs.Walk.{Line, Walked, covered, failed, visits, join, walk_from, walk, walked, look_of, look_at}
+use Rattle.model.specs.Planes.{lane_bit}
+use Rattle.model.specs.declared.marks.Kind.{Kind}
+use Rattle.model.proofs.Laws.Cover.{Block, pow-half, rescale, next-block, block-of-mod, mod-of-block, root-span}
 use Rattle.model.proofs.Laws.Grants.{visits-walk}
-use Rattle.model.proofs.Laws.Planes.{bit-small}
-use Rattle.model.proofs.Laws.Splitting.{length-case, case-unknown, case-no, case-yes}
-use Rattle.table.specs.Blocks.{block_case, FixesLevels, FixesPath}
-use Rattle.table.proofs.Blocks.{length-block, block-outside, block-root, part_no as lane-no, part-yes as lane-yes}
-use Rattle.look.specs.declared.Looks.{Looks}
-use Rattle.look.specs.declared.task.Task as walks
+use Rattle.model.proofs.Laws.Splitting.{case-unknown, case-no, case-yes, case-first}
+use Rattle.cases.specs.declared.cases.Cases.{Cases}
+use Rattle.cases.specs.Blocks.{block_case}
+use Rattle.cases.specs.Facts.{with_facts, fact_of}
+use Rattle.cases.specs.Cases.{case_of}
+use Rattle.cases.proofs.Lanes.{length-case_in}
+use Rattle.cases.proofs.Blocks.{block-root, block-path, part_no as lane-no, part-yes as lane-yes}
+use Rattle.runs.specs.Looks.{kind_look, look_bits}
+use Rattle.blocks.specs.declared.task.Task as blocks
+use Rattle.blocks.specs.Values as values
+use Rattle.blocks.proofs.Tasks.{task-width, task-facts, facts-fit}
 use Rattle.walk.specs.declared.block.Block as block
+use Rattle.walk.specs.declared.block.FirstBlock.{FirstBlock}
 use Rattle.walk.specs.declared.case.Case.{Case}
-use Rattle.walk.specs.declared.case.Kind.{Kind}
-use Rattle.walk.specs.declared.case.Look.{Look}
-use Rattle.walk.specs.declared.case.Look.TheVariants.{Closed, Open}
-use Rattle.walk.specs.declared.cases.Closed as done
-use Rattle.walk.specs.declared.cases.Stopped.{Stopped}
-use Rattle.walk.specs.declared.cases.Stopped.TheVariants.{OutOfVisits, Failed}
-use Rattle.walk.specs.Cases.{CaseFits, part_of, part_no, part_yes, line_of}
-use Rattle.look.specs.Tasks.{LooksAt}
-use Rattle.look.proofs.Tasks.{task-width}
-use Rattle.walk.specs.Blocks as found
-use Rattle.walk.specs.Walks.{Ended, Counted, walk_at, values_of, LevelsOf, BlockFits, WalksBlock, NodeFits, NodeAt, WalksCase}
+use Rattle.walk.specs.declared.visits.Closed as done
+use Rattle.walk.specs.declared.visits.Stopped.{Stopped}
+use Rattle.walk.specs.declared.visits.Stopped.TheVariants.{OutOfVisits, Failed}
+use Rattle.walk.specs.Lanes.{IsBlock, LevelsOf}
+use Rattle.walk.specs.Cases.{CaseFits, whole_case, part_of, part_no, part_yes, closed_line}
+use Rattle.walk.specs.Nodes.{task_of, limits_of, IsNode, walk_of, walk_at}
+use Rattle.walk.specs.Walks.{Ended, Counted, Walks}
 
 -- ---- a walk after a walk
 
@@ -85,9 +88,6 @@ unfolding walk_from
 walk_split w look zero k v h = absurd (omega arith)
 walk_split w look (suc d) k v h = let e : suc d - 1 ≡ d = omega arith in rw e
 
-pub zero_bit : (j x : ℕ) → (lane_bit j x ≡ 1 → ⊥) → lane_bit j x ≡ 0
-zero_bit j x h = elim (ℕ_discrete (lane_bit j x) 0) [ yes e ↦ e | no e ↦ absurd (h (omega (arith, bit-small j x))) ]
-
 halves : (w k : ℕ) → k < w → 2 ^ (w - k) ≡ 2 ^ (w - (k + 1)) + 2 ^ (w - (k + 1))
 halves w k h = let s : k + 1 ≡ suc k = omega arith in rw s (pow-half w k h)
 
@@ -95,12 +95,36 @@ pub half_room : (w : ℕ) (case : Case) → CaseFits w case → 0 < case.left �
 half_room w case F h =
     omega (arith, F.numbers, halves w case.k (omega (arith, F.slots)), pow_pos (w - (case.k + 1)), pow_mono {i = w} {j = 64} (omega (arith, F.most)))
 
-pub lane-small : (w : ℕ) (b : block.Block) (case : Case) → NodeFits w b case → case.lane < 64
-lane-small w b case N = omega (arith, N.lane_to, pow_mono {i = suc (case.k - b.first)} {j = 6} (omega (arith, N.few, N.within)))
+-- ---- a task, and a case in a lane of a block
 
-module _ {L : Type 0} (puts : L → List Line → L → Type 0) (task : walks.Task) (b : block.Block) (case : Case) (N : NodeFits task.problem.now.limits.width b case) (g : ℕ) (old : L) where
+module _ (b : block.Block) where
+  width-is : (task_of b).width ≡ (limits_of b).width
+  width-is = task-width b.task.now
+
+  facts-is : (task_of b).facts ≡ b.cases.now.facts
+  facts-is = task-facts b.task.now ∙ sym b.facts
+
+  n≤w : (task_of b).facts ≤ (task_of b).width
+  n≤w = facts-fit b.task.now
+
+module _ (b : block.Block) (case : Case) (N : IsNode b case) where
+  pub lane-small : case.lane < 64
+  lane-small = omega (arith, N.lane_to, pow_mono {i = suc (case.k - b.first)} {j = 6} (omega (arith, b.few, N.within)))
+
+  pub node_fits : CaseFits (limits_of b).width case
+  node_fits =
+      record {
+        most = b.task.now.problem.now.sensible.word;
+        slots = omega (arith, N.left_facts, width-is b, facts-is b, n≤w b);
+        numbers = N.numbers;
+      }
+
+  pub few-facts : case.k < 256
+  few-facts = omega (arith, node_fits.slots, node_fits.most)
+
+module _ {L : Type 0} (puts : L → List Line → L → Type 0) (b : block.Block) (case : Case) (N : IsNode b case) (g : ℕ) (old : L) where
   abbrev Here : Result done.Closed Stopped → L → Type 0
-  Here r new = WalksCase puts task b case g old r new
+  Here r new = Walks puts (walk_at b case) g old r new
 
   pub node_out : puts old [] old → g ≡ 0 → Here (Err OutOfVisits) old
   node_out p z =
@@ -108,126 +132,116 @@ module _ {L : Type 0} (puts : L → List Line → L → Type 0) (task : walks.Ta
         closed = [];
         put = p;
         counted = tt;
-        is = λ T A. omega (arith, visits-walk T.width (look_at T) case.left (look_at T case.k case.number) case.k case.number);
+        is = omega (arith, visits-walk (task_of b).width (look_at (task_of b)) case.left (look_at (task_of b) case.k case.number) case.k case.number);
       }
 
-  module _ (look : Look) (F : found.Finds b.looks case.lane look) (some : 0 < g) where
+  module _ (kind : Option Kind) (F : kind_look kind ≡ look_bits (lane_bit case.lane b.looks.empty) (lane_bit case.lane b.looks.carries)) (some : 0 < g) where
     one : g - (g - 1) ≡ 1
     one = omega arith
 
     -- a visit finds what the block says of the lane
-    node-look : (T : Task) → NodeAt task b case T → look_at T case.k case.number ≡ found.look_of look
+    node-look : look_at (task_of b) case.k case.number ≡ kind_look kind
     unfolding look_at
-    node-look T A =
+    node-look =
         sym
         (F ∙
-        A.looked case.lane (lane-small task.problem.now.limits.width b case N) ∙
-        ap (λ (x : List Kleene). look_of (eval three x T.initial) (run three T.facts T.goal T.plan 0 x)) A.lane_is)
+        b.looked case.lane (lane-small b case N) ∙
+        ap (λ (x : List Kleene). look_of (eval three x (task_of b).initial) (run three (task_of b).facts (task_of b).goal (task_of b).plan 0 x)) N.lane_is)
 
-    pub node_closed : (kind : Kind) → look ≡ Closed kind → (new : L) → puts old (line_of kind case ∷ []) new → Here (Ok (record { lines = 1; left = g - 1 })) new
-    node_closed kind e new p =
+    pub node_closed : (κ : Kind) → kind ≡ Some κ → (new : L) → puts old (closed_line κ case ∷ []) new → Here (Ok (record { lines = 1; left = g - 1 })) new
+    node_closed κ e new p =
         record {
-          closed = line_of kind case ∷ [];
+          closed = closed_line κ case ∷ [];
           put = p;
           counted = (omega arith, refl, omega arith);
-          is = λ T A. rw (node-look T A, e, walk-closed, one);
+          is = rw (node-look, e, walk-closed, one);
         }
 
-    pub node_fails : puts old [] old → look ≡ Open → case.left ≡ 0 → Here (Err (Failed case.number (g - 1))) old
-    node_fails p e z = record { closed = []; put = p; counted = omega arith; is = λ T A. rw (node-look T A, e, z, walk-failing, one) }
+    pub node_fails : puts old [] old → kind ≡ None → case.left ≡ 0 → Here (Err (Failed case.number (g - 1))) old
+    node_fails p e z = record { closed = []; put = p; counted = omega arith; is = rw (node-look, e, z, walk-failing, one) }
 
     -- an open case is the walk of its parts
-    splits :
-        look ≡ Open → 0 < case.left → (T : Task) → NodeAt task b case T →
-        walk_at case T ≡ join (walk_at (part_no case) T) (walk_at (part_yes task.problem.now.limits.width case) T)
-    splits e k T A =
+    splits : kind ≡ None → 0 < case.left → walk_at b case ≡ join (walk_at b (part_no case)) (walk_at b (part_yes (limits_of b).width case))
+    unfolding task_of_steps
+    splits e k =
         let s : case.k + 1 ≡ suc case.k = omega arith in
-        rw (node-look T A, e, s, ← task-width A.task_is) (walk_split T.width (look_at T) case.left case.k case.number k)
+        rw (node-look, e, s, ← width-is b) (walk_split (task_of b).width (look_at (task_of b)) case.left case.k case.number k)
 
 -- ---- the parts of a lane's case
 
-module _ (w : ℕ) (b : block.Block) (case : Case) (N : NodeFits w b case) (inner : case.k < b.first + b.levels) where
+module _ (b : block.Block) (case : Case) (N : IsNode b case) (inner : case.k < b.first + b.levels) where
+  abbrev W : ℕ
+  W = (limits_of b).width
+
+  abbrev V : ℕ
+  V = (task_of b).width
+
+  abbrev own : List Kleene
+  own = case_of b.cases.now 1
+
   pub some-left : 0 < case.left
-  some-left = omega (arith, N.inside)
+  some-left = omega (arith, b.inside, N.left_facts)
 
-  two_halves : 2 ^ (w - case.k) ≡ 2 ^ (w - (case.k + 1)) + 2 ^ (w - (case.k + 1))
-  two_halves = halves w case.k (omega (arith, N.inside, N.fits.slots))
+  k<n : case.k < (task_of b).facts
+  k<n = omega (arith, b.inside, facts-is b)
 
-  part-fits : (v i : ℕ) → v + 2 ^ (w - (case.k + 1)) ≤ 2 ^ w → 2 * case.lane ≤ i → i ≤ 2 * case.lane + 1 → NodeFits w b (part_of case v i)
-  part-fits v i h l m =
-      let e : case.k + 1 - b.first ≡ suc (case.k - b.first) = omega (arith, N.below_first) in
-      let p = pow-suc 2 (case.k - b.first) in
-      let q = pow-suc 2 (suc (case.k - b.first)) in
-      record {
-        fits = record { most = N.fits.most; slots = omega (arith, N.fits.slots, N.inside); numbers = h };
-        few = N.few;
-        inside = omega (arith, N.inside);
-        below_first = omega (arith, N.below_first);
-        within = omega arith;
-        lane_from = rw e (omega (arith, N.lane_from));
-        lane_to = rw e (omega (arith, N.lane_to));
-      }
+  two_halves : 2 ^ (W - case.k) ≡ 2 ^ (W - (case.k + 1)) + 2 ^ (W - (case.k + 1))
+  two_halves = halves W case.k (omega (arith, k<n, n≤w b, width-is b))
 
-  pub first_fits : (x : Case) → x ≡ part_no case → NodeFits w b x
-  first_fits x e = rw e (part-fits case.number (2 * case.lane) (omega (arith, N.fits.numbers, two_halves)) (omega arith) (omega arith))
+  aligned : Block V case.k case.number
+  aligned = block-of-mod V case.k case.number (let z : case.number % 2 ^ (V - case.k) ≡ 0 = rw (width-is b) N.begins in z)
 
-  pub second_fits : (x : Case) → x ≡ part_yes w case → NodeFits w b x
-  second_fits x e =
-      rw e
-      (part-fits (case.number + 2 ^ (w - (case.k + 1))) (2 * case.lane + 1) (omega (arith, N.fits.numbers, two_halves)) (omega arith) (omega arith))
+  smaller : Block V (suc case.k) case.number
+  smaller = rescale V case.k (suc case.k) case.number (omega arith) (omega (arith, k<n, n≤w b)) aligned
 
-module _ (task : walks.Task) (b : block.Block) (case : Case) (N : NodeFits task.problem.now.limits.width b case) (inner : case.k < b.first + b.levels) (T : Task) (A : NodeAt task b case T) where
-  k<n : case.k < T.facts
-  k<n = omega (arith, N.inside, A.case_at.left_facts)
-
-  n≤w : T.facts ≤ T.width
-  n≤w = omega (arith, task-width A.task_is, A.case_at.left_facts, N.fits.slots)
-
-  aligned : Block T.width case.k case.number
-  aligned = block-of-mod T.width case.k case.number A.case_at.begins
-
-  smaller : Block T.width (suc case.k) case.number
-  smaller = rescale T.width case.k (suc case.k) case.number (omega arith) (omega (arith, k<n, n≤w)) aligned
-
-  room : b.first + b.levels ≤ length A.root
-  room = omega (arith, A.sized, N.inside, A.case_at.left_facts)
+  room : b.first + b.levels ≤ length own
+  room = omega (arith, b.inside, length-case_in b.cases.now.facts b.cases.now.words 1)
 
   -- the lane of a part has that part's case
-  part_at :
-      (v i : ℕ) (x : Kleene) → Block T.width (suc case.k) v →
-      block_case A.root b.first b.levels i ≡ set (block_case A.root b.first b.levels case.lane) (b.first + (case.k - b.first)) x →
-      case_of T.width T.facts (suc case.k) v ≡ set (values_of T case) case.k x → NodeAt task b (part_of case v i) T
-  part_at v i x B e f =
+  part-node :
+      (v i : ℕ) (x : Kleene) → v + 2 ^ (W - (case.k + 1)) ≤ 2 ^ W → 2 * case.lane ≤ i → i ≤ 2 * case.lane + 1 → Block V (suc case.k) v →
+      block_case own b.first b.levels i ≡ set (block_case own b.first b.levels case.lane) (b.first + (case.k - b.first)) x →
+      model-case.case_of V (task_of b).facts (suc case.k) v ≡ set (model-case.case_of V (task_of b).facts case.k case.number) case.k x →
+      IsNode b (part_of case v i)
+  part-node v i x h l m B e f =
       let s : suc case.k ≡ case.k + 1 = omega arith in
-      let level : b.first + (case.k - b.first) ≡ case.k = omega (arith, N.below_first) in
+      let level : b.first + (case.k - b.first) ≡ case.k = omega (arith, N.from) in
+      let deeper : case.k + 1 - b.first ≡ suc (case.k - b.first) = omega (arith, N.from) in
+      let small : i < 64 =
+      omega (arith, N.lane_to, pow-suc 2 (suc (case.k - b.first)), pow_mono {i = suc (suc (case.k - b.first))} {j = 6} (omega (arith, b.few)))
+      in
       record {
-        task_is = A.task_is;
-        case_at =
-            record {
-              left_facts = omega (arith, A.case_at.left_facts, k<n);
-              begins = subst (λ (k : ℕ). v % 2 ^ (T.width - k) ≡ 0) s (mod-of-block T.width (suc case.k) v B);
-            };
-        root = A.root;
-        sized = A.sized;
-        table = A.table;
-        looked = A.looked;
-        lane_is = e ∙ (λ j. set (A.lane_is j) (level j) x) ∙ sym f ∙ ap (λ (k : ℕ). case_of T.width T.facts k v) s;
+        left_facts = omega (arith, N.left_facts, some-left);
+        begins = subst (λ (k : ℕ). v % 2 ^ (W - k) ≡ 0) s (rw (← width-is b) (mod-of-block V (suc case.k) v B));
+        numbers = h;
+        from = omega (arith, N.from);
+        within = omega arith;
+        lane_from = rw deeper (omega (arith, N.lane_from, pow-suc 2 (case.k - b.first)));
+        lane_to = rw deeper (omega (arith, N.lane_to, pow-suc 2 (suc (case.k - b.first))));
+        lane_is =
+            b.lanes i small ∙
+            e ∙
+            (λ j. set (sym (b.lanes case.lane (lane-small b case N)) j) (level j) x) ∙
+            ap (λ (c : List Kleene). set c case.k x) N.lane_is ∙
+            sym f ∙
+            ap (λ (k : ℕ). model-case.case_of V (task_of b).facts k v) s;
       }
 
-  pub first_at : NodeAt task b (part_no case) T
-  first_at =
-      part_at case.number (2 * case.lane) No smaller
-      (lane-no A.root b.first b.levels (case.k - b.first) case.lane N.few (omega (arith, N.below_first)) N.lane_from N.lane_to room)
-      (case-no T.width T.facts case.k case.number k<n n≤w aligned)
+  pub first_node : (x : Case) → x ≡ part_no case → IsNode b x
+  first_node x y =
+      rw y
+      (part-node case.number (2 * case.lane) No (omega (arith, N.numbers, two_halves)) (omega arith) (omega arith) smaller
+      (lane-no own b.first b.levels (case.k - b.first) case.lane b.few (omega (arith, N.from)) N.lane_from N.lane_to room)
+      (case-no V (task_of b).facts case.k case.number k<n (n≤w b) aligned))
 
-  pub second_at : NodeAt task b (part_yes task.problem.now.limits.width case) T
-  second_at =
-      let s : case.k + 1 ≡ suc case.k = omega arith in
-      subst (λ (v : ℕ). NodeAt task b (part_of case (case.number + v) (2 * case.lane + 1)) T)
-      (let z : 2 ^ (T.width - suc case.k) ≡ 2 ^ (task.problem.now.limits.width - (case.k + 1)) = rw (s, task-width A.task_is) in z)
-      (part_at (case.number + 2 ^ (T.width - suc case.k)) (2 * case.lane + 1) Yes (next-block T.width (suc case.k) case.number smaller)
-      (lane-yes A.root b.first b.levels (case.k - b.first) case.lane N.few (omega (arith, N.below_first)) N.lane_from N.lane_to room)
-      (case-yes T.width T.facts case.k case.number k<n n≤w aligned))
+  pub second_node : (x : Case) → x ≡ part_yes W case → IsNode b x
+  second_node x y =
+      let z : 2 ^ (V - suc case.k) ≡ 2 ^ (W - (case.k + 1)) = (let s : suc case.k ≡ case.k + 1 = omega arith in rw (s, width-is b)) in
+      rw (y, ← z)
+      (part-node (case.number + 2 ^ (V - suc case.k)) (2 * case.lane + 1) Yes (rw z (omega (arith, N.numbers, two_halves))) (omega arith) (omega arith)
+      (next-block V (suc case.k) case.number smaller)
+      (lane-yes own b.first b.levels (case.k - b.first) case.lane b.few (omega (arith, N.from)) N.lane_from N.lane_to room)
+      (case-yes V (task_of b).facts case.k case.number k<n (n≤w b) aligned))
 
 -- ---- both parts
 
@@ -242,97 +256,131 @@ counted-added g c ls ms (Ok d) k l = (omega (arith, k.0, l.0), omega (arith, k.1
 counted-added g c ls ms (Err OutOfVisits) k l = tt
 counted-added g c ls ms (Err (Failed s left)) k l = omega (arith, k.0)
 
-module _ {L : Type 0} (puts : L → List Line → L → Type 0) (task : walks.Task) (b : block.Block) (case : Case) (N : NodeFits task.problem.now.limits.width b case) (g : ℕ) (old : L)
-    (look : Look) (F : found.Finds b.looks case.lane look) (some : 0 < g) (open_ : look ≡ Open) (inner : case.k < b.first + b.levels)
+module _ {L : Type 0} (puts : L → List Line → L → Type 0) (b : block.Block) (case : Case) (N : IsNode b case) (g : ℕ) (old : L)
+    (kind : Option Kind) (F : kind_look kind ≡ look_bits (lane_bit case.lane b.looks.empty) (lane_bit case.lane b.looks.carries)) (some : 0 < g) (open_ : kind ≡ None) (inner : case.k < b.first + b.levels)
     (first : Case) (e : first ≡ part_no case) where
-  split : (T : Task) → NodeAt task b case T → walk_at case T ≡ join (walk_at first T) (walk_at (part_yes task.problem.now.limits.width case) T)
-  split T A = rw e (splits puts task b case N g old look F some open_ (some-left task.problem.now.limits.width b case N inner) T A)
+  split : walk_at b case ≡ join (walk_at b first) (walk_at b (part_yes (limits_of b).width case))
+  split = rw e (splits puts b case N g old kind F some open_ (some-left b case N inner))
 
-  at_first : (T : Task) → NodeAt task b case T → NodeAt task b first T
-  at_first T A = rw e (first_at task b case N inner T A)
-
-  pub node_stops : (s : Stopped) (mid : L) → WalksCase puts task b first (g - 1) old (Err s) mid → WalksCase puts task b case g old (Err s) mid
+  pub node_stops : (s : Stopped) (mid : L) → Walks puts (walk_at b first) (g - 1) old (Err s) mid → Walks puts (walk_at b case) g old (Err s) mid
   node_stops s mid W =
       record {
         closed = W.closed;
         put = W.put;
         counted = counted-stopped g W.closed s W.counted;
-        is = λ T A. join_stopped g some W.closed s _ _ _ W.counted (split T A) (W.is T (at_first T A));
+        is = join_stopped g some W.closed s _ _ _ W.counted split W.is;
       }
 
   pub node_joins :
       ((s t u : L) (ls ms : List Line) → puts s ls t → puts t ms u → puts s (ls ++ ms) u) → (c : done.Closed) (mid : L) →
-      WalksCase puts task b first (g - 1) old (Ok c) mid → (second : Case) → second ≡ part_yes task.problem.now.limits.width case → (r : Result done.Closed Stopped) (new : L) →
-      WalksCase puts task b second c.left mid r new → WalksCase puts task b case g old (added c.lines r) new
+      Walks puts (walk_at b first) (g - 1) old (Ok c) mid → (second : Case) → second ≡ part_yes (limits_of b).width case → (r : Result done.Closed Stopped) (new : L) →
+      Walks puts (walk_at b second) c.left mid r new → Walks puts (walk_at b case) g old (added c.lines r) new
   node_joins more c mid W second f r new V =
       record {
         closed = W.closed ++ V.closed;
         put = more _ _ _ W.closed V.closed W.put V.put;
         counted = counted-added g c W.closed V.closed r W.counted V.counted;
         is =
-            λ T A.
-            join_closed g some c W.closed V.closed r _ _ _ W.counted.0 V.counted (split T A) (W.is T (at_first T A))
-            (subst (λ (x : Case). Ended c.left V.closed r (walk_at x T)) f (V.is T (rw f (second_at task b case N inner T A))));
+            join_closed g some c W.closed V.closed r _ _ _ W.counted.0 V.counted split W.is
+            (subst (λ (x : Case). Ended c.left V.closed r (walk_at b x)) f V.is);
       }
 
--- ---- a block
+-- ---- a block below, and the first one
 
-pub block-walks :
-    {L : Type 0} (puts : L → List Line → L → Type 0) (task : walks.Task) (c : List ℕ) (case : Case) (levels : ℕ) (B : BlockFits task.problem.now.limits.width case levels) (looks : Looks) →
-    LooksAt task c looks → (b : block.Block) → b.table.now ≡ c → b.first ≡ case.k → b.levels ≡ levels → b.looks ≡ looks →
-    (g : ℕ) (old : L) (r : Result done.Closed Stopped) (new : L) → WalksCase puts task b case g old r new → WalksBlock puts task c case levels g old r new
-block-walks puts task c case levels B looks S b tc fk ll lk g old r new W =
-    record {
-      closed = W.closed;
-      put = W.put;
-      counted = W.counted;
-      is =
-          λ T A.
-          W.is T
-          (record {
-            task_is = A.task_is;
-            case_at = A.case_at;
-            root = values_of T case;
-            sized = length-case T.width T.facts case.k case.number;
-            table = rw (tc, fk, ll) A.table;
-            looked =
-                λ j l.
-                rw (fk, ll, lk)
-                (S.is T A.task_is (λ i. block_case (values_of T case) case.k levels i)
-                (λ i m. length-block (values_of T case) case.k levels i ∙ length-case T.width T.facts case.k case.number) A.table j l);
-            lane_is =
-                rw (fk, ll, B.root)
-                (block-root (values_of T case) case.k levels
-                (λ f h l. case-unknown T.width T.facts case.k case.number f h (omega (arith, B.levels-of.inside, A.case_at.left_facts))));
-          });
-    }
+-- the block of a case that fixes none of its facts has that case in lane 1
+pub own-case :
+    (c : Cases) (v : List Kleene) (k levels : ℕ) → ((f : ℕ) → k ≤ f → f < k + levels → get_or v f No ≡ Unknown) → IsBlock (case_of c) v k levels →
+    case_of c 1 ≡ v
+own-case c v k levels u B = B 1 (omega arith) ∙ block-root v k levels u
+
+pub own-block :
+    (c : Cases) (v : List Kleene) (k levels : ℕ) → ((f : ℕ) → k ≤ f → f < k + levels → get_or v f No ≡ Unknown) → IsBlock (case_of c) v k levels →
+    IsBlock (case_of c) (case_of c 1) k levels
+own-block c v k levels u B = subst (λ (x : List Kleene). IsBlock (case_of c) x k levels) (sym (own-case c v k levels u B)) B
 
 -- an open case at a block's edge begins a block of its own
-pub node_edge :
-    {L : Type 0} (puts : L → List Line → L → Type 0) (task : walks.Task) (b : block.Block) (case : Case) (N : NodeFits task.problem.now.limits.width b case)
-    (path below : List ℕ) (levels : ℕ) → FixesPath b.table.now b.first b.levels case.lane path → FixesLevels path case.k levels below → LevelsOf case.left levels →
-    (root : Case) → root ≡ record case { lane = 1 } → (g : ℕ) (old : L) (r : Result done.Closed Stopped) (new : L) → WalksBlock puts task below root levels g old r new →
-    WalksCase puts task b case g old r new
-node_edge puts task b case N path below levels P X G root e g old r new W =
-    record {
-      closed = W.closed;
-      put = W.put;
-      counted = W.counted;
-      is =
-          λ T A.
-          rw (← walk-root T)
-          (W.is T
-          (rw e
-          (record {
-            task_is = A.task_is;
-            case_at = record { left_facts = A.case_at.left_facts; begins = A.case_at.begins };
-            table =
-                X.is (values_of T case) (omega (arith, length-case T.width T.facts case.k case.number, G.inside, A.case_at.left_facts))
-                (subst (λ (x : List Kleene). Table path (λ j. x)) A.lane_is
-                (P.is (λ j. block_case A.root b.first b.levels j) A.table
-                (λ j f m o. block-outside A.root b.first b.levels j f o ∙ sym (block-outside A.root b.first b.levels case.lane f o))));
-          })));
-    }
-  where
-    walk-root : (T : Task) → walk_at root T ≡ walk_at case T
-    walk-root T = rw e
+module _ (b : block.Block) (case : Case) (N : IsNode b case) (path below : Cases) (levels : ℕ) (G : LevelsOf case.left levels)
+    (P :
+    (j : ℕ) → j < 64 → case_of path j ≡ with_facts b.first (b.first + b.levels) (fact_of (case_of b.cases.now case.lane)) (case_of b.cases.now j))
+    (X : (j : ℕ) → j < 64 → case_of below j ≡ block_case (case_of path j) case.k levels j) where
+  abbrev here : List Kleene
+  here = model-case.case_of (task_of b).width (task_of b).facts case.k case.number
+
+  on_path : (j : ℕ) → j < 64 → case_of path j ≡ here
+  on_path j l =
+      let own = case_of b.cases.now 1 in
+      let m = lane-small b case N in
+      P j l ∙
+      (λ i. with_facts b.first (b.first + b.levels) (fact_of (b.lanes case.lane m i)) (b.lanes j l i)) ∙
+      block-path own b.first b.levels (b.first + b.levels) case.lane j refl ∙
+      sym (b.lanes case.lane m) ∙
+      N.lane_is
+
+  is_block : IsBlock (case_of below) here case.k levels
+  is_block j l = X j l ∙ ap (λ (x : List Kleene). block_case x case.k levels j) (on_path j l)
+
+  unfixed : (f : ℕ) → case.k ≤ f → f < case.k + levels → get_or here f No ≡ Unknown
+  unfixed f h l = case-unknown (task_of b).width (task_of b).facts case.k case.number f h (omega (arith, G.inside, N.left_facts, facts-is b))
+
+  pub below-lanes : IsBlock (case_of below) (case_of below 1) case.k levels
+  below-lanes = own-block below here case.k levels unfixed is_block
+
+  pub below-node :
+      (inner : block.Block) → inner.task.now ≡ b.task.now → inner.cases.now ≡ below → inner.first ≡ case.k → inner.cases.now.facts ≡ b.cases.now.facts →
+      (root : Case) → root ≡ record case { lane = 1 } → IsNode inner root
+  below-node inner t c f n root r =
+      let w : (limits_of inner).width ≡ (limits_of b).width = ap (λ (x : blocks.Task). x.problem.now.limits.width) t in
+      let z : case.k - inner.first ≡ 0 = omega arith in
+      rw r
+      (record {
+        left_facts = N.left_facts ∙ sym n;
+        begins = rw w N.begins;
+        numbers = rw w N.numbers;
+        from = omega (arith, f);
+        within = omega (arith, f);
+        lane_from = rw z (omega arith);
+        lane_to = rw z (omega arith);
+        lane_is =
+            ap (λ (x : Cases). case_of x 1) c ∙
+            own-case below here case.k levels unfixed is_block ∙
+            ap (λ (x : blocks.Task). model-case.case_of (values.task x).width (values.task x).facts case.k case.number) (sym t);
+      })
+
+-- the first block fixes no fact
+module _ (t : blocks.Task) (first : FirstBlock) (e : first.cases.now.facts ≡ t.problem.now.facts) where
+  none : List Kleene
+  none = replicate first.cases.now.facts Unknown
+
+  unfixed-first : (f : ℕ) → 0 ≤ f → f < 0 + first.levels → get_or (replicate first.cases.now.facts Unknown) f No ≡ Unknown
+  unfixed-first f h l =
+      rw (← case-first (values.task t).width first.cases.now.facts)
+      (case-unknown (values.task t).width first.cases.now.facts 0 0 f (omega arith) (omega (arith, first.levels_of.inside)))
+
+  pub first-lanes : IsBlock (case_of first.cases.now) (case_of first.cases.now 1) 0 first.levels
+  first-lanes = own-block first.cases.now (replicate first.cases.now.facts Unknown) 0 first.levels unfixed-first first.lanes
+
+  pub first_case :
+      (b : block.Block) → b.task.now ≡ t → b.cases.now ≡ first.cases.now → b.first ≡ 0 → (whole : Case) → whole ≡ whole_case t.problem.now.facts → IsNode b whole
+  first_case b i c z whole w =
+      let k : 0 - b.first ≡ 0 = omega arith in
+      rw w
+      (record {
+        left_facts = omega (arith, e, ap (λ (x : Cases). x.facts) c);
+        begins = zero-mod (2 ^ ((limits_of b).width - 0));
+        numbers = omega (arith, root-span (limits_of b).width);
+        from = omega (arith, z);
+        within = omega arith;
+        lane_from = rw k (omega arith);
+        lane_to = rw k (omega arith);
+        lane_is =
+            ap (λ (x : Cases). case_of x 1) c ∙
+            own-case first.cases.now (replicate first.cases.now.facts Unknown) 0 first.levels unfixed-first first.lanes ∙
+            sym (case-first (values.task b.task.now).width first.cases.now.facts) ∙
+            ap (λ (n : ℕ). model-case.case_of (values.task b.task.now).width n 0 0)
+            (e ∙ ap (λ (x : blocks.Task). x.problem.now.facts) (sym i) ∙ sym (task-facts b.task.now));
+      })
+
+-- the walk from the case that fixes no fact is the walk of the task
+pub first-walk : (t : blocks.Task) → walk_of (values.task t) t.problem.now.facts 0 0 ≡ walked (values.task t)
+unfolding walked walk task_of_steps
+first-walk t = refl

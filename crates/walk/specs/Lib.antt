@@ -1,5 +1,6 @@
 -- What the functions of this crate answer, in the words of model/specs.
+pub mod Lanes
 pub mod Cases
-pub mod Blocks
+pub mod Nodes
 pub mod Walks
 pub mod Pages

@@ -1,11 +1,12 @@
-// A case, what a visit finds of it, and what becomes of its line.
+// A case, and what becomes of its line.
 ghost use Rattle.std.specs.Prelude.{◌<◌, List, [], ◌∷◌, ◌++◌, ⊤};
 ghost use Rattle.model.specs.declared.Limits.{Limits};
 ghost use Rattle.model.specs.WellFormed.{Sensible};
-ghost use Rattle.model.specs.Walk.{Line};
-ghost use Rattle.walk.specs.Cases.{CaseFits, PartsOf, line_of};
+ghost use Rattle.model.specs.Walk as model;
+ghost use Rattle.lines.specs.Lines.{line_of};
 
-use model::Limits;
+use lines::Line;
+use model::{Kind, Limits};
 use numbers::span;
 
 // A case: it fixes the first k facts to the top bits of `number`, and leaves `left` more open; in its block it has this lane.
@@ -18,6 +19,21 @@ pub struct Case {
 }
 
 impl Case {
+    ghost use Rattle.std.specs.Prelude.{◌≡◌};
+    ghost use Rattle.walk.specs.Cases.{CaseFits, PartsOf, whole_case, closed_line};
+
+    // The case that fixes no fact.
+    pub fn whole(facts: u8) -> Case
+        ensures { result ≡ whole_case facts }
+    {
+        Case {
+            k: 0,
+            left: facts as usize,
+            number: 0,
+            lane: 1,
+        }
+    }
+
     // Its two parts, its next fact no and then yes.
     pub fn parts(self, width: u8) -> (Case, Case)
         requires fits { CaseFits width self }
@@ -39,35 +55,33 @@ impl Case {
         };
         (no, yes)
     }
-}
 
-// What a line claims of its case.
-#[derive(Clone, Copy)]
-pub enum Kind {
-    Empty,
-    Carries,
-}
-
-// What a visit finds of a case.
-#[derive(Clone, Copy)]
-pub enum Look {
-    Closed(Kind),
-    Open,
+    // The line that closes it.
+    #[inline(always)]
+    pub fn line(self, kind: Kind) -> Line
+        requires { self.k < 256 }
+        ensures { line_of result ≡ closed_line kind self }
+    {
+        Line {
+            kind,
+            k: self.k as u8,
+            value: self.number,
+        }
+    }
 }
 
 // What becomes of the lines of closed cases.
 pub trait Lines {
     // With these lines of that version, the first becomes the second.
-    ghost gives: { Limits → Self → List Line → Self → Type 0 };
+    ghost gives: { Limits → Self → List model.Line → Self → Type 0 };
 
-    fn put(&mut self, limits: &Limits, kind: Kind, case: Case)
-        requires sensible { Sensible limits.now }
-        requires byte { case.k < 256 }
-        ensures { gives limits.now self.old (line_of kind case ∷ []) self.new };
+    fn put(&mut self, limits: &Limits, line: Line)
+        requires { Sensible limits.now }
+        ensures { gives limits.now self.old (line_of line ∷ []) self.new };
 
     ghost none: { (F : Limits) (s : Self) → gives F s [] s };
 
-    ghost more: { (F : Limits) → Sensible F → (s t u : Self) (ls ms : List Line) → gives F s ls t → gives F t ms u → gives F s (ls ++ ms) u };
+    ghost more: { (F : Limits) → Sensible F → (s t u : Self) (ls ms : List model.Line) → gives F s ls t → gives F t ms u → gives F s (ls ++ ms) u };
 }
 
 // Nothing: the lines are counted.
@@ -77,7 +91,7 @@ pub struct Unkept;
 impl Lines for Unkept {
     ghost gives = { λ _ _ _ _. ⊤ };
 
-    fn put(&mut self, _limits: &Limits, _kind: Kind, _case: Case) {}
+    fn put(&mut self, _limits: &Limits, _line: Line) {}
 
     ghost none = { λ _ _. tt };
 

@@ -3,10 +3,10 @@
 
 pub mod block;
 pub mod case;
-pub mod cases;
 pub mod page;
+pub mod visits;
 
-pub use block::Block;
-pub use case::{Case, Kind, Lines, Look, Unkept};
-pub use cases::{Closed, Stopped, first_levels, walk_case, walk_task};
+pub use block::{Block, FirstBlock};
+pub use case::{Case, Lines, Unkept};
 pub use page::Page;
+pub use visits::{Closed, Stopped, walk_case, walk_first, walk_task};

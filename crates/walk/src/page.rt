@@ -1,8 +1,8 @@
 // Lines that are kept in a buffer, one after another, where it has room.
 ghost use Rattle.walk.specs.Pages.{PutsLines, puts_none, puts_more};
 
-use crate::case::{Case, Kind, Lines};
-use lines::add_line;
+use crate::case::Lines;
+use lines::Line;
 use model::Limits;
 
 #[derive(Drop)]
@@ -14,15 +14,8 @@ pub struct Page<'a> {
 impl Lines for Page<'_> {
     ghost gives = { PutsLines };
 
-    fn put(&mut self, limits: &Limits, kind: Kind, case: Case) {
-        self.at = add_line(
-            self.out,
-            self.at,
-            limits.line,
-            kind as u8,
-            case.k,
-            case.number,
-        );
+    fn put(&mut self, limits: &Limits, line: Line) {
+        self.at = line.put(self.out, self.at, limits);
     }
 
     ghost none = { puts_none };

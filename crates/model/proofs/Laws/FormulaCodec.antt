@@ -13,7 +13,7 @@ use Rattle.model.specs.Formula.{Literal, fact, denial, Formula, Formulas, lit, a
 use Rattle.model.specs.Read.{got, Reader, and_then, ◌>>=◌, ◌>>◌, done, position, require, bytes_of}
 use Rattle.model.specs.FormulaBytes.{is_literal, literal_of, literal_byte, Group, conjunction, disjunction, mark, Head, leaf, group, group_head, head_from, head, members, whole, item, stated, formula, member_count, formula_bytes, member_bytes, encode_formula}
 use Rattle.model.specs.WellFormed.{Bytes, Declared, Formed, FormedAll, FormulaOk}
-use Rattle.model.specs.Stands.{Span, nothing, FormulaAt}
+use Rattle.model.proofs.Laws.Spans.{Span, nothing, FormulaAt}
 use Rattle.model.proofs.Laws.Truth.{and-true}
 use Rattle.model.proofs.Laws.Reading.{Gives, gives, reads, tests, empty, first, join, split, span-length, span-end, span-within, byte-gives, small-byte, byte-ok}
 

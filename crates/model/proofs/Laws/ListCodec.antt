@@ -12,7 +12,7 @@ use Rattle.model.specs.Walk.{Line}
 use Rattle.model.specs.Read.{and_then, ◌>>◌, done, require, answer_of, bytes_of}
 use Rattle.model.specs.ListBytes.{line_at, lines_from, case_list, list_of, line_bytes, lines_bytes, encode_list}
 use Rattle.model.specs.WellFormed.{Bytes, Each, LineOk, ListOk, Sensible}
-use Rattle.model.specs.Stands.{Span, nothing, next}
+use Rattle.model.proofs.Laws.Spans.{Span, nothing, next}
 use Rattle.model.proofs.Laws.Reading.{answer-got, Gives, gives, reads, tests, first, join, split, span-length, length-bytes_of, number-got, number_ok, length-block, header-gives, header_ok}
 
 module _ (F : Limits) (sense : Sensible F) (s : List ℕ) where

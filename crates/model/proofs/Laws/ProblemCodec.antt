@@ -13,7 +13,7 @@ use Rattle.model.specs.Read.{got, and_then, ◌>>=◌, ◌>>◌, done, position,
 use Rattle.model.specs.FormulaBytes.{literal_byte, encode_formula}
 use Rattle.model.specs.ProblemBytes.{Problem, effect, effects, effect_list, action, actions, ending, parts, body, problem, problem_of, steps, plan, plan_of, effects_bytes, action_bytes, actions_bytes, encode_problem, encode_plan}
 use Rattle.model.specs.WellFormed.{Bytes, Each, Declared, FormulaOk, EffectsOk, ActionOk, ProblemOk, PlanOk, Sensible}
-use Rattle.model.specs.Stands.{Span, nothing, next}
+use Rattle.model.proofs.Laws.Spans.{Span, nothing, next}
 use Rattle.model.proofs.Laws.Reading.{Gives, gives, reads, ends, tests, empty, first, join, split, span-length, span-end, byte-gives, byte-ok, length-block, header-gives, header_ok, count_gives, count-ok}
 use Rattle.model.proofs.Laws.FormulaCodec.{literal-got, literal-ok, formula-gives, formula-ok}
 

@@ -16,7 +16,7 @@ use borrow.Author.Tests.{leb-true, eqb-true, lt-ltb, le-ltb, le-leb, eq-eqb}
 use Rattle.model.specs.Answer.{answered}
 use Rattle.model.specs.Read.{Read, reject, got, Reader, and_then, ◌>>=◌, ◌>>◌, done, position, require, answer_of, big_endian_from, big_endian, bytes_of, block, byte, header, count}
 use Rattle.model.specs.WellFormed.{Bytes}
-use Rattle.model.specs.Stands.{Span, nothing, next}
+use Rattle.model.proofs.Laws.Spans.{Span, nothing, next}
 use Rattle.model.proofs.Laws.Truth.{and-true}
 
 -- one reader after the other

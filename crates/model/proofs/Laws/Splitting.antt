@@ -12,17 +12,13 @@ use lib.Dec.{eqb, ltb}
 use borrow.Author.Tests.{lt-ltb, le-ltb}
 use Rattle.model.specs.Kleene.{Kleene, No, Unknown, Yes, known}
 use Rattle.model.specs.Case.{bit, case_of}
-use Rattle.model.proofs.Laws.Tabulate.{length-tabulate, get_d_tabulate, getD-tabulate-past, set-tabulate}
+use Rattle.model.proofs.Laws.Tabulate.{length-tabulate, get_d_tabulate, set-tabulate}
 use Rattle.model.specs.Action.{tabulate}
 use Rattle.model.proofs.Laws.Cover.{Block, pow-half, agree}
 
 -- the value of fact i in the case (k, v)
 abbrev value_at : ℕ → ℕ → ℕ → ℕ → Kleene
 value_at w k v i = cond (ltb i k) (known (bit w v i)) Unknown
-
-pub case-past : (w n k v i : ℕ) → n ≤ i → get_or (case_of w n k v) i No ≡ No
-unfolding case_of
-case-past w n k v i h = getD-tabulate-past n (value_at w k v) i No h
 
 -- the part of the case (k, v) in which fact k is x
 abbrev pub part : ℕ → ℕ → ℕ → Bool → ℕ

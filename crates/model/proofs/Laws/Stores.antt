@@ -1,10 +1,12 @@
 -- Runs of stores. Assumes nothing.
 use mathlib.Core.Path.{◌≡◌, sym, ap, ◌∙◌}
-use mathlib.Core.List.{List, [], ◌∷◌, ◌++◌}
-use Prim.Native.Nat.{ℕ, suc, ◌+◌}
+use mathlib.Core.List.{List, [], ◌∷◌, ◌++◌, append_assoc}
+use Prim.Native.Nat.{ℕ, suc, ◌+◌, ◌≤◌}
 use native.Mathlib.Nat.{add-zero, add-suc, suc-add}
-use lib.ListN.{length, set}
-use lib.Seq.{sets}
+use native.Mathlib.Omega.{arith}
+use lib.ListN.{length, set, take, drop}
+use lib.Seq.{sets, sets-eq, drop-drop}
+use borrow.Rule.Slice.PartMut.{put_mid}
 
 -- one run of stores after another
 pub sets-append : (vs ws l : List ℕ) (i : ℕ) → sets l i (vs ++ ws) ≡ sets (sets l i vs) (i + length vs) ws
@@ -12,3 +14,9 @@ sets-append [] ws l i = ap (λ (j : ℕ). sets l j ws) (sym (add-zero i))
 sets-append (v ∷ vs) ws l i =
     sets-append vs ws (set l i v) (suc i) ∙
     ap (λ (j : ℕ). sets (sets (set l i v) (suc i) vs) j ws) (suc-add i (length vs) ∙ sym (add-suc i (length vs)))
+
+-- a part of a buffer that was written
+pub part-put : (at k : ℕ) (out part : List ℕ) → at + k ≤ length out → length part ≡ k → put_mid at k out part ≡ sets out at part
+part-put at k out part h z =
+    ap (λ (x : List ℕ). take at out ++ (part ++ x)) (drop-drop k at out) ∙ sym (append_assoc (take at out) part (drop (at + k) out)) ∙
+    ap (λ (n : ℕ). (take at out ++ part) ++ drop (at + n) out) (sym z) ∙ sym (sets-eq part out at (omega (arith, z, h)))

@@ -1,4 +1,6 @@
-use Rattle.std.proofs.Common.{refl, ap, ◌∙◌, ◌||◌, ◌%◌, eqb}
+use Rattle.std.proofs.Common.{refl, ap, ◌∙◌, ◌||◌, ℕ, eqb}
+use Rattle.model.specs.Relevance.{fact_of}
+use Rattle.formula.specs.Views.{literal}
 use Rattle.formula.specs.Literals.{literals_left}
 use Rattle.backward.specs.Facts.{has_fact}
 use Rattle.backward.proofs.Sets.{set-none, grown, grown-none}
@@ -15,9 +17,9 @@ loop-literal-init c =
 pub loop-literal-preserved : goal.loop-literal-preserved
 loop-literal-preserved c =
     λ f l.
-    grown (has_fact c.loop-literal.facts f) (eqb (c.in-Some.literal % 64) f) (named_by (literals_left c.next.new.self) f)
+    grown (has_fact c.loop-literal.facts f) (eqb (fact_of (literal c.in-Some.literal)) f) (named_by (literals_left c.next.new.self) f)
     (c.loop-literal.invariant f l) (named-first _ _ _ c.in-Some.ensures.steps f)
-    (c.bitor-facts.ensures f l ∙ ap (λ b. has_fact c.loop-literal.facts f || b) (c.of.ensures f l))
+    (c.bitor-facts.ensures f l ∙ ap (λ b. has_fact c.loop-literal.facts f || b) (c.of.ensures f l ∙ ap (λ (x : ℕ). eqb x f) c.fact.ensures.is))
 
 pub returns : goal.returns
 returns c = λ f l. grown-none (has_fact c.loop-literal.facts f) (c.loop-literal.invariant f l) (none-named-by _ c.in-None.ensures.steps.0 f)

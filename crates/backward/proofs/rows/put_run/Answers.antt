@@ -2,10 +2,11 @@ use Rattle.std.proofs.Common.{◌≡◌, sym, ap, subst, ◌∙◌, ℕ, ◌+◌
 use Rattle.model.specs.Action.{Action}
 use borrow.Rule.Slice.PartMut.{put_mid}
 use lib.Seq.{sets, length-sets}
-use Rattle.obey.specs.Actions.{GoesOn, IsHindered}
+use Rattle.step.specs.Actions.{GoesOn, IsHindered}
 use Rattle.blocks.specs.Values.{task}
-use Rattle.blocks.proofs.FoundTasks.{task-facts, plan-length}
-use Rattle.backward.proofs.Writing.{writing-begins, writing-next, writing-stops, writing-ends, row-put, row-inside, part-length}
+use Rattle.blocks.proofs.Tasks.{task-facts, plan-length}
+use Rattle.model.proofs.Laws.Stores.{part-put}
+use Rattle.backward.proofs.Writing.{writing-begins, writing-next, writing-stops, writing-ends, row-inside, part-length}
 use Rattle.backward.proofs.rows.put_run.Goals as goal
 use Rattle.backward.proofs.rows.put_run.Goals.{At-loop-i}
 
@@ -54,7 +55,7 @@ row-is :
 row-is c row z =
     let k : c.loop-i.at + c.args.cases.now.facts - c.loop-i.at ≡ c.args.cases.now.facts = omega arith in
     ap (λ (n : ℕ). put_mid c.loop-i.at n c.loop-i.work row) k ∙
-    row-put c.loop-i.at c.args.cases.now.facts c.loop-i.work row (now-inside c) (z ∙ row-size c)
+    part-put c.loop-i.at c.args.cases.now.facts c.loop-i.work row (now-inside c) (z ∙ row-size c)
 
 pub returns-in_default-clause-puts : goal.returns-in_default-clause-puts
 returns-in_default-clause-puts c =

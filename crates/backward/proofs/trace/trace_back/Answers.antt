@@ -1,6 +1,6 @@
 use Rattle.std.proofs.Common.{◌≡◌, sym, ap, subst, ◌∙◌, ℕ, ◌-◌, ◌*◌, suc, length, take, drop, arith}
 use Rattle.blocks.specs.Values.{task}
-use Rattle.blocks.proofs.FoundTasks.{task-facts, task-goal, plan-length}
+use Rattle.blocks.proofs.Tasks.{task-facts, task-goal, plan-length}
 use Rattle.backward.proofs.Tracing.{tracing-begins, Tracing, tracing-next, tracing-ends, row-fits, row-ends, row-length, row-is, row-place}
 use Rattle.model.specs.Action.{Action}
 use Rattle.backward.specs.Changes.{MattersBefore}

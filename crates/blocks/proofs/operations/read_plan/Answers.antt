@@ -2,7 +2,7 @@ use Rattle.std.proofs.Common.{ap, ◌∙◌, sym}
 use Rattle.std.proofs.lemmas.Result.{err_from_is_err_and}
 use Rattle.model.specs.Answer.{answered, ◌>>=◌}
 use Rattle.blocks.proofs.Promise.{of-slice, plan-promised}
-use Rattle.blocks.proofs.FoundTasks.{plan-length, read_plan-refused, read_plan-from}
+use Rattle.blocks.proofs.Tasks.{plan-length, read_plan-refused, read_plan-from}
 use Rattle.blocks.proofs.operations.read_plan.Goals as goal
 
 pub returns-in_err-problem : goal.returns-in_err-problem

@@ -1,6 +1,6 @@
 use Rattle.std.proofs.lemmas.Result.{err_from_is_err_and}
 use Rattle.blocks.proofs.Promise.{of-slice, problem-promised}
-use Rattle.blocks.proofs.FoundTasks.{read_problem-refused, read_problem-found}
+use Rattle.blocks.proofs.Tasks.{read_problem-refused, read_problem-found}
 use Rattle.blocks.proofs.operations.read_problem.Goals as goal
 
 pub returns-in_err-problem : goal.returns-in_err-problem

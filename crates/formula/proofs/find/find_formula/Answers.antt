@@ -1,4 +1,4 @@
-use Rattle.std.proofs.Common.{refl, arith, sym, ◌∙◌}
+use Rattle.std.proofs.Common.{refl, arith, sym}
 use Rattle.std.proofs.lemmas.Result.{err_from_is_err_and}
 use Rattle.formula.proofs.Readers.{next-refused}
 use Rattle.formula.proofs.Encoding.{Cut, cut}
@@ -6,12 +6,12 @@ use Rattle.formula.proofs.find.find_formula.Goals as goal
 use Rattle.formula.proofs.find.find_formula.Goals.{In_ok-next}
 
 found : (c : In_ok-next) → Cut c.args.s.now c.args.facts c.args.at c.in_ok-next.next
-found c = cut _ _ _ _ c.requires (λ i. omega (arith, c.type_inv.s i)) (sym c.read_formula.ensures ∙ c.in_ok-next.was)
+found c = cut _ _ _ _ c.requires (λ i. omega (arith, c.type_inv.s i)) c.in_ok-next.ensures
 
 pub returns-in_err-next : goal.returns-in_err-next
 returns-in_err-next c =
     let p = err_from_is_err_and c.from_residual.result c.from_residual.ensures.1 in
-    rw (p.1, p.2) (sym (next-refused _ _ (sym c.read_formula.ensures ∙ c.in_err-next.was)))
+    rw (p.1, p.2) (sym (next-refused _ _ _ c.in_err-next.ensures))
 
 pub overflow_add-at : goal.overflow_add-at
 overflow_add-at c = let f = found (goal.at.overflow_add-at c).In_ok-next in omega (arith, f.begins, f.ends)

@@ -9,9 +9,9 @@ pub returns-then-b-facts : goal.returns-then-b-facts
 unfolding is_literal
 returns-then-b-facts c = rw (lt-ltb _ _ c.if-b-facts.true)
 
-pub returns-then-b-lt64 : goal.returns-then-b-lt64
+pub returns-then-b-lt-DENIAL : goal.returns-then-b-lt-DENIAL
 unfolding is_literal
-returns-then-b-lt64 c = rw (le-ltb _ _ c.if-b-facts.false, lt-leb _ _ c.if-b-lt64.true)
+returns-then-b-lt-DENIAL c = rw (le-ltb _ _ c.if-b-facts.false, lt-leb _ _ c.if-b-lt-DENIAL.true)
 
 shifted : (b facts : ℕ) → 64 ≤ b → (t : Bool) → ltb (b - 64) facts ≡ t → t ≡ ltb b (64 + facts)
 shifted b facts h true e = rw (lt-ltb b (64 + facts) (omega (arith, ltb-true (b - 64) facts e)))
@@ -19,4 +19,4 @@ shifted b facts h false e = rw (le-ltb b (64 + facts) (omega (arith, ltb-false (
 
 pub returns : goal.returns
 unfolding is_literal
-returns c = rw (le-ltb _ _ c.if-b-facts.false, le-leb _ _ c.if-b-lt64.false) (shifted _ _ c.if-b-lt64.false _ refl)
+returns c = rw (le-ltb _ _ c.if-b-facts.false, le-leb _ _ c.if-b-lt-DENIAL.false) (shifted _ _ c.if-b-lt-DENIAL.false _ refl)

@@ -1,30 +1,27 @@
 -- each return is a case of `stated`
-use Rattle.std.proofs.Common.{arith}
-use Rattle.formula.proofs.Lengths.{stated-refuses, stated-none, stated-half, stated-zero, stated-long, stated-short, stated-whole}
+use Rattle.std.proofs.Common.{◌≡◌, ◌+◌, ◌-◌, arith}
+use Rattle.formula.proofs.Lengths.{stated-refuses, stated-none, stated-length, stated-short, stated-whole}
 use Rattle.formula.proofs.read.stated_end.Goals as goal
 
 pub returns-then-len-at : goal.returns-then-len-at
-returns-then-len-at c = stated-refuses _ _ c.refusal.ensures (stated-none _ _ (omega arith))
-
-pub returns-then-len-at-lt2 : goal.returns-then-len-at-lt2
-returns-then-len-at-lt2 c = stated-refuses _ _ c.refusal-then-len-at-lt2.ensures (stated-half _ _ (omega arith) (omega arith))
+returns-then-len-at c = stated-refuses _ _ c.at_byte.ensures (stated-none _ _ (omega (arith, c.then-len-at)))
 
 pub returns-then-n-eq0 : goal.returns-then-n-eq0
 returns-then-n-eq0 c =
-    stated-refuses _ _ c.refusal-then-n-eq0.ensures (stated-zero _ _ (omega arith) _ c.read_number-n.ensures.value (omega arith))
-
-pub returns-then-n-gt-MAX_FORMULA_BYTES : goal.returns-then-n-gt-MAX_FORMULA_BYTES
-returns-then-n-gt-MAX_FORMULA_BYTES c =
-    stated-refuses _ _ c.refusal-then-n-gt-MAX_FORMULA_BYTES.ensures
-    (stated-long _ _ (omega arith) _ c.read_number-n.ensures.value (omega arith))
+    let two : c.args.at + 2 - c.args.at ≡ 2 = omega arith in
+    stated-refuses _ _ c.at_byte-then-n-eq0.ensures
+    (stated-length _ _ (omega arith) _ (rw two at c.read_number-n.ensures.value) (λ l m. omega (arith, c.then-n-eq0.either)))
 
 pub returns-then-len-begin : goal.returns-then-len-begin
 returns-then-len-begin c =
-    stated-refuses _ _ c.refusal-then-len-begin.ensures
-    (stated-short _ _ (omega arith) _ c.read_number-n.ensures.value (omega arith) (omega arith) (omega arith))
+    let two : c.args.at + 2 - c.args.at ≡ 2 = omega arith in
+    stated-refuses _ _ c.at_byte-then-len-begin.ensures
+    (stated-short _ _ (omega arith) _ (rw two at c.read_number-n.ensures.value) (omega arith) (omega arith) (omega arith))
 
 pub returns : goal.returns
 returns c = record {
-  is = stated-whole _ _ (omega arith) _ c.read_number-n.ensures.value (omega arith) (omega arith) (omega arith);
+  is =
+      let two : c.args.at + 2 - c.args.at ≡ 2 = omega arith in
+      stated-whole _ _ (omega arith) _ (rw two at c.read_number-n.ensures.value) (omega arith) (omega arith) (omega arith);
   within = (omega arith, omega arith);
 }

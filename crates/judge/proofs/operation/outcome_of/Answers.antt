@@ -1,8 +1,15 @@
-use Rattle.judge.proofs.Verdicts.{outcome-none, outcome-ended}
+use Rattle.std.proofs.Common.{◌≡◌, ◌∙◌, sym, ap, ℕ, arith}
+use Rattle.model.specs.Answers.{run_answer}
+use Rattle.judge.proofs.Verdicts.{state-run}
 use Rattle.judge.proofs.operation.outcome_of.Goals as goal
 
-pub returns-in-Err : goal.returns-in-Err
-returns-in-Err c = outcome-none _ _ _ c.run_task.ensures _ _ c.in-Err.is
+pub unreachable-requires : goal.unreachable-requires
+unreachable-requires c =
+    let h = sym (ap run_answer c.in-Err.is) ∙ c.run_task.ensures ∙ state-run _ _ c.requires in
+    let z : ◌≡◌ {A = ℕ} 0 1 = cc in
+    omega arith
 
-pub returns-in-Ok : goal.returns-in-Ok
-returns-in-Ok c = outcome-ended _ _ _ c.run_task.ensures _ c.in-Ok.is
+pub returns : goal.returns
+returns c =
+    let h = sym (ap run_answer c.in-Ok.is) ∙ c.run_task.ensures ∙ state-run _ _ c.requires in
+    cc

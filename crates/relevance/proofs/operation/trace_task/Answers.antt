@@ -1,7 +1,7 @@
 use Rattle.std.proofs.Common.{◌≤◌, ◌*◌, suc, length}
 use Rattle.model.specs.Operations.{task_of}
 use Rattle.blocks.specs.Values.{task}
-use Rattle.blocks.proofs.FoundTasks.{task-facts, plan-length, facts-fit}
+use Rattle.blocks.proofs.Tasks.{task-facts, plan-length, facts-fit}
 use Rattle.relevance.proofs.Answers.{traces-task}
 use Rattle.relevance.proofs.operation.trace_task.Goals as goal
 

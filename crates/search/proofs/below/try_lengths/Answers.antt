@@ -1,7 +1,11 @@
 use Rattle.std.proofs.Common.{arith}
 use Rattle.std.proofs.lemmas.Result.{err_from_is_err_and}
+use Rattle.search.proofs.Beginning.{begun-root}
 use Rattle.search.proofs.Alike.{shorter-none, shorter-ended, shorter-one, shorter-all}
 use Rattle.search.proofs.below.try_lengths.Goals as goal
+
+pub invariant_of-begun : goal.invariant_of-begun
+invariant_of-begun c = record { begun = rw c.empty.ensures (begun-root c.args.root.now) }
 
 pub loop-length-init : goal.loop-length-init
 loop-length-init c = shorter-none _ _ _
@@ -9,11 +13,11 @@ loop-length-init c = shorter-none _ _ _
 pub returns-in_err-left : goal.returns-in_err-left
 returns-in_err-left c =
     let p = err_from_is_err_and c.from_residual.result c.from_residual.ensures.1 in
-    rw (p.1, p.2) (shorter-ended _ _ _ _ _ c.loop-length.invariant (omega arith) _ c.in_err-left.ensures)
+    rw (p.1, p.2) (shorter-ended _ _ _ _ _ c.loop-length.invariant (omega arith) _ (rw c.empty.ensures at c.in_err-left.ensures))
 
 pub loop-length-preserved : goal.loop-length-preserved
 loop-length-preserved c =
-    shorter-one _ _ _ _ _ c.loop-length.invariant (omega arith) _ c.in_ok-left.ensures
+    shorter-one _ _ _ _ _ c.loop-length.invariant (omega arith) _ (rw c.empty.ensures at c.in_ok-left.ensures)
 
 pub returns : goal.returns
 returns c = shorter-all _ _ _ _ _ c.loop-length.invariant (omega arith)

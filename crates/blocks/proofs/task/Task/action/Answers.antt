@@ -1,5 +1,5 @@
 use Rattle.std.proofs.Common.{sym, ◌∙◌}
-use Rattle.blocks.proofs.FoundTasks.{plan-action}
+use Rattle.blocks.proofs.Tasks.{plan-action}
 use Rattle.blocks.proofs.task.Task.action.Goals as goal
 
 pub returns-clause-is : goal.returns-clause-is

@@ -1,23 +1,11 @@
-use Rattle.std.proofs.Common.{◌∙◌, refl, arith}
-use Rattle.cases.specs.Cases.{value_at}
-use Rattle.cases.proofs.Lanes.{length-case_in, fact-value}
-use Rattle.cases.proofs.Facts.{changes-none, changes-more, changes-ends, changes-later}
+use Rattle.std.proofs.Common.{rules, ℕ, ◌≡◌, ◌∙◌}
+use Rattle.cases.specs.Facts.{fact_of}
+use Rattle.cases.specs.Cases.{case_of, value_at}
 use Rattle.cases.proofs.cases.Cases.fix_path.Goals as goal
 
-pub set_fact-requires : goal.set_fact-requires
-set_fact-requires c = omega (arith, c.loop-f.invariant.same)
-
-pub loop-f-init : goal.loop-f-init
-loop-f-init c = changes-none
-
-pub loop-f-preserved : goal.loop-f-preserved
-loop-f-preserved c =
-    changes-more (value_at c.spread-value.result) (length-case_in _ _) (omega arith) (omega arith) c.requires.inside refl c.loop-f.invariant
-    c.set_fact.ensures.facts
-    (λ j l.
-    c.spread-value.ensures j l ∙ c.value_of.ensures c.args.lane c.requires.is_lane ∙ fact-value _ _ (omega arith) ∙
-    changes-later c.loop-f.invariant c.args.lane c.requires.is_lane)
-    c.set_fact.ensures.cases
-
 pub returns-clause-cases : goal.returns-clause-cases
-returns-clause-cases c = changes-ends (omega arith) c.loop-f.invariant
+returns-clause-cases c =
+    c.change_facts.ensures.cases (λ (j : ℕ). fact_of (case_of c.args.self.now c.args.lane))
+    (λ f v r a b was x j l.
+    let e : value_at r j ≡ value_at v c.args.lane = search rules in
+    e ∙ was c.args.lane c.requires.is_lane)

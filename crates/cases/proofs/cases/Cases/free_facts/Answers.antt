@@ -1,19 +1,6 @@
-use Rattle.std.proofs.Common.{refl, arith}
-use Rattle.cases.specs.Cases.{value_at}
-use Rattle.cases.proofs.Lanes.{length-case_in}
-use Rattle.cases.proofs.Facts.{changes-none, changes-more, changes-ends}
+use Rattle.std.proofs.Common.{rules, ℕ}
+use Rattle.cases.specs.Facts.{unfixed}
 use Rattle.cases.proofs.cases.Cases.free_facts.Goals as goal
 
-pub set_fact-requires : goal.set_fact-requires
-set_fact-requires c = omega (arith, c.loop-f.invariant.same)
-
-pub loop-f-init : goal.loop-f-init
-loop-f-init c = changes-none
-
-pub loop-f-preserved : goal.loop-f-preserved
-loop-f-preserved c =
-    changes-more (value_at c.unknown.result) (length-case_in _ _) (omega arith) (omega arith) c.requires refl c.loop-f.invariant c.set_fact.ensures.facts
-    c.unknown.ensures c.set_fact.ensures.cases
-
 pub returns-clause-cases : goal.returns-clause-cases
-returns-clause-cases c = changes-ends (omega arith) c.loop-f.invariant
+returns-clause-cases c = c.change_facts.ensures.cases (λ (j : ℕ). unfixed) (λ f v r a b was x j l. search rules)

@@ -1,12 +1,12 @@
-use Rattle.std.proofs.Common.{ℕ, replicate}
+use Rattle.std.proofs.Common.{◌∙◌, ap}
 use Rattle.std.proofs.lemmas.List.{length-replicate}
-use Rattle.model.specs.Kleene.{Unknown}
-use Rattle.cases.proofs.Lanes.{case-in, cases-hold}
+use Rattle.cases.specs.Facts.{with_facts, unfixed}
+use Rattle.cases.proofs.Facts.{all-freed}
 use Rattle.cases.proofs.cases.Cases.none_fixed.Goals as goal
 
-pub invariant_of-result : goal.invariant_of-result
-invariant_of-result c =
-    record { few = c.requires; hold = cases-hold _ _ (λ (j : ℕ). replicate c.args.facts Unknown) c.requires (λ j l. length-replicate _ _) c.none_fixed.ensures.is }
-
 pub returns-clause-cases : goal.returns-clause-cases
-returns-clause-cases c = case-in _ _ (λ (j : ℕ). replicate c.args.facts Unknown) c.requires (λ j l. length-replicate _ _) c.none_fixed.ensures.is
+returns-clause-cases c =
+    let a = c.args in
+    λ j l.
+    c.free_facts.ensures.cases j l ∙ ap (with_facts 0 a.facts unfixed) (c.all_no-cases.ensures.cases j l) ∙
+    all-freed a.facts _ (length-replicate _ _)

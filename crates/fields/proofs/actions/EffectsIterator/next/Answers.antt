@@ -1,6 +1,7 @@
 use Rattle.std.proofs.Common.{rules, arith, refl}
 use Rattle.fields.specs.ActionBytes.{effects_of}
 use Rattle.formula.proofs.Decoding.{part}
+use Rattle.formula.proofs.Leaves.{literal-byte}
 use Rattle.fields.proofs.FirstEffect.{effect-first, length-effects}
 use Rattle.fields.proofs.actions.EffectsIterator.next.Goals as goal
 
@@ -10,6 +11,11 @@ returns-then-self-eq0-clause-steps c = rw c.if-self-eq0.true (refl, refl)
 
 pub bounds-self-0 : goal.bounds-self-0
 bounds-self-0 c = (effect-first _ _ _ c.args.self.now.sound (omega arith)).some
+
+pub of-literal-requires : goal.of-literal-requires
+of-literal-requires c =
+    let es = c.args.self.now in
+    literal-byte es.facts es.few_facts _ (effect-first _ _ _ es.sound (omega arith)).declared
 
 pub slice_bounds-of-count : goal.slice_bounds-of-count
 slice_bounds-of-count c = (effect-first _ _ _ c.args.self.now.sound (omega arith)).some
@@ -29,11 +35,11 @@ invariant_of-self c =
     }
 
 pub invariant_of-result : goal.invariant_of-result
-invariant_of-result c = record { few_facts = c.args.self.now.few_facts; declared = (effect-first _ _ _ c.args.self.now.sound (omega arith)).declared }
+invariant_of-result c = record { few_facts = c.args.self.now.few_facts; declared = rw c.of-literal.ensures (effect-first _ _ _ c.args.self.now.sound (omega arith)).declared }
 
 pub returns-clause-steps : goal.returns-clause-steps
 returns-clause-steps c =
-    rw (c.of-cut.ensures.rest, c.of-cut.ensures.formula, part) (effect-first _ _ _ c.args.self.now.sound (omega arith)).is
+    rw (c.of-literal.ensures, c.of-cut.ensures.rest, c.of-cut.ensures.formula, part) (effect-first _ _ _ c.args.self.now.sound (omega arith)).is
 
 pub returns-clause-goes : goal.returns-clause-goes
 returns-clause-goes c = search (rules, length-effects)

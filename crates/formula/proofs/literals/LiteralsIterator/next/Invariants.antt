@@ -5,8 +5,8 @@ use Rattle.formula.specs.Literals.{literals_left}
 use Rattle.formula.proofs.Sizes.{sizes}
 use Rattle.formula.proofs.literals.LiteralsIterator.next.Given as goal
 
-abbrev pub invariant-loop-b : goal.invariant-loop-b
-invariant-loop-b l = literals_left l.self ≡ literals_left l.initial.self
+abbrev pub invariant-loop-literal : goal.invariant-loop-literal
+invariant-loop-literal l = literals_left l.self ≡ literals_left l.initial.self
 
-abbrev pub decreases-loop-b : goal.decreases-loop-b
-decreases-loop-b l = sizes (formulas l.self.formulas)
+abbrev pub decreases-loop-literal : goal.decreases-loop-literal
+decreases-loop-literal l = sizes (formulas l.self.formulas)

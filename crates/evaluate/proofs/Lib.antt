@@ -1,2 +1,0 @@
--- Laws of the definitions, for several functions' proofs.
-pub mod Evaluating

@@ -1,0 +1,9 @@
+-- The line that a reader stands at.
+use Rattle.std.specs.Prelude.{◌+◌, ◌*◌}
+use Rattle.model.specs.Read.{head_bytes}
+use Rattle.model.specs.Walk as model
+use Rattle.model.specs.ListBytes.{line_at}
+use Rattle.lines.specs.declared.reader.ListReader.{ListReader}
+
+abbrev pub line_here : ListReader → model.Line
+line_here r = line_at r.limits r.list.now (head_bytes + r.limits.line * r.line)

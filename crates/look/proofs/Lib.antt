@@ -1,3 +1,0 @@
--- Laws of the definitions, for several functions' proofs.
-pub mod Lanes
-pub mod Tasks

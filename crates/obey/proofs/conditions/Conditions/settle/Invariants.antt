@@ -1,6 +1,0 @@
--- the entries from number e on are settled
-use Rattle.obey.proofs.Turns.{Settling}
-use Rattle.obey.proofs.conditions.Conditions.settle.Given as goal
-
-abbrev pub invariant-loop-e : goal.invariant-loop-e
-invariant-loop-e l = Settling l.self l.fn.cases l.e l.cases

@@ -1,4 +1,0 @@
--- What the functions of this crate answer, in the words of model/specs.
-pub mod Tables
-pub mod Blocks
-pub mod Cases

@@ -1,2 +1,0 @@
--- What the functions of this crate answer, in the words of model/specs.
-pub mod Members
