@@ -1,16 +1,25 @@
 /*
  * Larkhammock: a checker for conformant plans.
  *
- * Link with liblarkhammock.a; no further flags are needed. No function keeps a
- * pointer, allocates memory or fails other than by its answer. Every call ends,
- * for any bytes of any length.
+ * Link with liblarkhammock.a, which is for x86-64 Linux; no further flags are
+ * needed. No function keeps a pointer, allocates memory or fails other than by
+ * its answer. Every call ends, for any bytes of any length, and takes at most
+ * 64 KiB of stack on this build.
  *
- * A slice is a pointer and then a length. A pointer is never null, also where
- * the length is 0. A buffer that a call writes (out, work) overlaps no other
- * argument.
+ * A slice is a pointer and then a length: so many bytes of one live object, at
+ * most PTRDIFF_MAX of them, which nobody else writes during the call. Slices
+ * that are only read may overlap. A buffer that a call writes (out, work)
+ * overlaps no other argument, and nobody else reads it during the call either.
+ *
+ * Where the length is 0, any pointer will do, also a null pointer, such as that
+ * of an empty vector in C++: nothing is read or written there.
  */
 #ifndef LARKHAMMOCK_H
 #define LARKHAMMOCK_H
+
+#if !defined(__linux__) || !defined(__x86_64__) || !defined(__LP64__)
+#error "liblarkhammock.a is for x86-64 Linux, with pointers of 64 bits"
+#endif
 
 #include <stddef.h>
 #include <stdint.h>

@@ -13,4 +13,5 @@ pub mod relevance;
 pub mod sat;
 pub mod search;
 pub mod solvers;
+pub mod stack;
 pub mod timing;

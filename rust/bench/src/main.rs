@@ -6,16 +6,17 @@ use std::fs;
 use std::io;
 use std::path::Path;
 
-use bench::{follow, growth, judge, machine, relevance, search, solvers};
+use bench::{follow, growth, judge, machine, relevance, search, solvers, stack};
 
 type Section = (&'static str, fn() -> String);
 
-const SECTIONS: [Section; 6] = [
+const SECTIONS: [Section; 7] = [
     ("judge", judge::section),
     ("follow", follow::section),
     ("relevance", relevance::section),
     ("search", search::section),
     ("growth", growth::section),
+    ("stack", stack::section),
     ("solvers", solvers::section),
 ];
 

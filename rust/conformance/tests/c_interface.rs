@@ -2,6 +2,7 @@
 
 mod gcc;
 
+use std::ffi::OsStr;
 use std::fs;
 use std::path::{Path, PathBuf};
 use std::process::Command;
@@ -10,30 +11,49 @@ fn root() -> PathBuf {
     Path::new(env!("CARGO_MANIFEST_DIR")).join("../..")
 }
 
-/// What the program prints, linked with the archive.
+/// The first fault that the address or the undefined-behaviour sanitizer sees
+/// ends the program.
+const SANITIZED: [&str; 2] = ["-fsanitize=address,undefined", "-fno-sanitize-recover=all"];
+
+/// What the program prints, compiled with these flags and linked with the
+/// archive.
 #[track_caller]
-fn printed(source: &Path, name: &str) -> String {
+fn printed(source: &Path, name: &str, flags: &[&str]) -> String {
     let program = Path::new(env!("CARGO_TARGET_TMPDIR")).join(name);
     let include = root().join("include");
-    let archive = larkhammock::raw::ARCHIVE;
-    gcc::compile(
-        source,
-        &program,
-        &["-I".as_ref(), include.as_os_str(), archive.as_ref()],
-    );
+    let mut arguments: Vec<&OsStr> = flags.iter().map(OsStr::new).collect();
+    arguments.extend([
+        "-I".as_ref(),
+        include.as_os_str(),
+        larkhammock::raw::ARCHIVE.as_ref(),
+    ]);
+    gcc::compile(source, &program, &arguments);
 
     let run = Command::new(&program)
         .output()
         .expect("the program can be started");
     let said = String::from_utf8_lossy(&run.stdout);
-    assert!(run.status.success(), "{said}");
+    let complained = String::from_utf8_lossy(&run.stderr);
+    assert!(run.status.success(), "{said}{complained}");
     said.into_owned()
 }
 
 #[test]
 fn a_c_program_gets_the_same_words() {
     let source = gcc::source("check.c");
-    assert_eq!(printed(&source, "check"), "30 answers as they should be\n");
+    let said = "30 answers as they should be\n";
+    assert_eq!(printed(&source, "check", &[]), said);
+    assert_eq!(printed(&source, "check-sanitized", &SANITIZED), said);
+}
+
+/// Null and live pointers beside length 0, one byte, and buffers that end or
+/// begin where nobody may touch a byte.
+#[test]
+fn no_call_touches_a_byte_outside_its_slices() {
+    let source = gcc::source("slices.c");
+    let said = "540 answers as they should be\n";
+    assert_eq!(printed(&source, "slices", &[]), said);
+    assert_eq!(printed(&source, "slices-sanitized", &SANITIZED), said);
 }
 
 /// The README's call, on the library's small example.
@@ -53,5 +73,5 @@ fn the_call_in_the_readme_is_c() {
     );
     let file = Path::new(env!("CARGO_TARGET_TMPDIR")).join("readme.c");
     fs::write(&file, source).expect("the folder for tests can be written");
-    assert_eq!(printed(&file, "readme"), "right, 3 lines\n");
+    assert_eq!(printed(&file, "readme", &[]), "right, 3 lines\n");
 }

@@ -3,6 +3,13 @@
 //! The functions of the crate's root say the same with names. These are for
 //! callers that want every word, such as the conformance tests.
 
+#[cfg(not(all(
+    target_os = "linux",
+    target_arch = "x86_64",
+    target_pointer_width = "64"
+)))]
+compile_error!("liblarkhammock.a is for x86-64 Linux, with pointers of 64 bits");
+
 /// The archive that this crate is linked with.
 pub const ARCHIVE: &str = env!("LARKHAMMOCK_ARCHIVE");
 
@@ -15,6 +22,12 @@ pub struct Answer {
     pub word: [u64; 8],
 }
 
+// What each function asks of its caller, as `include/larkhammock.h` has it:
+// - a pointer and its length are so many bytes of one live object, at most
+//   `isize::MAX` of them, which nobody else writes during the call
+// - `out` or `work` overlaps no other argument, and nobody else reads it during
+//   the call either
+// - a pointer may be null where its length is 0
 extern "C" {
     fn larkhammock_read_problem(problem: *const u8, problem_len: usize) -> Answer;
     fn larkhammock_read_plan(
@@ -71,9 +84,11 @@ extern "C" {
     ) -> Answer;
 }
 
-// SAFETY, for every call below: a slice's pointer is never null and is valid
-// for its length; the library reads and writes within those lengths, keeps no
-// pointer, and `out` or `work` is borrowed alone for the time of the call.
+// SAFETY, for every call below: a slice is so many bytes of one live object, at
+// most `isize::MAX` of them, and its pointer is never null. It is borrowed for
+// the time of the call, so that nobody else writes it; `out` or `work` is
+// borrowed alone, so that it overlaps nothing and nobody else reads it. The
+// library reads and writes within those lengths and keeps no pointer.
 
 /// Tag 1: facts, actions.
 pub fn read_problem(problem: &[u8]) -> Answer {

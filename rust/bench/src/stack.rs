@@ -1,0 +1,149 @@
+//! How much stack a call takes, on a problem that takes it as deep as any can.
+
+use std::env;
+use std::fs;
+use std::path::{Path, PathBuf};
+use std::process::{self, Command};
+
+use conformance::encode;
+use conformance::model::{Action, Effect, Formula, Problem};
+use conformance::version::VERSION_1;
+use larkhammock::{raw, write_list, LONGEST_LIST};
+
+use crate::page::{whole, Table};
+
+/// The functions of the C interface, without what their names have in common.
+const OPERATIONS: [&str; 8] = [
+    "read_problem",
+    "read_plan",
+    "run",
+    "judge",
+    "write_list",
+    "follow_list",
+    "relevant_facts",
+    "search_plans",
+];
+
+/// The last fact of the greatest problem.
+const LAST: u8 = 47;
+
+/// As deep as groups may nest.
+const DEEPEST: usize = 8;
+
+/// Groups so deep, of which the outermost of an even number is an "all": true in
+/// every state, but unknown as long as the fact is.
+fn nested(depth: usize, fact: u8) -> Formula {
+    (1..depth).fold(Formula::either(fact), |inside, level| {
+        if level % 2 == 1 {
+            Formula::all([inside])
+        } else {
+            Formula::any([inside])
+        }
+    })
+}
+
+/// In the one start state no fact is true, or the last alone: so the walk goes
+/// down to the last fact and is short. The action counts to four with the facts
+/// before it, so that no shorter plan is right.
+fn deepest_problem() -> Problem {
+    let counter: Vec<u8> = (LAST - 4..LAST).collect();
+    let mut effects = vec![Effect::sets(counter[0], Formula::always())];
+    for pair in counter.windows(2) {
+        effects.push(Effect::sets(pair[1], Formula::fact(pair[0])));
+    }
+    let unknown = || nested(DEEPEST - 1, LAST);
+    let nothing_else = (0..LAST).map(Formula::not);
+    Problem {
+        version: VERSION_1,
+        facts: LAST + 1,
+        initial: Formula::all([unknown()].into_iter().chain(nothing_else)),
+        goal: Formula::all([unknown(), Formula::fact(counter[3])]),
+        actions: vec![Action {
+            precondition: nested(DEEPEST, LAST),
+            effects,
+        }],
+    }
+}
+
+/// The program that measures a call, and the files of the blocks that it is
+/// called with.
+struct Measure {
+    folder: PathBuf,
+}
+
+impl Measure {
+    fn new() -> Measure {
+        let folder = env::temp_dir().join(format!("larkhammock-stack-{}", process::id()));
+        fs::create_dir_all(&folder).expect("the temporary folder can be written");
+        let measure = Measure { folder };
+        measure.compile();
+        measure.write_blocks();
+        measure
+    }
+
+    fn compile(&self) {
+        let here = Path::new(env!("CARGO_MANIFEST_DIR"));
+        let compiled = Command::new("gcc")
+            .args(["-std=c99", "-O2", "-Wall", "-Wextra", "-Werror", "-I"])
+            .arg(here.join("../../include"))
+            .arg("-o")
+            .arg(self.folder.join("stack"))
+            .arg(here.join("src/stack.c"))
+            .arg(raw::ARCHIVE)
+            .status()
+            .expect("gcc can be started");
+        assert!(compiled.success(), "gcc compiles the measure");
+    }
+
+    fn write_blocks(&self) {
+        let problem = encode::problem(&deepest_problem());
+        let plan = encode::plan(&[0; 4]);
+        let mut list = vec![0; LONGEST_LIST];
+        let length = write_list(&problem, &plan, u64::MAX, &mut list).expect("the plan is right");
+        list.truncate(length);
+        for (name, block) in [("problem", problem), ("plan", plan), ("list", list)] {
+            fs::write(self.folder.join(name), block).expect("the temporary folder can be written");
+        }
+    }
+
+    /// The bytes of stack that the call of this operation takes.
+    fn stack(&self, operation: &str) -> u64 {
+        let output = Command::new(self.folder.join("stack"))
+            .arg(operation)
+            .args(["problem", "plan", "list"].map(|name| self.folder.join(name)))
+            .output()
+            .expect("the measure can be started");
+        let said = String::from_utf8_lossy(&output.stdout);
+        let bytes = said.trim().strip_prefix("1 ");
+        let bytes = bytes.and_then(|bytes| bytes.parse().ok());
+        bytes.unwrap_or_else(|| panic!("{operation} does not go all the way: {said}"))
+    }
+}
+
+impl Drop for Measure {
+    fn drop(&mut self) {
+        // What is left in the temporary folder harms nobody.
+        let _ = fs::remove_dir_all(&self.folder);
+    }
+}
+
+/// Each operation with the bytes of stack that its call takes.
+pub fn measured() -> Vec<(&'static str, u64)> {
+    let measure = Measure::new();
+    OPERATIONS.map(|name| (name, measure.stack(name))).to_vec()
+}
+
+pub fn section() -> String {
+    let mut table = Table::new(&["call", "bytes of stack"]);
+    for (operation, bytes) in measured() {
+        table.row(&[operation.to_string(), whole(bytes)]);
+    }
+    format!("{HEAD}{}", table.finish())
+}
+
+const HEAD: &str = "
+## Stack
+
+Of 48 facts and formulas that nest 8 deep: the walk goes down to the last fact, and a search to plans of four steps. A call runs on a stack
+that was filled with one byte, and what it takes goes down to the last byte that is another. `larkhammock.h` has the bound that a test holds it to.
+";

@@ -1,0 +1,66 @@
+/* The library's small example, and how an answer is compared: for the programs
+   of this folder, each of which includes it once. */
+#ifndef SMALL_H
+#define SMALL_H
+
+#include <stdio.h>
+#include <string.h>
+
+#include "larkhammock.h"
+
+static const uint8_t problem[] = {
+    1, 0, 0, 0, 0x20, 3, 2,                       /* 3 facts, 2 actions */
+    0, 7, 0x80, 2, 0x81, 2, 0, 1, 0x42,           /* initial */
+    0, 1, 2,                                      /* goal */
+    0, 2, 0x80, 0, 1, 2, 0, 1, 0,                 /* action 0 */
+    0, 2, 0x80, 0, 1, 2, 0, 1, 1,                 /* action 1 */
+};
+static const uint8_t both[] = {1, 0, 0, 0, 2, 0, 1};
+static const uint8_t list[] = {
+    1, 0, 0, 0, 0x18,
+    0, 2, 0, 0, 0, 0, 0, 0,
+    1, 2, 0x40, 0, 0, 0, 0, 0,
+    1, 1, 0x80, 0, 0, 0, 0, 0,
+};
+static const uint8_t states[] = {                 /* from 010, with both */
+    0, 1, 0,
+    0, 1, 0,
+    0, 1, 1,
+};
+
+static int checked = 0;
+static int faults = 0;
+
+static void are(const char *call, larkhammock_answer got,
+                const uint64_t expected[8])
+{
+    checked++;
+    for (int i = 0; i < 8; i++) {
+        if (got.word[i] != expected[i]) {
+            printf("%s: word[%d] is %llu, not %llu\n", call, i,
+                   (unsigned long long)got.word[i],
+                   (unsigned long long)expected[i]);
+            faults++;
+        }
+    }
+}
+
+static void is(const char *call, larkhammock_answer got, uint64_t a, uint64_t b,
+               uint64_t c, uint64_t d)
+{
+    const uint64_t expected[8] = {a, b, c, d, 0, 0, 0, 0};
+    are(call, got, expected);
+}
+
+static void holds(const char *call, const uint8_t *buffer, size_t len,
+                  const uint8_t *expected)
+{
+    if (memcmp(buffer, expected, len) != 0) {
+        printf("%s: the buffer is not as it should be\n", call);
+        faults++;
+    }
+}
+
+#define SLICE(a) a, sizeof a
+
+#endif
