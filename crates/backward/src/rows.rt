@@ -44,8 +44,8 @@ pub fn put_run(task: &Task, cases: &mut Cases, work: &mut [u8])
     put_row(cases, &mut work[at..end]);
 }
 
-// From the state after an action to the one before it, which stands in the row, in every lane: only facts that one of its effects sets or
-// clears may differ.
+// From the state after an action to the one before it, which stands in the row, as lane 0 has them: only facts that one of its effects sets
+// or clears may differ.
 pub(crate) fn undo(effects: Effects, cases: &mut Cases, row: &[u8])
     requires facts { effects.facts ≡ cases.old.facts }
     requires row { length row.now ≡ effects.facts }

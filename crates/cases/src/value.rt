@@ -14,7 +14,7 @@ pub struct Value {
 }
 
 impl Value {
-    ghost use Rattle.std.specs.Prelude.{◌≡◌, ◌↔◌, IsTrue, eqb};
+    ghost use Rattle.std.specs.Prelude.{◌≡◌, eqb};
     ghost use Rattle.model.specs.Kleene.{No, Unknown, Yes, is_yes, known};
     ghost use Rattle.cases.specs.Cases.{value_at, Everywhere};
 
@@ -66,15 +66,6 @@ impl Value {
         ensures { result ≡ is_yes (value_at self lane) }
     {
         lane_bit(self.sure, lane) == 1
-    }
-
-    // Whether it is no in a lane.
-    #[inline(always)]
-    pub fn is_no(self, lane: usize) -> bool
-        requires { lane < 64 }
-        ensures { IsTrue result ↔ (value_at self lane ≡ No) }
-    {
-        lane_bit(self.some, lane) == 0
     }
 
     // In every lane what it is in this one.

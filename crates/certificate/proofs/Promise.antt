@@ -1,18 +1,63 @@
--- What the writer and the checker of lists promise together: from the contracts' equations and the theorem about the definitions. Assumes nothing.
-use mathlib.Core.Path.{◌≡◌, sym, ap, ◌∙◌, subst}
+-- What the writer promises, and what it promises with the checker of lists: from the contracts' equations and the theorem about the definitions.
+-- Assumes nothing.
+use mathlib.Core.Path.{◌≡◌, refl, sym, ap, ◌∙◌, subst}
+use mathlib.Core.Logic.{inl, inr}
 use mathlib.Core.List.{List}
 use Prim.Native.Nat.{ℕ, ◌≤◌}
-use lib.ListN.{length, take}
+use native.Mathlib.Omega.{arith}
+use lib.ListN.{length, take, drop}
 use Rattle.model.specs.Limits.{version1}
-use Rattle.model.specs.Answer.{answered}
+use Rattle.model.specs.Answer as Answer
+use Rattle.model.specs.Answer.{Answer, refused, answered}
 use Rattle.model.specs.Case.{Task}
-use Rattle.model.specs.Operations.{read_task, list_bytes, list_for, write_list, follow_list}
-use Rattle.model.specs.Demands.{lines_in}
+use Rattle.model.specs.Operations.{read_task, list_bytes, written, list_for, write_list, follow_list}
+use Rattle.model.specs.Demands.{lines_in, Passing}
 use Rattle.model.proofs.Laws.Tasks.{answer-then}
 use Rattle.model.proofs.Laws.Lists.{written-answered}
 use Rattle.model.proofs.Demands.{version1-holds}
 use Rattle.follow.proofs.Promise.{followed-task}
-use Rattle.certificate.specs.Promise.{Promised}
+use Rattle.certificate.specs.Promise.{WritePromised, Promised}
+
+module _ (problem plan : List ℕ) (grant : ℕ) (before : List ℕ) where
+  unread : (n q : ℕ) → read_task version1 problem plan ≡ refused n q → (write_list version1 problem plan grant before).answer ≡ refused n q
+  unfolding write_list list_for written Answer.◌>>=◌
+  unread n q h = rw h
+
+  promised-for :
+      (x : Answer Task) → read_task version1 problem plan ≡ x → (r : Answer ℕ) (after : List ℕ) →
+      r ≡ (write_list version1 problem plan grant before).answer → after ≡ (write_list version1 problem plan grant before).buffer →
+      WritePromised problem plan grant before r after
+  promised-for (refused m p) h (refused n q) after e k =
+      let j = unread m p h in
+      (k ∙ version1-holds.demand1.refused_unchanged problem plan grant before n q (sym e), inl (h ∙ cc))
+  promised-for (refused m p) h (answered o) after e k = let j = unread m p h in let z : ◌≡◌ {A = ℕ} 0 1 = cc in absurd (omega arith)
+  promised-for (answered T) h (refused n q) after e k = (
+    k ∙ version1-holds.demand1.refused_unchanged problem plan grant before n q (sym e),
+    inr (T, h, (version1-holds.demand3 problem plan T h).refused_for grant before n q (sym e)),
+  )
+  promised-for (answered T) h (answered m) after e k =
+      let D = version1-holds.demand3 problem plan T h in
+      let (lines, closes, size, passes) = D.written_is grant before m (sym e) in
+      let (fits, rest) = version1-holds.demand1.rest_unchanged problem plan grant before m (sym e) in (
+        T,
+        h,
+        record {
+          is_right = (D.passes_only_right _ _ (D.written_passes grant before m (sym e))).0;
+          lines = lines;
+          closes = closes;
+          size = size;
+          fits = fits;
+          passes = subst (λ (b : List ℕ). Passing version1 T (take m b) lines) (sym k) passes;
+          rest = ap (drop m) k ∙ rest;
+        },
+      )
+
+  -- from the two equations of a call
+  pub write-promised :
+      {r : Answer ℕ} {after : List ℕ} →
+      (r ≡ (write_list version1 problem plan grant before).answer) × (after ≡ (write_list version1 problem plan grant before).buffer) →
+      WritePromised problem plan grant before r after
+  write-promised {r} {after} (e, k) = promised-for (read_task version1 problem plan) refl r after e k
 
 module _ (problem plan : List ℕ) where
   written-task :

@@ -1,15 +1,35 @@
--- What the answers of `write_list` and `follow_list` promise together, with nothing but the operations' definitions in
--- between. A list is any bytes of any length.
-use Rattle.std.specs.Prelude.{◌≡◌, List, ℕ, ◌≤◌, length, take, Result}
+-- What an answer of `write_list` promises, and every byte of the buffer with it. Then what the answers of `write_list` and `follow_list`
+-- promise together, with nothing but the operations' definitions in between. A list is any bytes of any length.
+use Rattle.std.specs.Prelude.{◌≡◌, ◌⊎◌, List, ℕ, ◌≤◌, length, take, drop, Result}
 use Rattle.model.specs.Limits.{version1}
-use Rattle.model.specs.Answer.{answered}
+use Rattle.model.specs.Answer.{Answer, refused, answered}
 use Rattle.model.specs.Case.{Task, Right}
 use Rattle.model.specs.Walk.{Line, covered, visits, walked}
 use Rattle.model.specs.ListBytes.{encode_list}
 use Rattle.model.specs.Operations.{read_task, list_bytes, write_list, follow_list}
-use Rattle.model.specs.Demands.{lines_in}
+use Rattle.model.specs.Demands.{lines_in, Passing, ClosesWithin, NotWritten}
 use Rattle.model.specs.Answers.{plain_answer}
 use Rattle.model.specs.declared.Refusal.{Refusal}
+
+-- the length m was answered: the list of the walk's lines stands in the buffer's first m bytes and passes, and the rest is unchanged
+pub record Writes (T : Task) (grant m : ℕ) (before after : List ℕ) : Type 0 where
+  pub is_right : Right T
+  pub lines : List Line
+  pub closes : ClosesWithin T grant lines
+  pub size : m ≡ list_bytes version1 (length lines)
+  pub fits : m ≤ length before
+  pub passes : Passing version1 T (take m after) lines
+  pub rest : drop m after ≡ drop m before
+
+-- A refusal changes no byte. It has the number and the place of the reading of the problem and the plan; or of why the list of these is not
+-- written: too small a grant, a plan that is not right, too many lines, too short a buffer.
+abbrev pub WritePromised : List ℕ → List ℕ → ℕ → List ℕ → Answer ℕ → List ℕ → Type 0
+WritePromised problem plan grant before (refused n q) after =
+    (after ≡ before) ×
+    ((read_task version1 problem plan ≡ refused n q) ⊎
+    ((T : Task) × (read_task version1 problem plan ≡ answered T) × NotWritten version1 T grant (length before) n q))
+WritePromised problem plan grant before (answered m) after =
+    (T : Task) × (read_task version1 problem plan ≡ answered T) × Writes T grant m before after
 
 -- the equation of `follow_list`, for a call that answered r
 abbrev pub FollowCall : List ℕ → List ℕ → List ℕ → Result ℕ Refusal → Type 0

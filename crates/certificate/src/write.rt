@@ -8,6 +8,7 @@ ghost use Rattle.model.specs.Walk.{walked};
 ghost use Rattle.model.specs.Operations.{write_list};
 ghost use Rattle.model.specs.Answers.{plain_answer};
 ghost use Rattle.blocks.specs.Values.{task as task_of};
+ghost use Rattle.certificate.specs.Promise.{WritePromised};
 ghost use Rattle.certificate.specs.Writing.{head_of, WritesTask};
 
 use blocks::{Problem, Task};
@@ -42,6 +43,7 @@ fn write_task(task: &Task, grant: u64, body: usize, out: &mut [u8])
 pub fn write_list(problem: &[u8], plan: &[u8], grant: u64, out: &mut [u8]) -> Result<usize, Refusal>
     ensures answer { plain_answer result ≡ (write_list version1 problem.now plan.now grant out.old).answer }
     ensures buffer { out.new ≡ (write_list version1 problem.now plan.now grant out.old).buffer }
+    ensures promised { WritePromised problem.now plan.now grant out.old (plain_answer result) out.new }
 {
     let found = Problem::read(problem)?;
     let task = found.plan(plan)?;

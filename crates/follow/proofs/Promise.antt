@@ -1,23 +1,53 @@
 -- Demand 1 of the code for lists, and W-203: from the contracts' equations and the theorems about the definitions. Assumes nothing.
 use mathlib.Core.Path.{◌≡◌, refl, sym, ◌∙◌}
-use mathlib.Core.Logic.{inl, inr}
+use mathlib.Core.Bool.{Bool, true, false, false≢true}
+use mathlib.Core.Logic.{◌⊎◌, inl, inr}
 use mathlib.Core.List.{List}
-use Prim.Native.Nat.{ℕ, ◌≤◌}
+use Prim.Native.Nat.{ℕ, ◌^◌, ◌≤◌}
 use native.Mathlib.Omega.{arith}
 use lib.ListN.{length}
+use lib.Dec.{eqb}
+use borrow.Author.Tests.{eq-eqb}
 use Rattle.model.specs.Limits.{version1}
 use Rattle.model.specs.Answer.{Answer, refused, answered}
 use Rattle.model.specs.Case.{Task}
-use Rattle.model.specs.Walk.{Line}
+use Rattle.model.specs.Walk.{Line, look_at}
+use Rattle.model.specs.CaseList.{ends, follow}
+use Rattle.model.specs.Cover.{cover_end, FaultAt}
 use Rattle.model.specs.ListBytes.{list_of}
 use Rattle.model.specs.Operations.{read_task, follow_list, cover_after}
 use Rattle.model.specs.WellFormed.{Bytes}
-use Rattle.model.proofs.Laws.Tasks.{answer-then}
-use Rattle.model.proofs.Laws.RunningEnd.{same-refusal}
+use Rattle.model.proofs.Laws.Tasks.{answer-then, refusal-of}
+use Rattle.model.proofs.Laws.RunningEnd.{same-refusal, covers-to, fault-at, same_answers}
 use Rattle.model.proofs.Laws.Covers.{cover-read, cover-refusal, cover-covers, cover-kept, cover-fault-at}
 use Rattle.model.proofs.Demands.{version1-holds}
 use Rattle.blocks.proofs.Promise.{not-refused}
-use Rattle.follow.specs.Promise.{FollowPromised, EndKept, CoverPromised}
+use Rattle.follow.specs.Promise.{EndsElsewhere, FollowRefusedFor, FollowPromised, EndKept, CoverPromised}
+
+-- the test after the last line
+ends-refused : (b : Bool) (i n q : ℕ) → ends b i ≡ refused n q → (b ≡ false) × (n ≡ 70) × (q ≡ i)
+unfolding ends
+ends-refused true i n q e = absurd (not-refused refl e)
+ends-refused false i n q e = let (f, p) = same-refusal e in (refl, sym f, sym p)
+
+-- lines that do not pass: the first fault, or the end
+lines-refused :
+    (T : Task) (lines : List Line) (n q : ℕ) → follow T.width (look_at T) T.facts lines 0 0 ≡ refused n q →
+    FaultAt T.width (look_at T) T.facts lines n q ⊎ EndsElsewhere T lines n q
+lines-refused T lines n q e =
+    elim (refusal-of (cover_end T.width (look_at T) T.facts lines 0 0) (sym (same_answers T.width (look_at T) T.facts lines) ∙ e)) [
+      | inl h ↦ inl (fault-at T.width (look_at T) T.facts lines n q h)
+      | inr (end, h, k) ↦
+          let (off, number, place) = ends-refused (eqb end (2 ^ T.width)) (length lines) n q k in
+          inr (record {
+            end = end;
+            no_fault = h;
+            covers = covers-to T.width (look_at T) T.facts lines end h;
+            not_whole = λ z. false≢true (sym off ∙ eq-eqb end (2 ^ T.width) z);
+            number = number;
+            place = place;
+          })
+    ]
 
 module _ (problem plan : List ℕ) where
   -- what is answered was read
@@ -25,10 +55,24 @@ module _ (problem plan : List ℕ) where
   unfolding follow_list
   followed-task list m e = answer-then e λ T h k. (T, h)
 
+  follow-refusal : (list : List ℕ) (n q : ℕ) → follow_list version1 problem plan list ≡ refused n q → FollowRefusedFor problem plan list n q
+  unfolding follow_list
+  follow-refusal list n q e =
+      elim (refusal-of (read_task version1 problem plan) e) [
+        | inl h ↦ inl h
+        | inr (T, h, k) ↦
+            elim (refusal-of (list_of version1 list) k) [
+              | inl l ↦ inr (T, h, inl l)
+              | inr (lines, l, m) ↦ inr (T, h, inr (lines, l, lines-refused T lines n q m))
+            ]
+      ]
+
   pub follow-promised : (list : List ℕ) → Bytes list → (r : Answer ℕ) → r ≡ follow_list version1 problem plan list → FollowPromised problem plan list r
-  follow-promised list b (refused n q) e =
-      λ T h lines p.
-      not-refused (((version1-holds.demand3 problem plan T h).passes_exactly list b (length lines)).1 (lines, p, refl)) (sym e)
+  follow-promised list b (refused n q) e = (
+    follow-refusal list n q (sym e),
+    λ T h lines p.
+        not-refused (((version1-holds.demand3 problem plan T h).passes_exactly list b (length lines)).1 (lines, p, refl)) (sym e),
+  )
   follow-promised list b (answered m) e =
       let (T, h) = followed-task list m (sym e) in
       let (lines, p, count) = ((version1-holds.demand3 problem plan T h).passes_exactly list b m).0 (sym e) in

@@ -17,8 +17,8 @@ impl Line {
     ghost use Rattle.lines.specs.Lines.{line_of};
     ghost use Rattle.lines.specs.Putting.{filled, AddsLine};
 
-    // Puts its bytes into the buffer from `at` on, and answers the position after them. Where they have no room, nothing is written: so a walk
-    // over no buffer counts.
+    // Puts its bytes into the buffer from `at` on, and answers the position after them. Where they have no room, nothing is written, and the
+    // position stays.
     pub fn put(self, out: &mut [u8], at: usize, limits: &Limits) -> usize
         requires { Sensible limits.now }
         ensures { AddsLine limits.now out.old at (line_of self) result out.new }

@@ -17,6 +17,7 @@ use Rattle.model.proofs.Laws.ProblemCodec.{problem-gives, problem-ok, plan-gives
 use Rattle.model.proofs.Laws.ListCodec.{list_sound, list-ok}
 use Rattle.model.proofs.Laws.Tasks.{answer-then, task-fits}
 use Rattle.model.proofs.Laws.Tracing.{relevances, work-unchanged, run-first}
+use Rattle.model.proofs.Laws.Verdicts.{kleene-sound}
 use Rattle.model.proofs.Laws.Judging.{verdicts}
 use Rattle.model.proofs.Laws.RunningEnd.{running-end}
 use Rattle.model.proofs.Laws.Searching.{problem-first, searching}
@@ -45,8 +46,8 @@ module _ (F : Limits) (S : Sensible F) where
         rest_unchanged =
             λ problem plan grant out n e.
             answer-then (written-answered F out n (list_for F problem plan grant (length out)) e).1 λ T given _.
-            let (_, _, _, _, size, _, rest) = wrote F S T (task-fits F problem plan T given) problem plan given grant out n e in
-            (size, rest);
+            let o = wrote F S T (task-fits F problem plan T given) problem plan given grant out n e in
+            (o.inside, o.rest);
       }
 
   pub demands-hold : Demands F
@@ -69,6 +70,9 @@ pub theorems-hold : Theorems
 theorems-hold =
     record {
       demands = demands-hold;
+      version1_sensible = version1-sensible;
+      version1_demands = version1-holds;
+      kleene = kleene-sound;
       running_ends = running-end;
       free_in_states = order-free-two;
       free_in_cases = order-free-three;

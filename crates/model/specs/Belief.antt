@@ -1,7 +1,7 @@
 -- What a plan means: section 3 of document 004. A belief state is the set of its states.
 use Rattle.std.specs.Prelude.{◌≡◌, Bool, true, false, List, [], ◌∷◌, ◌++◌, ℕ, ◌<◌, length, get_or}
 use Rattle.model.specs.Kleene.{two}
-use Rattle.model.specs.Formula.{Formula, eval}
+use Rattle.model.specs.Formula.{Formula, Formulas, lit, all, any, none, more, eval}
 use Rattle.model.specs.Action.{Action, sets, clears, next}
 use Rattle.model.specs.Run.{unmet, holds_in, Part, at_member, at_fact, Stop, Outcome, reached, missed, blocked}
 
@@ -15,6 +15,27 @@ Entails B p = (s : List Bool) → B s → eval two s p ≡ true
 -- in the state s fact f "has both conditions true" (document 02, W-202)
 abbrev pub InConflict : List Bool → Action → ℕ → Type 0
 InConflict s a f = (sets two a s f ≡ true) × (clears two a s f ≡ true)
+
+-- the members of a group, in order, and member i of them, from 0
+abbrev pub members : Formulas → List Formula
+members none = []
+members (more m ms) = m ∷ members ms
+
+abbrev pub member_at : Formulas → ℕ → Formula
+member_at ms i = get_or (members ms) i (all none)
+
+-- in the state t member m of a group is false, and each member before it is true
+pub record FirstFalse (t : List Bool) (ms : Formulas) (m : ℕ) : Type 0 where
+  pub is_member : m < length (members ms)
+  pub is_false : eval two t (member_at ms m) ≡ false
+  pub before : (i : ℕ) → i < m → eval two t (member_at ms i) ≡ true
+
+-- the member that a block names, of a formula that is false in the state t: of an "all", the first of its members that is false; of any other
+-- formula, 0
+abbrev pub IsUnmet : List Bool → Formula → ℕ → Type 0
+IsUnmet t (lit l) m = m ≡ 0
+IsUnmet t (all ms) m = FirstFalse t ms m
+IsUnmet t (any ms) m = m ≡ 0
 
 -- the belief that holds the state s alone
 abbrev pub only : List Bool → Belief
@@ -54,7 +75,8 @@ module _ (n : ℕ) where
   -- the part that keeps an action from being applicable in the state t: a member of the precondition, which is false; or, where it is
   -- true, the lowest fact in conflict
   abbrev pub IsPart : List Bool → Action → Part → Type 0
-  IsPart t a (at_member m) = (eval two t a.precondition ≡ false) × (unmet (holds_in two t) a.precondition ≡ m)
+  IsPart t a (at_member m) =
+      (eval two t a.precondition ≡ false) × (unmet (holds_in two t) a.precondition ≡ m) × IsUnmet t a.precondition m
   IsPart t a (at_fact f) =
       (eval two t a.precondition ≡ true) × (f < n) × InConflict t a f × ((g : ℕ) → g < f → InConflict t a g → ⊥)
 

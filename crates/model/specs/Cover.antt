@@ -58,6 +58,7 @@ module _ (w : ℕ) (look : ℕ → ℕ → Look) (n : ℕ) where
     pub after : List Line
     pub stands : drop i ls ≡ line ∷ after
     pub is : fault w look n line end ≡ f
+    pub some : 0 < f
 
   -- W-203, of any lines whatever
   pub record RunningEnd : Type 0 where

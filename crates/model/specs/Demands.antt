@@ -8,10 +8,10 @@ use Rattle.model.specs.declared.Limits.{Limits}
 use Rattle.model.specs.Limits.{max_length, max_plans}
 use Rattle.model.specs.Answer.{refused, answered}
 use Rattle.model.specs.Run.{Outcome, reached}
-use Rattle.model.specs.Case.{state_of, Task, run_of, IsState, IsStart, Right}
+use Rattle.model.specs.Case.{bit, state_of, Task, run_of, IsState, IsStart, Right}
 use Rattle.model.specs.Belief.{Solution, initial_belief, OutcomeMeans}
 use Rattle.model.specs.Walk.{Line, covered, Verdict, right, wrong, undecided, visits, look_at, walked}
-use Rattle.model.specs.Relevance.{relevant_to, work_bytes, run_rows, AgreeOn}
+use Rattle.model.specs.Relevance.{relevant_to, is_relevant, work_bytes, run_rows, AgreeOn}
 use Rattle.model.specs.Search.{Search, first_right, none_right, undecided_at, visits_of, IsShort, Earlier, Enumerates}
 use Rattle.model.specs.Read.{head_bytes}
 use Rattle.model.specs.ProblemBytes.{Problem, problem_of, plan_of, encode_problem, encode_plan}
@@ -76,10 +76,15 @@ pub record SaysRight (T : Task) (grant lines used : ℕ) : Type 0 where
   -- "For a right plan, visits are twice the lines less one."
   pub twice_lines : suc used ≡ 2 * lines
 
+-- what an outcome of the run of the state numbered s says: section 3 of document 004, of the belief that holds this state alone
+abbrev pub OutcomeSays : Task → ℕ → Outcome → Type 0
+OutcomeSays T s o = OutcomeMeans T.facts (state_of T.width T.facts s) T.goal T.plan o
+
 -- "wrong only with the lowest failing start state and where it fails"
 pub record SaysWrong (T : Task) (grant s : ℕ) (o : Outcome) (used : ℕ) : Type 0 where
   pub lowest : LowestFailing T s
   pub where_it_fails : o ≡ run_of T s
+  pub outcome_says : OutcomeSays T s o
   pub walk_visits : used ≡ visits (walked T)
   pub within : used ≤ grant
 
@@ -92,10 +97,6 @@ abbrev pub Says : Task → ℕ → Verdict ℕ → Type 0
 Says T grant (right lines used) = SaysRight T grant lines used
 Says T grant (wrong s o used) = SaysWrong T grant s o used
 Says T grant (undecided used) = SaysUndecided T grant used
-
--- what an outcome of the run of the state numbered s says: section 3 of document 004, of the belief that holds this state alone
-abbrev pub OutcomeSays : Task → ℕ → Outcome → Type 0
-OutcomeSays T s o = OutcomeMeans T.facts (state_of T.width T.facts s) T.goal T.plan o
 
 -- Demand 2, "Verdicts", for a problem and a plan that are read as T
 pub record Demand2 (F : Limits) (problem plan : List ℕ) (T : Task) : Type 0 where
@@ -135,6 +136,22 @@ pub record Passing (F : Limits) (T : Task) (list : List ℕ) (lines : List Line)
   pub joined : Joined T.width lines 0
   pub hold : Each (LineHolds T.width (look_at T) T.facts) lines
 
+-- the walk closes with these lines, and its visits are within the grant
+pub record ClosesWithin (T : Task) (grant : ℕ) (lines : List Line) : Type 0 where
+  pub closes : walked T ≡ covered lines (visits (walked T))
+  pub within : visits (walked T) ≤ grant
+
+-- why the list of a task that was read is not written into a buffer of `room` bytes, with number and place. 50: the grant is below the walk's
+-- visits; the place is the grant. 51: the visits suffice, and the plan is not right; the place is the visits. 52: the walk closes, within the
+-- grant, with more lines than a list has; 53: with lines whose block the buffer is too short for; the place is the lines.
+pub data NotWritten (F : Limits) (T : Task) (grant room : ℕ) : ℕ → ℕ → Type 0 where
+  by_visits : grant < visits (walked T) → NotWritten F T grant room 50 grant
+  by_verdict : visits (walked T) ≤ grant → (Right T → ⊥) → NotWritten F T grant room 51 (visits (walked T))
+  by_lines : (lines : List Line) → ClosesWithin T grant lines → F.lines < length lines → NotWritten F T grant room 52 (length lines)
+  by_room :
+      (lines : List Line) → ClosesWithin T grant lines → length lines ≤ F.lines → room < list_bytes F (length lines) →
+      NotWritten F T grant room 53 (length lines)
+
 -- Demand 3, "Case lists", one claim about whole lists: "Whatever bytes a list holds, it passes only if the plan is right; the list that
 -- we write passes, and no passing list has fewer lines."
 pub record Demand3 (F : Limits) (problem plan : List ℕ) (T : Task) : Type 0 where
@@ -153,6 +170,26 @@ pub record Demand3 (F : Limits) (problem plan : List ℕ) (T : Task) : Type 0 wh
       ((grant : ℕ) (out : List ℕ) → visits (walked T) ≤ grant → length lines ≤ F.lines → list_bytes F (length lines) ≤ length out →
       ((write_list F problem plan grant out).answer ≡ answered (list_bytes F (length lines))) ×
       (written_list F problem plan grant out (list_bytes F (length lines)) ≡ encode_list F lines))
+  -- each of these refusals where it is so: a grant below the visits; a plan that is not right; more lines than a list has; too short a buffer
+  pub out_of_visits :
+      (grant : ℕ) (out : List ℕ) → grant < visits (walked T) → (write_list F problem plan grant out).answer ≡ refused 50 grant
+  pub not_right :
+      (grant : ℕ) (out : List ℕ) → visits (walked T) ≤ grant → (Right T → ⊥) →
+      (write_list F problem plan grant out).answer ≡ refused 51 (visits (walked T))
+  pub too_many_lines :
+      (grant : ℕ) (out : List ℕ) (lines : List Line) → ClosesWithin T grant lines → F.lines < length lines →
+      (write_list F problem plan grant out).answer ≡ refused 52 (length lines)
+  pub short_buffer :
+      (grant : ℕ) (out : List ℕ) (lines : List Line) → ClosesWithin T grant lines → length lines ≤ F.lines →
+      length out < list_bytes F (length lines) → (write_list F problem plan grant out).answer ≡ refused 53 (length lines)
+  -- and there is no other refusal
+  pub refused_for :
+      (grant : ℕ) (out : List ℕ) (n q : ℕ) → (write_list F problem plan grant out).answer ≡ refused n q → NotWritten F T grant (length out) n q
+  -- an answer is the length of the walk's list, which stands in the buffer up to it, and passes
+  pub written_is :
+      (grant : ℕ) (out : List ℕ) (n : ℕ) → (write_list F problem plan grant out).answer ≡ answered n →
+      (lines : List Line) × ClosesWithin T grant lines × (n ≡ list_bytes F (length lines)) ×
+      Passing F T (written_list F problem plan grant out n) lines
   -- what is written passes, and no list that passes has fewer lines
   pub written_passes :
       (grant : ℕ) (out : List ℕ) (n : ℕ) → (write_list F problem plan grant out).answer ≡ answered n →
@@ -176,6 +213,10 @@ pub record Relevance (F : Limits) (problem plan : List ℕ) (T : Task) : Type 0 
       (relevant_facts F problem plan s work).answer ≡ answered (relevant_to T s)
   -- "The answer is a set of start facts, as a state number": of declared facts only
   pub is_state : (s : ℕ) (work : List ℕ) (m : ℕ) → (relevant_facts F problem plan s work).answer ≡ answered m → IsState T m
+  -- fact by fact: a declared fact's bit in the answer is whether the fact matters before the run
+  pub each_bit :
+      (s : ℕ) (work : List ℕ) (m : ℕ) → (relevant_facts F problem plan s work).answer ≡ answered m →
+      (f : ℕ) → f < T.facts → bit T.width m f ≡ is_relevant T s f
   -- "any other state which agrees on that set is also reached"
   pub reached_too :
       (s : ℕ) (work : List ℕ) (m : ℕ) → (relevant_facts F problem plan s work).answer ≡ answered m →

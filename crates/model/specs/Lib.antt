@@ -5,6 +5,7 @@ pub mod Formula
 pub mod Action
 pub mod Run
 pub mod Case
+pub mod Soundness
 pub mod Belief
 pub mod Walk
 pub mod Answer

@@ -88,6 +88,10 @@ module _ (T : Task) where
   unfoldable pub relevant_to : ℕ → ℕ
   relevant_to s = number_of T.width (relevant T.facts T.goal T.plan (state_of T.width T.facts s))
 
+  -- whether fact f is one of them
+  abbrev pub is_relevant : ℕ → ℕ → Bool
+  is_relevant s f = get_or (relevant T.facts T.goal T.plan (state_of T.width T.facts s)) f false
+
   -- "The work area has steps plus one rows"; "afterwards they hold the states of the run, in order"
   abbrev pub work_bytes : ℕ
   work_bytes = suc (length T.plan) * T.facts
@@ -103,5 +107,7 @@ module _ (T : Task) where
   pub record RestsOnRelevant : Type 0 where
     -- the set is one of declared facts only
     pub is_state : (s : ℕ) → IsState T (relevant_to s)
+    -- a declared fact's bit in its number is whether the fact is in the set
+    pub each_bit : (s f : ℕ) → f < T.facts → bit T.width (relevant_to s) f ≡ is_relevant s f
     -- "Prove that any other state which agrees on that set is also reached."
     pub reached_too : (s : ℕ) → run_of T s ≡ reached → (t : ℕ) → AgreeOn (relevant_to s) s t → run_of T t ≡ reached

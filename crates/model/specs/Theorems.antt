@@ -1,8 +1,10 @@
 -- What is proved of the definitions. Each record is the contract of a function of src/theorems.rt, so that no check passes without it.
 use Rattle.std.specs.Prelude.{ℕ}
 use Rattle.model.specs.declared.Limits.{Limits}
+use Rattle.model.specs.Limits.{version1}
 use Rattle.model.specs.Kleene.{two, three}
 use Rattle.model.specs.Action.{OrderFree}
+use Rattle.model.specs.Soundness.{KleeneSound}
 use Rattle.model.specs.Walk.{Look}
 use Rattle.model.specs.Cover.{RunningEnd}
 use Rattle.model.specs.WellFormed.{Sensible}
@@ -12,6 +14,11 @@ use Rattle.model.specs.Trials.{Hold, starred, NoStart, edges, DeskGrant, unmet_m
 pub record Theorems : Type 0 where
   -- the three demands, and what W-204 and W-205 ask to be proved, of every version whose numbers are sensible
   pub demands : (F : Limits) → Sensible F → Demands F
+  -- version 1 is such a version, and so they hold of it
+  pub version1_sensible : Sensible version1
+  pub version1_demands : Demands version1
+  -- what reading a formula in a case says of its states, for every width and fact count
+  pub kleene : (w n : ℕ) → KleeneSound w n
   -- W-203, for every width, fact count and look
   pub running_ends : (w : ℕ) (look : ℕ → ℕ → Look) (n : ℕ) → RunningEnd w look n
   -- document 004's assumption, in states and in cases

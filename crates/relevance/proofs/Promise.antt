@@ -42,6 +42,7 @@ module _ (problem plan : List ℕ) (s : ℕ) (before : List ℕ) where
             runs = record { read = h; state = st };
             is_reached = r;
             is_state = R.is_state s before _ i;
+            each_bit = R.each_bit s before _ i;
             reached_too = R.reached_too s before _ i;
             fits = l;
             holds = ap (take (work_bytes T)) k ∙ held;

@@ -3,8 +3,8 @@ use Rattle.std.specs.Prelude.{◌≡◌, ◌≢◌, ◌⊎◌, List, ℕ, ◌≤
 use Rattle.model.specs.Limits.{version1}
 use Rattle.model.specs.Answer.{Answer, refused, answered}
 use Rattle.model.specs.Run.{reached}
-use Rattle.model.specs.Case.{Task, run_of, IsState}
-use Rattle.model.specs.Relevance.{work_bytes, run_rows, AgreeOn}
+use Rattle.model.specs.Case.{bit, Task, run_of, IsState}
+use Rattle.model.specs.Relevance.{is_relevant, work_bytes, run_rows, AgreeOn}
 use Rattle.model.specs.Operations.{read_task, run_state}
 
 -- the problem and the plan are read as T, and s is a state of it
@@ -25,6 +25,8 @@ pub record Rests (problem plan : List ℕ) (s : ℕ) (T : Task) (m : ℕ) (befor
   pub is_reached : run_of T s ≡ reached
   -- it is one of declared facts only
   pub is_state : IsState T m
+  -- a declared fact's bit in it is whether the fact matters before the run
+  pub each_bit : (f : ℕ) → f < T.facts → bit T.width m f ≡ is_relevant T s f
   -- "any other state which agrees on that set is also reached"
   pub reached_too : (t : ℕ) → IsState T t → AgreeOn T m s t → run_state version1 problem plan t ≡ answered reached
   -- the first rows hold the states of the run, and the rest is unchanged

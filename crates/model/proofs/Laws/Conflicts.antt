@@ -9,10 +9,10 @@ use native.Mathlib.Omega.{arith}
 use native.Mathlib.Decide.{dec_lt}
 use Rattle.model.proofs.Laws.Truth.{and-true, and_assoc, and_one}
 use Rattle.model.specs.Kleene.{Kleene, No, Unknown, Yes, both, either, denied, is_yes, Logic, two, three}
-use Rattle.model.specs.Formula.{eval}
+use Rattle.model.specs.Formula.{Formula, Formulas, lit, all, any, none, more, eval, eval_all}
 use Rattle.model.specs.Action.{Action, every, sets, clears, exclusive, applicable, next, OrderFree}
-use Rattle.model.specs.Run.{unmet, holds_in, lowest_false, Part, at_member, at_fact, part_of}
-use Rattle.model.specs.Belief.{InConflict, IsPart}
+use Rattle.model.specs.Run.{first_false, unmet, holds_in, lowest_false, Part, at_member, at_fact, part_of}
+use Rattle.model.specs.Belief.{InConflict, member_at, FirstFalse, IsUnmet, IsPart}
 
 -- ---- all of the first n, and the lowest that is false
 
@@ -76,6 +76,32 @@ lowest-false (suc n) f e = by_first (f zero) refl e (λ r. lowest-false n (after
         record { below = suc-le-suc r.below; here = r.here; before = true-after f h _ r.before }
     by_first false h e later = record { below = omega arith; here = h; before = λ k l. absurd (omega arith) }
 
+-- ---- the member that is named
+
+first-false : (s : List Bool) (ms : Formulas) → eval_all two s ms ≡ false → FirstFalse s ms (first_false (holds_in two s) ms)
+unfolding eval first_false
+first-false s none e = absurd (false≢true (sym e))
+first-false s (more m ms) e = by_first (eval two s m) refl e (λ r. first-false s ms r)
+  where
+    by_first :
+        (b : Bool) → eval two s m ≡ b → (b && eval_all two s ms) ≡ false →
+        (eval_all two s ms ≡ false → FirstFalse s ms (first_false (holds_in two s) ms)) →
+        FirstFalse s (more m ms) (cond b (suc (first_false (holds_in two s) ms)) 0)
+    by_first true h e later =
+        let r = later e in
+        record {
+          is_member = suc-le-suc r.is_member;
+          is_false = r.is_false;
+          before = true-after (λ i. eval two s (member_at (more m ms) i)) h _ r.before;
+        }
+    by_first false h e later = record { is_member = omega arith; is_false = h; before = λ i l. absurd (omega arith) }
+
+is-unmet : (s : List Bool) (φ : Formula) → eval two s φ ≡ false → IsUnmet s φ (unmet (holds_in two s) φ)
+unfolding eval unmet
+is-unmet s (lit l) e = refl
+is-unmet s (all ms) e = first-false s ms e
+is-unmet s (any ms) e = refl
+
 -- ---- in a state
 
 nand_true : (x y : Bool) → not (x && y) ≡ true → (x ≡ true) × (y ≡ true) → ⊥
@@ -117,7 +143,7 @@ module _ (n : ℕ) (a : Action) (s : List Bool) where
           (b : Bool) → eval two s a.precondition ≡ b → (b && every n (exclusive two a s)) ≡ false →
           IsPart n s a (cond b (at_fact (lowest_false n (exclusive two a s))) (at_member (unmet (holds_in two s) a.precondition)))
       by-test true h e = let (l, c, b) = (lowest-conflict _).0 (lowest-false n (exclusive two a s) e) in (h, l, c, b)
-      by-test false h e = (h, refl)
+      by-test false h e = (h, refl, is-unmet s a.precondition h)
 
   pub is-part : (p : Part) → IsPart n s a p → (applicable two n a s ≡ false) × (part_of two n a s ≡ p)
   unfolding applicable part_of

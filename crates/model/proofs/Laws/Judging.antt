@@ -18,9 +18,17 @@ use Rattle.model.proofs.Laws.Tasks.{judge-is, run-answers, run_no_state}
 module _ (T : Task) (n≤w : T.facts ≤ T.width) where
   -- what a verdict with its lines means, it says with their count
   counted : (g : ℕ) (v : Verdict (List Line)) → Means T n≤w g (walked T) v → Says T g (line_count v)
+  unfolding run_of
   counted g (right ls a) m =
       record { is_right = m.1; is_solution = (solution-right T n≤w).1 m.1; walk_visits = sym (ap visits m.0); within = m.3; twice_lines = m.2 }
-  counted g (wrong s o a) m = record { lowest = m.1; where_it_fails = m.2; walk_visits = sym (ap visits m.0); within = m.3 }
+  counted g (wrong s o a) m =
+      record {
+        lowest = m.1;
+        where_it_fails = m.2;
+        outcome_says = (outcome-means T.facts T.goal T.plan (state_of T.width T.facts s) o).0 (sym m.2);
+        walk_visits = sym (ap visits m.0);
+        within = m.3;
+      }
   counted g (undecided a) m = record { all_used = m.0; needs_more = m.1 }
 
   module _ (F : Limits) (problem plan : List ℕ) (given : read_task F problem plan ≡ answered T) where

@@ -1,6 +1,7 @@
 -- Demand 3 for the definitions of writing and following, where what is encoded is decoded. Assumes nothing.
-use mathlib.Core.Path.{◌≡◌, refl, sym, ap, ◌∙◌}
+use mathlib.Core.Path.{◌≡◌, refl, sym, ap, subst, ◌∙◌}
 use mathlib.Core.Bool.{Bool, true, false, cond}
+use mathlib.Core.Logic.{inl, inr}
 use mathlib.Core.List.{List, [], ◌∷◌}
 use Prim.Native.Nat.{ℕ, ◌+◌, ◌-◌, ◌^◌, ◌≤◌}
 use native.Mathlib.Omega.{arith}
@@ -8,24 +9,24 @@ use lib.ListN.{length, drop}
 use lib.Seq.{take_at, drop_at}
 use lib.Pow.{pow_pos}
 use lib.Dec.{ltb}
-use borrow.Author.Tests.{le-ltb, ltb-false}
+use borrow.Author.Tests.{lt-ltb, le-ltb, ltb-true, ltb-false}
 use Rattle.model.specs.declared.Limits.{Limits}
 use Rattle.model.specs.Answer as Answer
 use Rattle.model.specs.Answer.{Answer, refused, answered}
 use Rattle.model.specs.Case.{Task}
-use Rattle.model.specs.Walk.{Look, Line, covered, Verdict, right, wrong, undecided, visits, look_at, walked, judged}
+use Rattle.model.specs.Walk.{Look, Line, covered, failed, Verdict, right, wrong, undecided, visits, look_at, walked, judged}
 use Rattle.model.specs.Read.{head_bytes, ◌>>=◌, ◌>>◌, done}
 use Rattle.model.specs.ListBytes.{case_list, list_of, lines_bytes, encode_list}
 use Rattle.model.specs.Operations.{read_task, list_bytes, lines_for, written, list_for, write_list, follow_list}
 use Rattle.model.specs.WellFormed.{Each, LineOk, Sensible}
-use Rattle.model.specs.Demands.{lines_in, written_list, Demand3}
+use Rattle.model.specs.Demands.{lines_in, written_list, ClosesWithin, NotWritten, by_visits, by_verdict, by_lines, by_room, Demand3}
 use Rattle.model.proofs.Laws.Cover.{claimed, Follows}
-use Rattle.model.proofs.Laws.Verdicts.{Passes, Means, judged-means, passes-right, right-closes, walk-passes, walk-fewest}
+use Rattle.model.proofs.Laws.Verdicts.{Passes, Means, judged-means, passes-right, right-closes, walk_ends, walk-closes-right, walk-passes, walk-fewest}
 use Rattle.model.proofs.Laws.Following.{follow-passes, passes-follow}
 use Rattle.model.proofs.Laws.Reading.{then-got, got-inj, answer-got, length-block, byte-bits}
 use Rattle.model.proofs.Laws.ListCodec.{length-lines, length-lines_from, list_sound, list-ok}
 use Rattle.model.proofs.Laws.Tasks.{answer-then, list-for-is, follow-is, Fits}
-use Rattle.model.proofs.Laws.Judging.{judged-in}
+use Rattle.model.proofs.Laws.Judging.{judged-in, judged-out}
 
 -- ---- lengths
 
@@ -63,6 +64,11 @@ module _ (F : Limits) (out : List ℕ) where
   written-answered n (refused m q) e = let z : ◌≡◌ {A = ℕ} 0 1 = cc in absurd (omega arith)
   written-answered n (answered ls) e = (ls, refl, cc)
 
+  written-refused : (n q : ℕ) (x : Answer (List Line)) → (written F out x).answer ≡ refused n q → x ≡ refused n q
+  unfolding written
+  written-refused n q (refused m r) e = let i : m ≡ n = cc in let j : r ≡ q = cc in rw (i, j) refl
+  written-refused n q (answered ls) e = let z : ◌≡◌ {A = ℕ} 0 1 = cc in absurd (omega arith)
+
   pub refused_unchanged : (n q : ℕ) (x : Answer (List Line)) → (written F out x).answer ≡ refused n q → (written F out x).buffer ≡ out
   unfolding written
   refused_unchanged n q (refused m r) e = refl
@@ -74,6 +80,14 @@ passed :
 passed n q true x e = (cc, cc)
 passed n q false x e = (refl, e)
 
+-- what is said of a refusal's number and place, of an equal one
+as-refused :
+    {A : Type 0} (P : ℕ → ℕ → Type 0) (m p n q : ℕ) → ◌≡◌ {A = Answer A} (refused m p) (refused n q) → P m p → P n q
+as-refused P m p n q e x =
+    let i : m ≡ n = cc in
+    let j : p ≡ q = cc in
+    subst (λ (y : ℕ). P n y) j (subst (λ (y : ℕ). P y p) i x)
+
 module _ (F : Limits) (S : Sensible F) (T : Task) (fits : Fits F T) where
   pub n≤w : T.facts ≤ T.width
   n≤w = omega (arith, fits.facts, fits.width, S.width)
@@ -81,7 +95,7 @@ module _ (F : Limits) (S : Sensible F) (T : Task) (fits : Fits F T) where
   -- the lines that are written are the walk's, and no test refused them
   chosen :
       (room grant : ℕ) (ls : List Line) (v : Verdict (List Line)) → Means T n≤w grant (walked T) v → lines_for F room v ≡ answered ls →
-      (a : ℕ) × (walked T ≡ covered ls a) × (length ls ≤ F.lines) × (list_bytes F (length ls) ≤ room)
+      (a : ℕ) × (walked T ≡ covered ls a) × (length ls ≤ F.lines) × (list_bytes F (length ls) ≤ room) × (a ≤ grant)
   unfolding lines_for
   chosen room grant ls (right ms a) m e =
       let (p, e₁) = passed 52 _ (ltb F.lines (length ms)) _ e in
@@ -89,9 +103,39 @@ module _ (F : Limits) (S : Sensible F) (T : Task) (fits : Fits F T) where
       let i : ms ≡ ls = cc in
       let few = ltb-false F.lines (length ms) p in
       let room_for = ltb-false room (list_bytes F (length ms)) q in
-      (a, m.0 ∙ ap (λ l. covered l a) i, rw i at few, rw i at room_for)
+      (a, m.0 ∙ ap (λ l. covered l a) i, rw i at few, rw i at room_for, m.3)
   chosen room grant ls (wrong s o a) m e = let z : ◌≡◌ {A = ℕ} 0 1 = cc in absurd (omega arith)
   chosen room grant ls (undecided a) m e = let z : ◌≡◌ {A = ℕ} 0 1 = cc in absurd (omega arith)
+
+  -- a walk that closes, with its visits as they are counted
+  closes-within : (grant a : ℕ) (ls : List Line) → walked T ≡ covered ls a → a ≤ grant → ClosesWithin T grant ls
+  closes-within grant a ls e l =
+      let v : visits (walked T) ≡ a = ap visits e in
+      record { closes = e ∙ ap (covered ls) (sym v); within = omega arith }
+
+  -- a verdict whose lines are not written
+  not-written :
+      (room grant n q : ℕ) (v : Verdict (List Line)) → Means T n≤w grant (walked T) v → lines_for F room v ≡ refused n q →
+      NotWritten F T grant room n q
+  unfolding lines_for
+  not-written room grant n q (right ms a) m e =
+      by-tests (ltb F.lines (length ms)) (ltb room (list_bytes F (length ms))) refl refl e
+    where
+      by-tests :
+          (b c : Bool) → ltb F.lines (length ms) ≡ b → ltb room (list_bytes F (length ms)) ≡ c →
+          cond b (refused 52 (length ms)) (cond c (refused 53 (length ms)) (answered ms)) ≡ refused n q → NotWritten F T grant room n q
+      by-tests true c h k e =
+          as-refused (NotWritten F T grant room) 52 (length ms) n q e (by_lines ms (closes-within grant a ms m.0 m.3) (ltb-true _ _ h))
+      by-tests false true h k e =
+          as-refused (NotWritten F T grant room) 53 (length ms) n q e
+          (by_room ms (closes-within grant a ms m.0 m.3) (ltb-false F.lines (length ms) h) (ltb-true _ _ k))
+      by-tests false false h k e = let z : ◌≡◌ {A = ℕ} 0 1 = cc in absurd (omega arith)
+  not-written room grant n q (wrong s o a) m e =
+      let v : visits (walked T) ≡ a = ap visits m.0 in
+      as-refused (NotWritten F T grant room) 51 (visits (walked T)) n q (ap (λ (x : ℕ). refused 51 x) v ∙ e)
+      (by_verdict (omega (arith, m.3)) (λ r. m.1.not_reached (r s m.1.start)))
+  not-written room grant n q (undecided a) m e =
+      as-refused (NotWritten F T grant room) 50 grant n q (ap (λ (x : ℕ). refused 50 x) (sym m.0) ∙ e) (by_visits m.1)
 
   module _ (problem plan : List ℕ) (given : read_task F problem plan ≡ answered T) where
     -- the buffer after lines were written
@@ -106,17 +150,25 @@ module _ (F : Limits) (S : Sensible F) (T : Task) (fits : Fits F T) where
         rw (e, l) (take_at (encode_list F ls) after _ k, drop_at (encode_list F ls) after _ k)
 
     -- what was written, as the walk's lines
-    pub wrote :
-        (grant : ℕ) (out : List ℕ) (n : ℕ) → (write_list F problem plan grant out).answer ≡ answered n →
-        (ls : List Line) × (a : ℕ) × (walked T ≡ covered ls a) × (length ls ≤ F.lines) × (n ≤ length out) ×
-        (written_list F problem plan grant out n ≡ encode_list F ls) × (drop n (write_list F problem plan grant out).buffer ≡ drop n out)
+    pub record Wrote (grant : ℕ) (out : List ℕ) (n : ℕ) : Type 0 where
+      pub lines : List Line
+      pub used : ℕ
+      pub closes : walked T ≡ covered lines used
+      pub within : used ≤ grant
+      pub few : length lines ≤ F.lines
+      pub size : n ≡ list_bytes F (length lines)
+      pub inside : n ≤ length out
+      pub block : written_list F problem plan grant out n ≡ encode_list F lines
+      pub rest : drop n (write_list F problem plan grant out).buffer ≡ drop n out
+
+    pub wrote : (grant : ℕ) (out : List ℕ) (n : ℕ) → (write_list F problem plan grant out).answer ≡ answered n → Wrote grant out n
     unfolding write_list
     wrote grant out n e =
         let (ls, x, l) = written-answered F out n (list_for F problem plan grant (length out)) e in
         let y = sym (list-for-is F problem plan T given grant (length out)) ∙ x in
-        let (a, w, few, room) = chosen (length out) grant ls (judged T grant) (judged-means T n≤w grant) y in
+        let (a, w, few, room, granted) = chosen (length out) grant ls (judged T grant) (judged-means T n≤w grant) y in
         let (list, rest) = buffer grant out n ls x l in
-        (ls, a, w, few, omega arith, list, rest)
+        record { lines = ls; used = a; closes = w; within = granted; few = few; size = l; inside = omega arith; block = list; rest = rest }
 
     -- a list that passes, as its lines
     followed :
@@ -138,6 +190,16 @@ module _ (F : Limits) (S : Sensible F) (T : Task) (fits : Fits F T) where
               rw r (passes-follow T.width (look_at T) T.facts ls 0 0 p ∙ ap answered (omega arith)),
           sym (list_count F S (encode_list F ls) ls r),
         )
+
+    -- the lines of a task whose verdict is known
+    lines-are :
+        (grant room : ℕ) (v : Verdict (List Line)) → judged T grant ≡ v → list_for F problem plan grant room ≡ lines_for F room v
+    lines-are grant room v e = list-for-is F problem plan T given grant room ∙ ap (lines_for F room) e
+
+    closed-lines :
+        (grant room : ℕ) (ls : List Line) → ClosesWithin T grant ls →
+        list_for F problem plan grant room ≡ lines_for F room (right ls (visits (walked T)))
+    closed-lines grant room ls c = lines-are grant room _ (judged-in T n≤w grant (covered ls _) c.closes c.within)
 
     pub lists : Demand3 F problem plan T
     unfolding write_list written lines_for
@@ -169,16 +231,44 @@ module _ (F : Limits) (S : Sensible F) (T : Task) (fits : Fits F T) where
                     in
                     (rw l, (buffer grant out _ ls l refl).0),
               );
+          out_of_visits = λ grant out h. rw (lines-are grant (length out) _ (judged-out T n≤w grant h));
+          not_right =
+              λ grant out h nr.
+              elim (walk_ends (walked T)) [
+                | inl (ls, a, e) ↦ absurd (nr (walk-closes-right T n≤w ls a e))
+                | inr (s, a, e) ↦
+                    let v : visits (walked T) ≡ a = ap visits e in
+                    rw (lines-are grant (length out) _ (judged-in T n≤w grant (failed s a) e h)) (ap (λ (x : ℕ). refused 51 x) (sym v))
+              ];
+          too_many_lines = λ grant out ls c many. rw (closed-lines grant (length out) ls c, lt-ltb F.lines (length ls) many);
+          short_buffer =
+              λ grant out ls c few short.
+              rw (closed-lines grant (length out) ls c, le-ltb F.lines (length ls) few, lt-ltb (length out) (list_bytes F (length ls)) short);
+          refused_for =
+              λ grant out n q e.
+              let x = written-refused F out n q (list_for F problem plan grant (length out)) e in
+              not-written (length out) grant n q (judged T grant) (judged-means T n≤w grant)
+              (sym (list-for-is F problem plan T given grant (length out)) ∙ x);
+          written_is =
+              λ grant out n e.
+              let o = wrote grant out n e in
+              let p = walk-passes T n≤w o.lines o.used o.closes in
+              let ok = follows-ok F S T.width (look_at T) T.facts (omega (arith, fits.facts, S.facts)) fits.width o.lines 0 p in (
+                o.lines,
+                closes-within grant o.used o.lines o.closes o.within,
+                o.size,
+                record { sound = record { count = o.few; lines = ok.1 }; block = o.block; joined = p.0; hold = p.1 },
+              );
           written_passes =
               λ grant out n e.
-              let (ls, a, w, few, _, list, _) = wrote grant out n e in
-              let (f, c) = follow-lines ls few (walk-passes T n≤w ls a w) in
-              rw (list, c) f;
+              let o = wrote grant out n e in
+              let (f, c) = follow-lines o.lines o.few (walk-passes T n≤w o.lines o.used o.closes) in
+              rw (o.block, c) f;
           written_least =
               λ grant out n e list m f.
-              let (ls, a, w, few, _, written, _) = wrote grant out n e in
-              let c = (follow-lines ls few (walk-passes T n≤w ls a w)).1 in
+              let o = wrote grant out n e in
+              let c = (follow-lines o.lines o.few (walk-passes T n≤w o.lines o.used o.closes)).1 in
               let (ms, r, p, _) = followed list m f in
-              let l = walk-fewest T n≤w ls a w ms p in
-              rw (written, c) (omega (arith, list_count F S list ms r));
+              let l = walk-fewest T n≤w o.lines o.used o.closes ms p in
+              rw (o.block, c) (omega (arith, list_count F S list ms r));
         }

@@ -214,6 +214,10 @@ module _ (T : Task) (n≤w : T.facts ≤ T.width) where
               in_width = number-below T.width set l;
               no_bits = subst (λ (x : ℕ). number_of T.width set % 2 ^ (T.width - x) ≡ 0) (set-length s) (mod-of-block T.width (length set) _ (number-block T.width set l));
             };
+        each_bit =
+            λ s f l.
+            let set = relevant T.facts T.goal T.plan (start_of s) in
+            number_bit T.width set (omega (arith, set-length s)) f (omega arith);
         reached_too =
             λ s e t h.
             let set = relevant T.facts T.goal T.plan (start_of s) in

@@ -91,23 +91,23 @@ module _ (w : ℕ) (look : ℕ → ℕ → Look) (n : ℕ) where
   -- where the first fault is found, from line j and number x on
   found :
       {C : Type 0} (ls : List Line) (j x f p : ℕ) → cover_end w look n ls j x ≡ refused f p →
-      ((i e : ℕ) (l : Line) (after : List Line) → p ≡ j + i → cover_end w look n (take i ls) j x ≡ answered e → drop i ls ≡ l ∷ after → fault w look n l e ≡ f → C) → C
+      ((i e : ℕ) (l : Line) (after : List Line) → p ≡ j + i → cover_end w look n (take i ls) j x ≡ answered e → drop i ls ≡ l ∷ after → fault w look n l e ≡ f → 0 < f → C) → C
   unfolding cover_end
   found [] j x f p h c = let z : ◌≡◌ {A = ℕ} 0 1 = cc in absurd (omega arith)
   found (l ∷ ls) j x f p h c =
       elim (dec_lt 0 (fault w look n l x)) [
-        | yes q ↦ let (number, place) = same-refusal (sym (fault-line l ls j x _ refl q) ∙ h) in c 0 x l ls (omega arith) refl refl number
+        | yes q ↦ let (number, place) = same-refusal (sym (fault-line l ls j x _ refl q) ∙ h) in c 0 x l ls (omega arith) refl refl number (omega arith)
         | no q ↦
             let none : fault w look n l x ≡ 0 = omega arith in
-            found ls (suc j) (x + 2 ^ (w - l.k)) f p (sym (next-line l ls j x none) ∙ h) λ i e m after place before stands is.
-            c (suc i) e m after (omega arith) (next-line l (take i ls) j x none ∙ before) stands is
+            found ls (suc j) (x + 2 ^ (w - l.k)) f p (sym (next-line l ls j x none) ∙ h) λ i e m after place before stands is some.
+            c (suc i) e m after (omega arith) (next-line l (take i ls) j x none ∙ before) stands is some
       ]
 
   pub fault-at : (ls : List Line) (f i : ℕ) → cover_end w look n ls 0 0 ≡ refused f i → FaultAt w look n ls f i
   fault-at ls f i h =
-      found ls 0 0 f i h λ j e l after place before stands is.
+      found ls 0 0 f i h λ j e l after place before stands is some.
       let z : j ≡ i = omega arith in
-      record { end = e; before = rw z at before; line = l; after = after; stands = rw z at stands; is = is }
+      record { end = e; before = rw z at before; line = l; after = after; stands = rw z at stands; is = is; some = some }
 
   -- ---- following
 

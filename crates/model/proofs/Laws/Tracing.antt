@@ -17,7 +17,7 @@ use Rattle.model.specs.Answer.{Answer, refused, answered}
 use Rattle.model.specs.Kleene.{two}
 use Rattle.model.specs.Action.{Action, step}
 use Rattle.model.specs.Run.{Outcome, reached, missed, blocked}
-use Rattle.model.specs.Case.{flag, state_of, Task, run_of, IsState}
+use Rattle.model.specs.Case.{bit, flag, state_of, Task, run_of, IsState}
 use Rattle.model.specs.Relevance.{states, rows, relevant_to, work_bytes, run_rows, AgreeOn}
 use Rattle.model.specs.Operations.{Written, is_state_number, state_answer, read_task, run_state, when_reached, traced_back, reached_task, relevant_facts}
 use Rattle.model.specs.Demands.{Relevance}
@@ -120,6 +120,10 @@ module _ (F : Limits) (problem plan : List ℕ) (T : Task) (given : read_task F 
         short_work = λ s work st e l. is-short n≤w s work _ (traced s work) st e l;
         answers = λ s work st e l. is_found n≤w s work _ (traced s work) st e l;
         is_state = λ s work m e. subst (IsState T) (sym (told n≤w s work _ (traced s work) m e).set) ((rests-on T n≤w).is_state s);
+        each_bit =
+            λ s work m e f l.
+            let o = told n≤w s work _ (traced s work) m e in
+            ap (λ (x : ℕ). bit T.width x f) o.set ∙ (rests-on T n≤w).each_bit s f l;
         reached_too =
             λ s work m e t st h.
             let o = told n≤w s work _ (traced s work) m e in

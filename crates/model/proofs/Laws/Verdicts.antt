@@ -14,6 +14,7 @@ use Rattle.model.specs.Formula.{Formula, eval}
 use Rattle.model.specs.Action.{Action}
 use Rattle.model.specs.Run.{Outcome, reached, missed, blocked, run}
 use Rattle.model.specs.Case.{bit, state_of, case_of, Task, run_of, initially, IsState, Right}
+use Rattle.model.specs.Soundness.{KleeneSound}
 use Rattle.model.specs.Walk.{Kind, closed, opened, Line, Walked, covered, failed, visits, look_of, look_end, Verdict, right, wrong, undecided, initial_at, run_at, look_at, walked, found, judged}
 use Rattle.model.specs.Demands.{LowestFailing}
 use Rattle.model.proofs.Laws.Agreement.{Along, eval-keeps, tabulate-keeps, run-keeps, run-same, Refines, same, wider, refining, refines-yes, Exact, exact, yes-exact, known-inj, refines-known}
@@ -48,6 +49,9 @@ module _ (w n : ℕ) where
 
   pub kleene-no : (k v s : ℕ) → k ≤ n → Admits k v s → (φ : Formula) → eval three (case_of w n k v) φ ≡ No → eval two (state_of w n s) φ ≡ false
   kleene-no k v s h ad φ e = known-inj {b' = false} (sym (read-full s φ) ∙ refines-known false (eval-refines k v n s h ad φ) e)
+
+  pub kleene-sound : KleeneSound w n
+  kleene-sound = record { yes_is_true = kleene-yes; no_is_false = kleene-no; exact = read-full }
 
   -- the run at a case and at what it admits
   pub run-full : (goal : Formula) (plan : List Action) (s : ℕ) → run three n goal plan 0 (case_of w n n s) ≡ run two n goal plan 0 (state_of w n s)

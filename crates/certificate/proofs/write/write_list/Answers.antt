@@ -2,6 +2,7 @@ use Rattle.std.proofs.Common.{arith, ap, ℕ, refl}
 use Rattle.std.proofs.lemmas.Result.{err_from_is_err_and}
 use Rattle.blocks.proofs.Tasks.{read_task-refused, read_task-from}
 use Rattle.certificate.proofs.Lists.{of-version, left_as, list-refused, list-undecided, list-wrong, list_over, list-short, list_written}
+use Rattle.certificate.proofs.Promise.{write-promised}
 use Rattle.model.specs.Answer.{Answer}
 use Rattle.model.specs.Answers.{refusal}
 use Rattle.model.specs.declared.Refusal.{Refusal}
@@ -14,13 +15,13 @@ pub returns-in_err-found : goal.returns-in_err-found
 returns-in_err-found c =
     let p = err_from_is_err_and c.from_residual.result c.from_residual.ensures.1 in
     let e = list-refused _ _ _ (read_task-refused _ _ c.args.plan.now _ c.in_err-found.ensures.read) c.args.grant c.args.out.now in
-    rw (p.1, p.2) (record { answer = e.0; buffer = e.1 })
+    rw (p.1, p.2) (record { answer = e.0; buffer = e.1; promised = write-promised _ _ _ _ e })
 
 pub returns-in_err-task : goal.returns-in_err-task
 returns-in_err-task c =
     let p = err_from_is_err_and c.from_residual-in_err-task.result c.from_residual-in_err-task.ensures.1 in
     let e = list-refused _ _ _ (read_task-from _ _ c.args.plan.now c.in_ok-found.ensures.read c.in_ok-found.ensures.limits c.in_err-task.ensures.read) c.args.grant c.args.out.now in
-    rw (p.1, p.2) (record { answer = e.0; buffer = e.1 })
+    rw (p.1, p.2) (record { answer = e.0; buffer = e.1; promised = write-promised _ _ _ _ e })
 
 pub returns-in-Err-OutOfVisits : goal.returns-in-Err-OutOfVisits
 returns-in-Err-OutOfVisits c =
@@ -28,7 +29,7 @@ returns-in-Err-OutOfVisits c =
     left_as (ap refused_at c.at.ensures)
     (list-undecided _ _ c.in_ok-task.task (of-version c.in_ok-task.task _ c.in_ok-task.ensures.problem c.in_ok-found.ensures.limits) (read_task-from _ _ c.args.plan.now c.in_ok-found.ensures.read c.in_ok-found.ensures.limits c.in_ok-task.ensures.read) _ c.args.out.now _ _ _ (rw c.in-Err-OutOfVisits.field-0-is at c.in-Err-OutOfVisits.ensures))
     in
-    record { answer = e.0; buffer = e.1 }
+    record { answer = e.0; buffer = e.1; promised = write-promised _ _ _ _ e }
 
 pub returns-in-Err-Failed : goal.returns-in-Err-Failed
 returns-in-Err-Failed c =
@@ -36,7 +37,7 @@ returns-in-Err-Failed c =
     left_as (ap refused_at (rw c.in-Err-Failed.field-0-is at c.at-in-Err-Failed.ensures))
     (list-wrong _ _ c.in_ok-task.task (of-version c.in_ok-task.task _ c.in_ok-task.ensures.problem c.in_ok-found.ensures.limits) (read_task-from _ _ c.args.plan.now c.in_ok-found.ensures.read c.in_ok-found.ensures.limits c.in_ok-task.ensures.read) _ c.args.out.now _ _ _ _ _ (rw c.in-Err-Failed.field-0-is at c.in-Err-Failed.ensures))
     in
-    record { answer = e.0; buffer = e.1 }
+    record { answer = e.0; buffer = e.1; promised = write-promised _ _ _ _ e }
 
 pub returns-then-lines-limits : goal.returns-then-lines-limits
 returns-then-lines-limits c =
@@ -44,7 +45,7 @@ returns-then-lines-limits c =
     left_as (ap refused_at c.at-then-lines-limits.ensures)
     (list_over _ _ c.in_ok-task.task (of-version c.in_ok-task.task _ c.in_ok-task.ensures.problem c.in_ok-found.ensures.limits) (read_task-from _ _ c.args.plan.now c.in_ok-found.ensures.read c.in_ok-found.ensures.limits c.in_ok-task.ensures.read) _ c.args.out.now _ _ _ _ c.in-Ok.ensures (omega arith))
     in
-    record { answer = e.0; buffer = e.1 }
+    record { answer = e.0; buffer = e.1; promised = write-promised _ _ _ _ e }
 
 pub returns-then-short : goal.returns-then-short
 returns-then-short c =
@@ -52,11 +53,11 @@ returns-then-short c =
     left_as (ap refused_at c.at-then-short.ensures)
     (list-short _ _ c.in_ok-task.task (of-version c.in_ok-task.task _ c.in_ok-task.ensures.problem c.in_ok-found.ensures.limits) (read_task-from _ _ c.args.plan.now c.in_ok-found.ensures.read c.in_ok-found.ensures.limits c.in_ok-task.ensures.read) _ c.args.out.now _ _ _ _ c.in-Ok.ensures (omega arith) (omega arith))
     in
-    record { answer = e.0; buffer = e.1 }
+    record { answer = e.0; buffer = e.1; promised = write-promised _ _ _ _ e }
 
 pub returns-else-short : goal.returns-else-short
 returns-else-short c =
     let e =
     list_written _ _ c.in_ok-task.task (of-version c.in_ok-task.task _ c.in_ok-task.ensures.problem c.in_ok-found.ensures.limits) (read_task-from _ _ c.args.plan.now c.in_ok-found.ensures.read c.in_ok-found.ensures.limits c.in_ok-task.ensures.read) _ c.args.out.now _ _ _ _ c.in-Ok.ensures (omega arith) _ _ refl (omega arith) c.write_task.ensures
     in
-    record { answer = e.0; buffer = e.1 }
+    record { answer = e.0; buffer = e.1; promised = write-promised _ _ _ _ e }
