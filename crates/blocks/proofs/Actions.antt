@@ -1,7 +1,6 @@
 -- Actions one by one, with where they begin. Assumes nothing.
-use Rattle.std.proofs.Common.{◌≡◌, refl, sym, ap, ◌∙◌, ℕ, suc, ◌+◌, ◌-◌, ◌≤◌, ◌<◌, List, [], ◌∷◌, ◌++◌, append-nil, append_assoc, length, slice_index, set, replicate, length-set, get_or-set_same, get_or-set_other, drop, arith}
-use borrow.Author.Tests.{lt-leb, le-leb}
-use borrow.Author.Count.{below_none, below_more}
+use Rattle.std.proofs.Common.{◌≡◌, refl, sym, ap, ◌∙◌, ℕ, suc, ◌+◌, ◌-◌, ◌≤◌, ◌<◌, List, [], ◌∷◌, ◌++◌, append-nil, append_assoc, length, slice_index, set, replicate, length-set, get_or-set_same, get_or-set_other, drop, arith, le-leb, below_none, below_more}
+use borrow.Author.Tests.{lt-leb}
 use Rattle.model.specs.declared.Limits.{Limits}
 use Rattle.model.specs.Limits.{max_actions}
 use Rattle.model.specs.Action.{Action}

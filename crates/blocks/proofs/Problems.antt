@@ -1,6 +1,5 @@
 -- A problem by its formulas and by the actions that end its block. Assumes nothing.
-use Rattle.std.proofs.Common.{◌≡◌, refl, ℕ, List, Bool, true, false, length}
-use Rattle.std.specs.Prelude.{leb}
+use Rattle.std.proofs.Common.{◌≡◌, refl, ℕ, List, Bool, true, false, length, leb}
 use Rattle.model.specs.declared.Limits.{Limits}
 use Rattle.model.specs.Answer.{Answer, refused, answered}
 use Rattle.model.specs.Formula.{Formula}

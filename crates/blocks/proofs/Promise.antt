@@ -1,12 +1,5 @@
--- Demand 1 of the code, from the equation with the definition and the theorem about the definitions. Assumes nothing.
-use mathlib.Core.Path.{◌≡◌, refl, sym}
-use mathlib.Core.Logic.{inl, inr}
-use mathlib.Core.List.{List}
-use Prim.Native.Nat.{ℕ}
-use native.Mathlib.Omega.{arith}
-use lib.ListN.{length, get_or}
-use mir.Syntax.{w8}
-use mir.Val.{Fits}
+-- All input, of the code: from the equation with the definition and the theorem about the definitions. Assumes nothing.
+use Rattle.std.proofs.Common.{◌≡◌, refl, sym, inl, inr, List, ℕ, arith, length, get_or, w8, Fits}
 use Rattle.model.specs.Limits.{version1}
 use Rattle.model.specs.Answer as Answer
 use Rattle.model.specs.Answer.{Answer, refused, answered}
@@ -15,7 +8,7 @@ use Rattle.model.specs.ProblemBytes.{problem_of, plan_of}
 use Rattle.model.specs.Operations.{read_problem, read_plan}
 use Rattle.model.specs.WellFormed.{Bytes}
 use Rattle.model.proofs.Laws.Tasks.{answer-then, refusal-of}
-use Rattle.model.proofs.Demands.{version1-holds}
+use Rattle.model.proofs.Guarantees.{version1-holds}
 use Rattle.blocks.specs.Promise.{PlanRefusedFor, ProblemPromised, PlanPromised}
 
 -- the elements of a slice of bytes are bytes
@@ -46,11 +39,11 @@ unfolding read_problem Answer.◌>>=◌
 problem-promised problem b (refused n q) e = (
   problem-refusal problem n q (sym e),
   λ p (k, z).
-      let a = rw (z, version1-holds.demand1.problem_accepted p k) at e in
+      let a = rw (z, version1-holds.all_input.problem_accepted p k) at e in
       not-refused a refl,
 )
 problem-promised problem b (answered c) e =
-    answer-then (sym e) λ p h k. (p, version1-holds.demand1.problem_sound problem b p h, cc)
+    answer-then (sym e) λ p h k. (p, version1-holds.all_input.problem_sound problem b p h, cc)
 
 pub plan-promised :
     (problem plan : List ℕ) → Bytes problem → Bytes plan → (r : Answer ℕ) → r ≡ read_plan version1 problem plan → PlanPromised problem plan r
@@ -58,10 +51,10 @@ unfolding read_plan Answer.◌>>=◌
 plan-promised problem plan b d (refused n q) e = (
   plan-refusal problem plan n q (sym e),
   λ p steps (k, z) (l, y).
-      let a = rw (z, y, version1-holds.demand1.problem_accepted p k, Answer.◌>>=◌, version1-holds.demand1.plan_accepted (length p.actions) steps l) at e in
+      let a = rw (z, y, version1-holds.all_input.problem_accepted p k, Answer.◌>>=◌, version1-holds.all_input.plan_accepted (length p.actions) steps l) at e in
       not-refused a refl,
 )
 plan-promised problem plan b d (answered m) e =
     answer-then (sym e) λ p h₁ k₁.
     answer-then k₁ λ steps h₂ k₂.
-    (p, steps, version1-holds.demand1.problem_sound problem b p h₁, version1-holds.demand1.plan_sound plan d (length p.actions) steps h₂, cc)
+    (p, steps, version1-holds.all_input.problem_sound problem b p h₁, version1-holds.all_input.plan_sound plan d (length p.actions) steps h₂, cc)

@@ -1,4 +1,4 @@
--- Demand 1 of the code: a block is accepted exactly if it is sound. Each is an `ensures` of its operation, so that every element is a byte
+-- All input, of the code: a block is accepted exactly if it is sound. Each is an `ensures` of its operation, so that every element is a byte
 -- by the slice's type, and by no hypothesis.
 use Rattle.std.specs.Prelude.{◌≡◌, ◌⊎◌, List, ℕ, length}
 use Rattle.model.specs.Limits.{version1}

@@ -1,11 +1,6 @@
 -- A whole list, and the answer of the call that writes it. Assumes nothing.
-use mathlib.Core.Path.{◌≡◌, refl, sym, ap, ◌∙◌, subst}
-use mathlib.Core.List.{List, [], ◌++◌}
-use Prim.Native.Nat.{ℕ, ◌+◌, ◌-◌, ◌*◌, ◌≤◌, ◌<◌}
-use native.Mathlib.Omega.{arith}
-use lib.ListN.{length, drop}
+use Rattle.std.proofs.Common.{◌≡◌, refl, sym, ap, ◌∙◌, subst, List, [], ◌++◌, ℕ, ◌+◌, ◌-◌, ◌*◌, ◌≤◌, ◌<◌, arith, length, drop, lt-ltb, le-ltb, Result, Ok, Err}
 use lib.Seq.{sets, sets-eq, length-sets}
-use borrow.Author.Tests.{lt-ltb, le-ltb}
 use Rattle.model.specs.declared.Limits.{Limits}
 use Rattle.model.specs.Limits.{version1}
 use Rattle.model.specs.Answer as Answer
@@ -24,7 +19,6 @@ use Rattle.model.proofs.Laws.Reading.{length-bytes_of}
 use Rattle.model.proofs.Laws.Lists.{length-encode_list}
 use Rattle.model.proofs.Laws.Judging.{judged-in, judged-out}
 use Rattle.model.proofs.Laws.Tasks.{list-for-is}
-use Rattle.std.specs.Prelude.{Result, Ok, Err}
 use Rattle.blocks.specs.declared.problem.Problem as problems
 use Rattle.blocks.specs.declared.task.Task as blocks
 use Rattle.blocks.specs.Values as values

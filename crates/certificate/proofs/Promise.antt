@@ -1,20 +1,15 @@
 -- What the writer promises, and what it promises with the checker of lists: from the contracts' equations and the theorem about the definitions.
 -- Assumes nothing.
-use mathlib.Core.Path.{◌≡◌, refl, sym, ap, ◌∙◌, subst}
-use mathlib.Core.Logic.{inl, inr}
-use mathlib.Core.List.{List}
-use Prim.Native.Nat.{ℕ, ◌≤◌}
-use native.Mathlib.Omega.{arith}
-use lib.ListN.{length, take, drop}
+use Rattle.std.proofs.Common.{◌≡◌, refl, sym, ap, ◌∙◌, subst, inl, inr, List, ℕ, ◌≤◌, arith, length, take, drop}
 use Rattle.model.specs.Limits.{version1}
 use Rattle.model.specs.Answer as Answer
 use Rattle.model.specs.Answer.{Answer, refused, answered}
 use Rattle.model.specs.Case.{Task}
 use Rattle.model.specs.Operations.{read_task, list_bytes, written, list_for, write_list, follow_list}
-use Rattle.model.specs.Demands.{lines_in, Passing}
+use Rattle.model.specs.Guarantees.{lines_in, Passing}
 use Rattle.model.proofs.Laws.Tasks.{answer-then}
 use Rattle.model.proofs.Laws.Lists.{written-answered}
-use Rattle.model.proofs.Demands.{version1-holds}
+use Rattle.model.proofs.Guarantees.{version1-holds}
 use Rattle.follow.proofs.Promise.{followed-task}
 use Rattle.certificate.specs.Promise.{WritePromised, Promised}
 
@@ -29,16 +24,16 @@ module _ (problem plan : List ℕ) (grant : ℕ) (before : List ℕ) where
       WritePromised problem plan grant before r after
   promised-for (refused m p) h (refused n q) after e k =
       let j = unread m p h in
-      (k ∙ version1-holds.demand1.refused_unchanged problem plan grant before n q (sym e), inl (h ∙ cc))
+      (k ∙ version1-holds.all_input.refused_unchanged problem plan grant before n q (sym e), inl (h ∙ cc))
   promised-for (refused m p) h (answered o) after e k = let j = unread m p h in let z : ◌≡◌ {A = ℕ} 0 1 = cc in absurd (omega arith)
   promised-for (answered T) h (refused n q) after e k = (
-    k ∙ version1-holds.demand1.refused_unchanged problem plan grant before n q (sym e),
-    inr (T, h, (version1-holds.demand3 problem plan T h).refused_for grant before n q (sym e)),
+    k ∙ version1-holds.all_input.refused_unchanged problem plan grant before n q (sym e),
+    inr (T, h, (version1-holds.certificates problem plan T h).refused_for grant before n q (sym e)),
   )
   promised-for (answered T) h (answered m) after e k =
-      let D = version1-holds.demand3 problem plan T h in
+      let D = version1-holds.certificates problem plan T h in
       let (lines, closes, size, passes) = D.written_is grant before m (sym e) in
-      let (fits, rest) = version1-holds.demand1.rest_unchanged problem plan grant before m (sym e) in (
+      let (fits, rest) = version1-holds.all_input.rest_unchanged problem plan grant before m (sym e) in (
         T,
         h,
         record {
@@ -75,11 +70,11 @@ module _ (problem plan : List ℕ) where
             λ list r m c e.
             let f = sym c ∙ e in
             let (T, h) = followed-task problem plan list m f in
-            let p = (version1-holds.demand3 problem plan T h).passes_only_right list m f in
+            let p = (version1-holds.certificates problem plan T h).passes_only_right list m f in
             (T, h, p.0, p.1);
         writes_walk =
             λ T h right.
-            let (lines, closes, writes) = (version1-holds.demand3 problem plan T h).writes_walk right in (
+            let (lines, closes, writes) = (version1-holds.certificates problem plan T h).writes_walk right in (
               lines,
               closes,
               λ grant out w after c granted few room.
@@ -90,12 +85,12 @@ module _ (problem plan : List ℕ) where
             λ grant out w after n c e r f.
             let a = sym c.0 ∙ e in
             let (T, h) = written-task grant out n a in
-            let p = (version1-holds.demand3 problem plan T h).written_passes grant out n a in
+            let p = (version1-holds.certificates problem plan T h).written_passes grant out n a in
             f ∙ subst (λ (b : List ℕ). follow_list version1 problem plan (take n b) ≡ answered (lines_in version1 (take n b))) (sym c.1) p;
         written_least =
             λ grant out w after n c e list r m f g.
             let a = sym c.0 ∙ e in
             let (T, h) = written-task grant out n a in
             subst (λ (b : List ℕ). lines_in version1 (take n b) ≤ lines_in version1 list) (sym c.1)
-            ((version1-holds.demand3 problem plan T h).written_least grant out n a list m (sym f ∙ g));
+            ((version1-holds.certificates problem plan T h).written_least grant out n a list m (sym f ∙ g));
       }

@@ -7,7 +7,7 @@ use Rattle.model.specs.Case.{Task, Right}
 use Rattle.model.specs.Walk.{Line, covered, visits, walked}
 use Rattle.model.specs.ListBytes.{encode_list}
 use Rattle.model.specs.Operations.{read_task, list_bytes, write_list, follow_list}
-use Rattle.model.specs.Demands.{lines_in, Passing, ClosesWithin, NotWritten}
+use Rattle.model.specs.Guarantees.{lines_in, Passing, ClosesWithin, NotWritten}
 use Rattle.model.specs.Answers.{plain_answer}
 use Rattle.model.specs.declared.Refusal.{Refusal}
 
@@ -41,7 +41,7 @@ WriteCall problem plan grant out r after =
     (plain_answer r ≡ (write_list version1 problem plan grant out).answer) × (after ≡ (write_list version1 problem plan grant out).buffer)
 
 pub record Promised (problem plan : List ℕ) : Type 0 where
-  -- "Whatever bytes a list holds, it passes only if the plan is right"; the count is of the lines in its own bytes
+  -- whatever its bytes are, that a list passes shows that the plan is right; the count is of the lines in its own bytes
   pub passes_only_right :
       (list : List ℕ) (r : Result ℕ Refusal) (m : ℕ) → FollowCall problem plan list r → plain_answer r ≡ answered m →
       (T : Task) × (read_task version1 problem plan ≡ answered T) × Right T × (m ≡ lines_in version1 list)
@@ -54,12 +54,12 @@ pub record Promised (problem plan : List ℕ) : Type 0 where
       visits (walked T) ≤ grant → length lines ≤ version1.lines → list_bytes version1 (length lines) ≤ length out →
       (plain_answer w ≡ answered (list_bytes version1 (length lines))) ×
       (take (list_bytes version1 (length lines)) after ≡ encode_list version1 lines))
-  -- "the list that we write passes": the buffer up to the returned length, with the same problem and plan
+  -- the list that was written passes: the buffer up to the returned length, with the same problem and plan
   pub written_passes :
       (grant : ℕ) (out : List ℕ) (w : Result ℕ Refusal) (after : List ℕ) (n : ℕ) → WriteCall problem plan grant out w after →
       plain_answer w ≡ answered n → (r : Result ℕ Refusal) → FollowCall problem plan (take n after) r →
       plain_answer r ≡ answered (lines_in version1 (take n after))
-  -- "and no passing list has fewer lines"
+  -- no list that passes is shorter
   pub written_least :
       (grant : ℕ) (out : List ℕ) (w : Result ℕ Refusal) (after : List ℕ) (n : ℕ) → WriteCall problem plan grant out w after →
       plain_answer w ≡ answered n → (list : List ℕ) (r : Result ℕ Refusal) (m : ℕ) → FollowCall problem plan list r →

@@ -1,9 +1,5 @@
 -- What an answer of `run` promises: from the equation with the definition and the theorem about the definitions. Assumes nothing.
-use mathlib.Core.Path.{◌≡◌, refl, sym, ap, ◌∙◌}
-use mathlib.Core.Logic.{inl, inr}
-use mathlib.Core.List.{List}
-use Prim.Native.Nat.{ℕ}
-use native.Mathlib.Omega.{arith}
+use Rattle.std.proofs.Common.{◌≡◌, refl, sym, ap, ◌∙◌, inl, inr, List, ℕ, arith}
 use Rattle.model.specs.Limits.{version1}
 use Rattle.model.specs.Answer as Answer
 use Rattle.model.specs.Answer.{Answer, refused, answered}
@@ -11,7 +7,7 @@ use Rattle.model.specs.Run.{Outcome}
 use Rattle.model.specs.Case.{Task}
 use Rattle.model.specs.Operations.{read_task, run_state}
 use Rattle.model.proofs.Laws.Tasks.{state-tested, run-answers, run_no_state}
-use Rattle.model.proofs.Demands.{version1-holds}
+use Rattle.model.proofs.Guarantees.{version1-holds}
 use Rattle.execute.specs.Promise.{RunPromised}
 
 module _ (problem plan : List ℕ) (s : ℕ) where
@@ -34,7 +30,7 @@ module _ (problem plan : List ℕ) (s : ℕ) where
           h,
           y.0,
           λ o.
-              let m = (version1-holds.demand2 problem plan T h).run_says s y.0 o in
+              let m = (version1-holds.verdicts problem plan T h).run_says s y.0 o in
               ((λ l. m.0 (sym e ∙ ap answered l)), λ l. let k = m.1 l in cc),
         )
         | inr y ↦ let k = run_no_state version1 problem plan T h s y.0 in let z : ◌≡◌ {A = ℕ} 0 1 = cc in absurd (omega arith)

@@ -1,6 +1,5 @@
 -- The answers of `run`, from those of a task. Assumes nothing.
-use Rattle.std.proofs.Common.{◌≡◌, refl, ◌∙◌, false, List, ℕ}
-use Rattle.std.specs.Prelude.{Result}
+use Rattle.std.proofs.Common.{◌≡◌, refl, ◌∙◌, false, List, ℕ, Result}
 use Rattle.model.specs.declared.Outcome.{Outcome}
 use Rattle.model.specs.declared.Refusal.{Refusal}
 use Rattle.model.specs.declared.fault.Fault.TheVariants.{StateNumber}

@@ -5,7 +5,7 @@ use Rattle.model.specs.Answer.{Answer, refused, answered}
 use Rattle.model.specs.Run.{Outcome}
 use Rattle.model.specs.Case.{Task, IsState}
 use Rattle.model.specs.Operations.{read_task}
-use Rattle.model.specs.Demands.{OutcomeSays}
+use Rattle.model.specs.Guarantees.{OutcomeSays}
 
 -- A refusal is the reader's, or 40 for what is no state. Otherwise the problem and the plan are read as some T, s is a state of it, and the
 -- outcome is each one exactly if the meaning of plans by beliefs says so of the belief that holds s alone.

@@ -1,8 +1,5 @@
 -- What an answer of `judge` promises: from the equation with the definition and the theorem about the definitions. Assumes nothing.
-use mathlib.Core.Path.{◌≡◌, sym}
-use mathlib.Core.List.{List}
-use Prim.Native.Nat.{ℕ}
-use native.Mathlib.Omega.{arith}
+use Rattle.std.proofs.Common.{◌≡◌, sym, List, ℕ, arith}
 use Rattle.model.specs.Limits.{version1}
 use Rattle.model.specs.Answer as Answer
 use Rattle.model.specs.Answer.{Answer, refused, answered}
@@ -10,7 +7,7 @@ use Rattle.model.specs.Case.{Task}
 use Rattle.model.specs.Walk.{Verdict, judged}
 use Rattle.model.specs.Operations.{read_task, line_count, judge}
 use Rattle.model.proofs.Laws.Tasks.{answer-then}
-use Rattle.model.proofs.Demands.{version1-holds}
+use Rattle.model.proofs.Guarantees.{version1-holds}
 use Rattle.judge.specs.Promise.{JudgePromised}
 
 -- the judge refuses only what reading refuses
@@ -25,4 +22,4 @@ pub judge-promised :
 unfolding judge
 judge-promised problem plan g (refused n q) e = refused-by-reading (read_task version1 problem plan) n q (λ T. line_count (judged T g)) (sym e)
 judge-promised problem plan g (answered v) e =
-    answer-then (sym e) λ T h k. (T, h, (version1-holds.demand2 problem plan T h).judge_says g v (sym e))
+    answer-then (sym e) λ T h k. (T, h, (version1-holds.verdicts problem plan T h).judge_says g v (sym e))

@@ -5,7 +5,7 @@ use Rattle.model.specs.Answer.{Answer, refused, answered}
 use Rattle.model.specs.Case.{Task}
 use Rattle.model.specs.Walk.{Verdict}
 use Rattle.model.specs.Operations.{read_task}
-use Rattle.model.specs.Demands.{Says}
+use Rattle.model.specs.Guarantees.{Says}
 
 -- A refusal is the reader's. Otherwise the problem and the plan are read as some T, and the verdict says what it means: right and the plan
 -- reaches the goal from every start state; wrong with the lowest failing start state and where it fails; undecided where the walk needs more visits

@@ -1,4 +1,4 @@
--- The eight words of each answer of the C interface: "word[0] is the tag. Words that a row below does not name are 0."
+-- The eight words of each answer of the C interface: word 0 tells what kind of answer it is, and words that an answer does not use are 0
 use Rattle.std.specs.Prelude.{List, [], ◌∷◌, ℕ, length, get_or}
 use Rattle.model.specs.Answer.{Answer, refused, answered}
 use Rattle.model.specs.Run.{Part, at_member, at_fact, Outcome, reached, missed, blocked}
@@ -23,7 +23,7 @@ abbrev pub count_words : Answer ℕ → List ℕ
 count_words (refused n q) = refusal_words n q
 count_words (answered n) = words 1 n 0 0 0
 
--- "part (from W-201 on): 0 member, 1 fact (W-202)", and "its number"
+-- what blocks a run: 0 for a member of the precondition, 1 for a fact; and its number
 abbrev pub part_word : Part → ℕ
 part_word (at_member m) = 0
 part_word (at_fact f) = 1
@@ -58,11 +58,11 @@ abbrev pub judge_words : Answer (Verdict ℕ) → List ℕ
 judge_words (refused n q) = refusal_words n q
 judge_words (answered v) = verdict_words v
 
--- search_plans: "visits used in all (undecided: the grant), length, then each step in word[3] to word[6]"
+-- search_plans: all visits used (the grant, where undecided), the length of the plan, and its steps in the words 3 to 6
 abbrev pub plan_words : ℕ → ℕ → List ℕ → List ℕ
 plan_words tag visits p = tag ∷ visits ∷ length p ∷ get_or p 0 0 ∷ get_or p 1 0 ∷ get_or p 2 0 ∷ get_or p 3 0 ∷ 0 ∷ []
 
--- "1 found, 2 none, 3 undecided"; "none: length and steps are 0"
+-- 1 for a plan found, 2 where none is right, with no length and no step, and 3 for undecided
 abbrev pub searched_words : Search → List ℕ
 searched_words (first_right p visits) = plan_words 1 visits p
 searched_words (none_right visits) = words 2 visits 0 0 0

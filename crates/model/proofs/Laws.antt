@@ -3,7 +3,6 @@ pub mod Tabulate
 pub mod Stores
 pub mod Conflicts
 pub mod Agreement
-pub mod Held
 pub mod Planes
 pub mod Cover
 pub mod StateNumbers

@@ -1,3 +1,3 @@
 pub mod Laws
-pub mod Demands
+pub mod Guarantees
 pub mod Trials

@@ -1,13 +1,14 @@
--- Actions, and equation 2 of document 004 (document 01, "The store as facts").
+-- Actions: when one is applicable, and what becomes of each fact.
 use Rattle.std.specs.Prelude.{◌≡◌, Bool, true, false, cond, ◌&&◌, List, [], ◌∷◌, ℕ, zero, suc, ◌<◌, get_or, eqb}
 use Rattle.model.specs.Kleene.{Logic}
 use Rattle.model.specs.Formula.{Literal, fact, denial, Formula, any, none, eval}
 
--- "An action has a precondition and, for some literals, a condition."
+-- an effect: where its condition is true, its literal becomes true
 pub record Effect : Type 0 where
   pub literal : Literal
   pub condition : Formula
 
+-- actions: what it asks for, and what it does
 pub record Action : Type 0 where
   pub precondition : Formula
   pub effects : List Effect
@@ -24,7 +25,7 @@ unfoldable pub condition_in : Formula → Literal → List Effect → Formula
 condition_in found l [] = found
 condition_in found l (e ∷ es) = condition_in (cond (same_literal l e.literal) e.condition found) l es
 
--- "A literal without an entry has a condition that never holds."
+-- the condition of a literal; where it has no entry, one that is never true
 abbrev pub condition_of : Literal → List Effect → Formula
 condition_of l es = condition_in (any none) l es
 
@@ -39,24 +40,23 @@ every zero f = true
 every (suc n) f = f zero && every n (λ i. f (suc i))
 
 module _ {X : Type 0} (L : Logic X) where
-  -- a fact's two conditions, in the values c
+  -- conditions: a fact's two conditions, in the values c
   abbrev pub sets : Action → List X → ℕ → X
   sets a c f = eval L c (condition_of (fact f) a.effects)
 
   abbrev pub clears : Action → List X → ℕ → X
   clears a c f = eval L c (condition_of (denial f) a.effects)
 
-  -- "the "all" of each fact's two conditions must also read no" (document 02, W-202): its denial reads yes
+  -- conflict: whether it is certain that fact f is not set and cleared at once
   unfoldable pub exclusive : Action → List X → ℕ → Bool
   exclusive a c f = L.holds (L.denied (L.both (sets a c f) (clears a c f)))
 
-  -- "An action is now applicable exactly if its precondition is true and no fact has both conditions true" (W-202), over n facts
+  -- applicable: an action can be taken where its precondition is true and none of the n facts has both its conditions true
   unfoldable pub applicable : ℕ → Action → List X → Bool
   applicable n a c = L.holds (eval L c a.precondition) && every n (exclusive a c)
 
-  -- "After it, a fact is true if its set condition held before, or if it was true before and its clear condition did not hold
-  -- (document 004, equation 2)." "All conditions are read in the state before the action." "Equation 2 is read the same way" in
-  -- three values.
+  -- effect rule: what a fact is after the action: true where it is set, and where it was true and is not cleared. Both conditions are evaluated
+  -- before anything changes. With three values it is the same formula.
   unfoldable pub next : Action → List X → ℕ → X
   next a c f = L.either (sets a c f) (L.both (get_or c f L.never) (L.denied (clears a c f)))
 
@@ -68,7 +68,6 @@ module _ {X : Type 0} (L : Logic X) where
   unfoldable pub step : ℕ → Action → List X → List X
   step n a c = tabulate n (next a c)
 
-  -- Document 004 assumes that a fact's two conditions exclude each other. So they do at every step that is obeyed (W-202): it is the
-  -- same which of them is asked first.
+  -- order of set and clear: A fact's conditions are never both true at a step that is taken, so it is the same which of them is asked first.
   abbrev pub OrderFree : Type 0
   OrderFree = (n : ℕ) (a : Action) (c : List X) → applicable n a c ≡ true → (f : ℕ) → f < n → next a c f ≡ next_clearing a c f

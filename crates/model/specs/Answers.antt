@@ -1,4 +1,4 @@
--- The answers of src/lib.rt: each operation returns a refusal or its value, and these say which answer of the paper that is. The
+-- The answers of src/lib.rt: each operation returns a refusal or its value, and these say which answer of the definitions that is. The
 -- contracts of the operations are equations between these and the definitions of Operations.
 use Rattle.std.specs.Prelude.{ℕ, Result, Ok, Err}
 use Rattle.model.specs.Answer.{Answer, refused, answered}
@@ -16,7 +16,7 @@ use Rattle.model.specs.declared.Verdict.TheVariants.{Right, Wrong, Undecided}
 use Rattle.model.specs.declared.Search as Declared
 use Rattle.model.specs.declared.Search.TheVariants.{Found, NoneRight, Undecided as SearchUndecided}
 
--- "Each refusal carries a number and a place"
+-- a refusal by its number and its place
 abbrev pub refusal : {A : Type 0} → Refusal → Answer A
 refusal r = refused (fault_number r.fault) r.place
 
@@ -25,17 +25,17 @@ abbrev pub result_answer : {A B : Type 0} → (A → B) → Result A Refusal →
 result_answer meaning (Ok a) = answered (meaning a)
 result_answer meaning (Err r) = refusal r
 
--- an answer whose value is as it stands: "the fact and action counts", "the step count", "the length is returned", "it passes, with the
--- line count", "the end of the cover" (W-203), "a set of start facts, as a state number with those bits set" (W-204)
+-- an answer whose value is one number, or the counts of a block, as they stand: what reading finds, the length of a list that was written,
+-- the lines of one that passes, the end of a cover, or a set of start facts as the number of a state
 abbrev pub plain_answer : {A : Type 0} → Result A Refusal → Answer A
 plain_answer = result_answer (λ a. a)
 
--- "a member number" (W-201), or "the lowest such fact instead of a member" (W-202)
+-- what keeps an action from being applicable: a member of its precondition, or a fact
 abbrev pub part : Part → Run.Part
 part (Member m) = Run.at_member m
 part (Fact f) = Run.at_fact f
 
--- "reached, missed, or blocked with its step", and its part
+-- how a run ends; a blocked one with its step, and the part of the action there
 abbrev pub outcome : Outcome → Run.Outcome
 outcome Reached = Run.reached
 outcome Missed = Run.missed
@@ -44,7 +44,7 @@ outcome (Blocked s) = Run.blocked (record { step = s.step; part = part s.part })
 abbrev pub run_answer : Result Outcome Refusal → Answer Run.Outcome
 run_answer = result_answer outcome
 
--- "right with lines and visits; wrong with state, outcome and visits; undecided with visits"
+-- what the judge says of a plan, with its numbers
 abbrev pub verdict : Verdict → Walk.Verdict ℕ
 verdict (Right ls a) = Walk.right ls a
 verdict (Wrong s o a) = Walk.wrong s (outcome o) a
@@ -53,7 +53,7 @@ verdict (Undecided a) = Walk.undecided a
 abbrev pub judge_answer : Result Verdict Refusal → Answer (Walk.Verdict ℕ)
 judge_answer = result_answer verdict
 
--- "the first right plan, or that none is right, or undecided .., each with the visits used in all" (W-205)
+-- what a search finds, with all visits that it used
 abbrev pub search_end : Declared.Search → Search.Search
 search_end (Found p a) = Search.first_right p a
 search_end (NoneRight a) = Search.none_right a

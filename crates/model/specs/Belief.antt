@@ -1,18 +1,19 @@
--- What a plan means: section 3 of document 004. A belief state is the set of its states.
+-- What a plan means, said of beliefs: a belief is a set of states, any of which may be the true one.
 use Rattle.std.specs.Prelude.{◌≡◌, Bool, true, false, List, [], ◌∷◌, ◌++◌, ℕ, ◌<◌, length, get_or}
 use Rattle.model.specs.Kleene.{two}
 use Rattle.model.specs.Formula.{Formula, Formulas, lit, all, any, none, more, eval}
 use Rattle.model.specs.Action.{Action, sets, clears, next}
 use Rattle.model.specs.Run.{unmet, holds_in, Part, at_member, at_fact, Stop, Outcome, reached, missed, blocked}
 
+-- beliefs: a set of states, any of which may be the true one
 abbrev pub Belief : Type 1
 Belief = List Bool → Type 0
 
--- "B ⊨ p"
+-- a formula holds in a belief if it is true in each of its states
 abbrev pub Entails : Belief → Formula → Type 0
 Entails B p = (s : List Bool) → B s → eval two s p ≡ true
 
--- in the state s fact f "has both conditions true" (document 02, W-202)
+-- in the state s fact f is set and cleared at once
 abbrev pub InConflict : List Bool → Action → ℕ → Type 0
 InConflict s a f = (sets two a s f ≡ true) × (clears two a s f ≡ true)
 
@@ -42,33 +43,32 @@ abbrev pub only : List Bool → Belief
 only s t = t ≡ s
 
 module _ (n : ℕ) where
-  -- "Action a .. is applicable in belief state B if B ⊨ p"; and by W-202 if in no state of it a fact "has both conditions true"
+  -- an action is applicable in a belief: its precondition holds there, and no state of it sets and clears a fact at once
   abbrev pub ApplicableIn : Belief → Action → Type 0
   ApplicableIn B a = Entails B a.precondition × ((s : List Bool) → B s → (f : ℕ) → f < n → InConflict s a f → ⊥)
 
-  -- "The result of applying action a in belief B is the belief state B[a]", equations 1 and 2: the states t of which every fact is
-  -- what equation 2 makes of some state of B
+  -- the belief after an action: the states t in which every fact is what the action makes of it in some state of B
   pub record Image (a : Action) (B : Belief) (t : List Bool) : Type 0 where
     pub size : length t ≡ n
     pub before : List Bool
     pub held : B before
     pub moves : (f : ℕ) → f < n → get_or t f false ≡ next two a before f
 
-  -- "The application B[π] of the plan is the incremental application: B[a1] .. [ak]."
+  -- the belief after a plan: after its first action, and then after the others
   abbrev pub after : Belief → List Action → Belief
   after B [] = B
   after B (a ∷ plan) = after (Image a B) plan
 
-  -- "The plan is applicable if each of its actions ai is applicable in B[a1] .. [ai-1]."
+  -- a plan is applicable if each of its actions is, in the belief after those before it
   abbrev pub Applicable : Belief → List Action → Type 0
   Applicable B [] = Unit {0}
   Applicable B (a ∷ plan) = ApplicableIn B a × Applicable (Image a B) plan
 
-  -- "A solution .. is a plan π that is applicable from ΦI and that leads to the goal set: ΦI[π] ⊨ ΦG"
+  -- solutions: the plan is applicable from the belief, and the goal holds in the belief after it
   abbrev pub Solution : Belief → Formula → List Action → Type 0
   Solution B goal plan = Applicable B plan × Entails (after B plan) goal
 
-  -- ΦI as a belief state: "the Boolean assignments of the facts that satisfy the initial formula"
+  -- the belief of a formula: the states in which it is true
   abbrev pub initial_belief : Formula → Belief
   initial_belief initial s = (length s ≡ n) × (eval two s initial ≡ true)
 
@@ -91,8 +91,7 @@ module _ (n : ℕ) where
     pub not_applicable : ApplicableIn (after B before) action → ⊥
     pub part : (t : List Bool) → after B before t → IsPart t action p.part
 
-  -- "The run of one given state answers by that same section": what each outcome says of the plan, from the belief that holds the
-  -- state s alone
+  -- what each outcome of a run says of the plan, from the belief that has the state s alone
   abbrev pub OutcomeMeans : List Bool → Formula → List Action → Outcome → Type 0
   OutcomeMeans s goal plan reached = Solution (only s) goal plan
   OutcomeMeans s goal plan missed = Applicable (only s) plan × (Entails (after (only s) plan) goal → ⊥)

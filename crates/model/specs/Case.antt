@@ -1,11 +1,11 @@
--- States and cases, and their numbers (document 01, "Blocks" and "Cases and the walk"). The width of a state's number is a parameter.
+-- States and cases, and their numbers. How many bits such a number has, the width, is a parameter.
 use Rattle.std.specs.Prelude.{◌≡◌, Bool, true, false, cond, List, ℕ, suc, ◌-◌, ◌/◌, ◌%◌, ◌^◌, ◌<◌, eqb, ltb}
 use Rattle.model.specs.Kleene.{Kleene, Unknown, known, two}
 use Rattle.model.specs.Formula.{Formula, eval}
 use Rattle.model.specs.Action.{Action, tabulate}
 use Rattle.model.specs.Run.{Outcome, reached, run}
 
--- "Fact 0 is the top bit of the six bytes taken as one big-endian number": bit i of a number w bits wide.
+-- state numbers: bit i of a number w bits wide, counted from the top: the value of fact i
 unfoldable pub bit : ℕ → ℕ → ℕ → Bool
 bit w s i = eqb (s / 2 ^ (w - suc i) % 2) 1
 
@@ -14,11 +14,11 @@ abbrev pub flag : Bool → ℕ
 flag false = 0
 flag true = 1
 
--- "a state is that same 48-bit number with unused low bits zero": its n values.
+-- states: the n values of the state with this number; its bits past them are 0
 unfoldable pub state_of : ℕ → ℕ → ℕ → List Bool
 state_of w n s = tabulate n (bit w s)
 
--- "A case fixes the first k facts and leaves the rest unknown."
+-- cases: its first k facts are known, and the others are not
 unfoldable pub case_of : ℕ → ℕ → ℕ → ℕ → List Kleene
 case_of w n k v = tabulate n (λ i. cond (ltb i k) (known (bit w v i)) Unknown)
 
@@ -44,11 +44,11 @@ module _ (T : Task) where
     pub in_width : s < 2 ^ T.width
     pub no_bits : s % 2 ^ (T.width - T.facts) ≡ 0
 
-  -- "A start state is a state in which the initial formula is true."
+  -- start states: the states in which the initial formula is true
   pub record IsStart (s : ℕ) : Type 0 where
     pub state : IsState s
     pub starts : initially s ≡ true
 
-  -- "A plan is right if the run of every start state is reached; so with no start state at all, every plan is right."
+  -- right plans: the run of every start state is reached. Where there is none, every plan is right.
   abbrev pub Right : Type 0
   Right = (s : ℕ) → IsStart s → run_of s ≡ reached

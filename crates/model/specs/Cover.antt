@@ -1,5 +1,5 @@
--- What the lines of a case list cover together, as a set of numbers, and the end of it, which following keeps as a running value (document
--- 02, W-203). The width is a parameter.
+-- What the lines of a case list cover together, as a set of numbers, and the end of it, which following keeps as a running value. The width
+-- is a parameter.
 use Rattle.std.specs.Prelude.{◌≡◌, ◌↔◌, ◌⊎◌, List, [], ◌∷◌, ℕ, suc, ◌+◌, ◌-◌, ◌^◌, ◌≤◌, ◌<◌, length, take, drop, eqb}
 use Rattle.model.specs.Answer.{Answer, refused, answered, ◌>>=◌}
 use Rattle.model.specs.Walk.{Look, Line}
@@ -11,12 +11,12 @@ pub record IsEnd (S : ℕ → Type 0) (e : ℕ) : Type 0 where
   pub least : (d : ℕ) → ((x : ℕ) → S x → x < d) → e ≤ d
 
 module _ (w : ℕ) where
-  -- "It begins at its value number and covers 2 to the power (48 - k) numbers.": the line covers the number x
+  -- the line covers the number x: from its value on, as many as its open facts have values
   pub record Covers (l : Line) (x : ℕ) : Type 0 where
     pub begun : l.value ≤ x
     pub not_past : x < l.value + 2 ^ (w - l.k)
 
-  -- "what all lines so far cover together" (W-203): the set of the numbers that one of the lines covers
+  -- cover: the numbers that one of the lines covers
   abbrev pub CoveredBy : List Line → ℕ → Type 0
   CoveredBy [] x = ⊥
   CoveredBy (l ∷ ls) x = Covers l x ⊎ CoveredBy ls x
@@ -33,8 +33,8 @@ module _ (w : ℕ) where
     pub once : CoveredOnce ls
 
 module _ (w : ℕ) (look : ℕ → ℕ → Look) (n : ℕ) where
-  -- "keep the end of the cover as a running value" (W-203): lines from number i on, before which it is x: the first fault at its line, or
-  -- the value after the last of them
+  -- running end: the running value over lines from number i on, before which it is x: the first fault at its line, or the value after the last of
+  -- them
   unfoldable pub cover_end : List Line → ℕ → ℕ → Answer ℕ
   cover_end [] i x = answered x
   cover_end (l ∷ ls) i x = let rest = cover_end ls (suc i) (x + 2 ^ (w - l.k)) in refuse_at (fault w look n l x) i rest
@@ -60,12 +60,12 @@ module _ (w : ℕ) (look : ℕ → ℕ → Look) (n : ℕ) where
     pub is : fault w look n line end ≡ f
     pub some : 0 < f
 
-  -- W-203, of any lines whatever
+  -- running end theorem: what the running value is, of any lines whatever
   pub record RunningEnd : Type 0 where
-    -- "after each line without a fault it is the end of what all lines so far cover together"
+    -- after lines without a fault it is the end of what they cover together
     pub is_end : (ls : List Line) (i : ℕ) → WithoutFault ls i → EndAfter ls i
     pub at_fault : (ls : List Line) (f i : ℕ) → cover_end ls 0 0 ≡ refused f i → FaultAt ls f i
-    -- "Every answer, number and place is the same.": following is the running value, and one test of it after the last line
+    -- following is the running value, and one test of it after the last line: no answer, number or place is another
     pub same_answers : (ls : List Line) → follow w look n ls 0 0 ≡ cover_end ls 0 0 >>= λ e. ends (eqb e (2 ^ w)) (length ls)
     -- so a list that passes covers every number of the width, each once
     pub passes_whole : (ls : List Line) (m : ℕ) → follow w look n ls 0 0 ≡ answered m → CoversTo w ls (2 ^ w)

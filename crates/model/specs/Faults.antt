@@ -1,4 +1,4 @@
--- The numbers of the faults (document 01, "The operations and what they turn down").
+-- The numbers of the faults, by which callers know them.
 use Rattle.std.specs.Prelude.{ℕ, ◌+◌}
 use Rattle.model.specs.declared.fault.Block.{Block}
 use Rattle.model.specs.declared.fault.Block.TheVariants as block
@@ -19,6 +19,7 @@ header_number TooShort = 1
 header_number Version = 2
 header_number Length = 3
 
+-- refusal numbers: each fault by the number that callers see
 abbrev pub fault_number : Fault → ℕ
 fault_number (Header b f) = block_number b + header_number f
 fault_number BlockEnds = 14

@@ -1,12 +1,12 @@
--- Formulas over facts, and reading them (document 01, "The store as facts" and "Blocks").
+-- Formulas over facts, and their values.
 use Rattle.std.specs.Prelude.{List, ℕ, get_or}
 use Rattle.model.specs.Kleene.{Logic}
 
--- "A byte 0 to 47 is a fact; 64 to 111 is the denial of fact (byte less 64)."
+-- formulas: a literal is a fact, or its denial
 pub data Literal : Type 0 where
   fact denial : ℕ → Literal
 
--- "Hex 80 or 81 and a count byte begin a group of that many members: 80 is true if all are, 81 if any is."
+-- a group is true if all its members are, or if any is
 mutual
   pub data Formula : Type 0 where
     lit : Literal → Formula
@@ -16,13 +16,13 @@ mutual
     none : Formulas
     more : Formula → Formulas → Formulas
 
--- "A state gives each fact yes or no"; a case leaves some unknown: `c` holds the values, fact 0 first.
+-- `c` has the values of the facts, fact 0 first: yes or no in a state, and maybe unknown in a case.
 module _ {X : Type 0} (L : Logic X) (c : List X) where
   abbrev pub value_of : Literal → X
   value_of (fact f) = get_or c f L.never
   value_of (denial f) = L.denied (get_or c f L.never)
 
-  -- "The empty "all" is true, the empty "any" false."
+  -- with no member an "all" is true, and an "any" is false
   unfoldable mutual
     pub eval : Formula → X
     eval (lit l) = value_of l

@@ -1,10 +1,10 @@
--- Formulas in bytes (document 01, "Blocks" and "Read a problem", refusals 14 and 17 to 21).
+-- Formulas in bytes, and their refusals: 14 and 17 to 21.
 use Rattle.std.specs.Prelude.{Bool, cond, ◌&&◌, ◌||◌, not, List, [], ◌∷◌, ◌++◌, ℕ, zero, suc, ◌+◌, ◌-◌, ◌*◌, length, eqb, ltb, leb}
 use Rattle.model.specs.Limits.{max_formula_bytes, max_depth}
 use Rattle.model.specs.Formula.{Literal, fact, denial, Formula, Formulas, lit, all, any, none, more}
 use Rattle.model.specs.Read.{reject, Reader, ◌>>=◌, ◌>>◌, done, position, require, byte, bytes_of}
 
--- "A byte 0 to 47 is a fact; 64 to 111 is the denial of fact (byte less 64)": the bytes of the literals of the declared facts
+-- a byte below 48 is a fact, and one from 64 to 111 is the denial of the fact 64 below it: the bytes of the literals of the declared facts
 unfoldable pub is_literal : ℕ → ℕ → Bool
 is_literal facts b = ltb b facts || (leb 64 b && ltb b (64 + facts))
 
@@ -15,7 +15,7 @@ abbrev pub literal_byte : Literal → ℕ
 literal_byte (fact f) = f
 literal_byte (denial f) = f + 64
 
--- "Hex 80 or 81 and a count byte begin a group"
+-- a group begins with its mark, hexadecimal 80 for "all" and 81 for "any", and a byte with the count of its members
 pub data Group : Type 0 where
   conjunction disjunction : Group
 
@@ -33,8 +33,8 @@ pub data Head : Type 0 where
   group : Group → ℕ → Head
 
 module _ (s : List ℕ) (end facts : ℕ) where
-  -- "at a group mark 18, 19, then its count": the mark b at p, in a group whose mark is `parent` (0: in none), where `left` more
-  -- groups may nest
+  -- order of refusals: the mark b at p, in a group whose mark is `parent` (0: in none), where `left` more groups may nest: 18 for a kind within its
+  -- own kind, then 19 for too deep a group, and then comes its count
   unfoldable pub group_head : ℕ → ℕ → ℕ → ℕ → Reader Head
   group_head left parent p b = do
     require ((eqb b 0x80 || eqb b 0x81) && not (eqb b parent)) 18 p
@@ -42,8 +42,8 @@ module _ (s : List ℕ) (end facts : ℕ) where
     m ← byte s end 20
     done (group (cond (eqb b 0x80) conjunction disjunction) m)
 
-  -- "18 byte not allowed there, undeclared fact or repeated group kind included; 19 group too deep (its mark); 20 formula's stated
-  -- bytes end too soon (first byte after them)"
+  -- a formula's next byte: 20, past the stated bytes, where they have ended; 18 at a byte that is neither a declared literal nor a mark that may
+  -- stand there; 19 at the mark of a group that is too deep
   unfoldable pub head_from : ℕ → ℕ → ℕ → ℕ → Reader Head
   head_from left parent p b = cond (is_literal facts b) (done (leaf (literal_of b))) (group_head left parent p b)
 
@@ -68,14 +68,14 @@ module _ (s : List ℕ) (end facts : ℕ) where
     ms ← members (inner (mark g)) m
     done (grouped g ms)
 
-  -- "An "all" never directly holds an "all", nor an "any" an "any"; groups nest at most 8 deep, the outermost being 1."
+  -- a group holds no group of its own kind, and 8 groups at most stand in one another
   unfoldable pub item : ℕ → ℕ → Reader Formula
   item zero parent = head 0 parent >>= whole (λ m p. reject 19 p)
   item (suc left) parent = head (suc left) parent >>= whole (item left)
 
 module _ (s : List ℕ) where
-  -- "two-byte length, 1 to 1,024, then that many bytes"; "length readable (14), 17, stated bytes present (14)"; "17 formula length 0 or
-  -- over 1,024 (its first byte)": gives where the stated bytes end
+  -- where a formula's stated bytes end: its length has two bytes (14 where they are not there), is 1 to 1,024 (17, at its first byte), and so many
+  -- bytes follow (14)
   unfoldable pub stated : Reader ℕ
   stated = do
     start ← position
@@ -86,8 +86,7 @@ module _ (s : List ℕ) where
     require (leb (begin + (high * 256 + low)) (length s)) 14 (length s)
     done (begin + (high * 256 + low))
 
-  -- "At a formula the order is: length readable (14), 17, stated bytes present (14), then its bytes"; "21 formula complete with stated
-  -- bytes left (first of these)"
+  -- formula bytes: a formula with its length: 21, at the first of them, where stated bytes are left after it
   unfoldable pub formula : ℕ → Reader Formula
   formula facts = do
     end ← stated

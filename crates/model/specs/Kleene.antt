@@ -1,11 +1,11 @@
--- The values in which formulas are read (document 01, "Cases and the walk").
+-- The three values of a formula in a case: yes or no where the known facts decide it, and else unknown.
 use Rattle.std.specs.Prelude.{Bool, true, false, ◌&&◌, ◌||◌, not}
 
--- "Formulas are read in three values (strong Kleene ..)."
+-- Kleene's strong three-valued logic
 pub data Kleene : Type 0 where
   No Unknown Yes : Kleene
 
--- "an "all" is no if a member is no, yes if all are yes, else unknown"
+-- three-valued cases: "and": no if one is no, yes if both are yes, and otherwise unknown
 abbrev pub both : Kleene → Kleene → Kleene
 both No v = No
 both Unknown No = No
@@ -13,7 +13,7 @@ both Unknown Unknown = Unknown
 both Unknown Yes = Unknown
 both Yes v = v
 
--- "an "any" mirrors it"
+-- "or": yes if one is yes, no if both are no, and otherwise unknown
 abbrev pub either : Kleene → Kleene → Kleene
 either No v = v
 either Unknown No = Unknown
@@ -21,7 +21,7 @@ either Unknown Unknown = Unknown
 either Unknown Yes = Yes
 either Yes v = Yes
 
--- "denial keeps unknown"
+-- "not": what is unknown stays so
 abbrev pub denied : Kleene → Kleene
 denied No = Yes
 denied Unknown = Unknown

@@ -1,4 +1,4 @@
--- What every answer means, in the order of document 01: meaning first, bytes after it, operations last.
+-- What every answer means: meaning first, bytes after it, operations last.
 pub mod Limits
 pub mod Kleene
 pub mod Formula
@@ -18,7 +18,6 @@ pub mod FormulaBytes
 pub mod ProblemBytes
 pub mod ListBytes
 pub mod Operations
-pub mod Values
 pub mod ShortPlans
 pub mod Planes
 pub mod Faults
@@ -27,6 +26,6 @@ pub mod Answers
 pub mod Text
 pub mod DeskText
 pub mod WellFormed
-pub mod Demands
+pub mod Guarantees
 pub mod Trials
 pub mod Theorems

@@ -1,10 +1,10 @@
--- The limits and sizes of the formats (document 01, "Blocks"). `Limits`, what a version's numbers are, is declared in src/lib.rt, where
+-- The limits and sizes of the formats. `Limits`, what a version's numbers are, is declared in src/lib.rt, where
 -- `Limits::version1` ties the numbers of version 1 to the associated constants of the types that they bound.
 use Rattle.std.specs.Prelude.{ℕ}
 use Rattle.model.specs.declared.Limits.{Limits}
 
--- what no version changes: "64 actions", "256 steps", a problem of "at most 32,768 bytes in all", formulas of "1 to 1,024" bytes whose
--- groups "nest at most 8 deep"
+-- what no version changes: at most 64 actions, 256 steps and 32,768 bytes of a problem; formulas of 1 to 1,024 bytes, whose groups stand in one
+-- another at most 8 deep
 abbrev pub max_actions : ℕ
 max_actions = 64
 
@@ -20,7 +20,7 @@ max_formula_bytes = 1024
 abbrev pub max_depth : ℕ
 max_depth = 8
 
--- "a longest length of 0 to 4", and at most "1,000,000 plans of those lengths" (W-205)
+-- a search tries plans of at most 4 steps, and at most 1,000,000 of them
 abbrev pub max_length : ℕ
 max_length = 4
 
@@ -34,6 +34,7 @@ max_facts = 64
 abbrev pub max_effects : ℕ
 max_effects = 128
 
+-- limits: the numbers of version 1
 abbrev pub version1 : Limits
 version1 =
     record {

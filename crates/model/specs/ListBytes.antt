@@ -1,4 +1,4 @@
--- List blocks (document 01, "Blocks" and "Follow a list", refusals 60 to 64).
+-- List blocks, and the refusals of the block: 60 to 64.
 use Rattle.std.specs.Prelude.{List, [], ◌∷◌, ◌++◌, ℕ, zero, suc, ◌+◌, ◌-◌, ◌*◌, ◌/◌, ◌%◌, length, get_or, take, drop, eqb}
 use Rattle.model.specs.declared.Limits.{Limits}
 use Rattle.model.specs.Answer.{Answer}
@@ -6,7 +6,7 @@ use Rattle.model.specs.Walk.{Line}
 use Rattle.model.specs.Read.{Reader, ◌>>◌, done, require, answer_of, head_bytes, header, big_endian, bytes_of, block}
 
 module _ (F : Limits) (s : List ℕ) where
-  -- "lines of 8 bytes: kind, k, six bytes of values": the line whose first byte is at p
+  -- the line whose first byte is at p: its kind, its k, and the bytes of its value
   unfoldable pub line_at : ℕ → Line
   line_at p = record { kind = get_or s p 0; k = get_or s (p + 1) 0; value = big_endian (take (F.line - 2) (drop (p + 2) s)) }
 
@@ -14,7 +14,7 @@ module _ (F : Limits) (s : List ℕ) where
   lines_from zero p = []
   lines_from (suc n) p = line_at p ∷ lines_from n (p + F.line)
 
-  -- "60 over 65,533 bytes (65,533); 61, 62, 63 as 11, 12, 13; 64 body no multiple of 8 (block length)"
+  -- list block: 60, at the most bytes that one may have, if it has more; 61 to 63 for its header; 64, at its length, if its last line is not whole
   unfoldable pub case_list : Reader (List Line)
   case_list = do
     header s 60 (head_bytes + F.line * F.lines) F.version

@@ -1,4 +1,4 @@
--- Problem and plan blocks (document 01, "Blocks", "Read a problem" and "Read a plan").
+-- Problem and plan blocks, and their refusals: 10 to 25, and 30 to 34.
 use Rattle.std.specs.Prelude.{List, [], ◌∷◌, ◌++◌, ℕ, zero, suc, ◌+◌, ◌-◌, length, get_or, ltb, leb}
 use Rattle.model.specs.declared.Limits.{Limits}
 use Rattle.model.specs.Limits.{max_actions, max_steps, max_problem_bytes}
@@ -8,7 +8,7 @@ use Rattle.model.specs.Action.{Effect, Action}
 use Rattle.model.specs.Read.{Reader, ◌>>=◌, ◌>>◌, done, position, require, answer_of, head_bytes, byte, counted, header, count, block}
 use Rattle.model.specs.FormulaBytes.{is_literal, literal_of, literal_byte, formula, encode_formula}
 
--- "A problem has facts numbered from 0, actions numbered from 0, an initial formula and a goal formula."
+-- problems: facts and actions are known by their numbers, from 0 on
 pub record Problem : Type 0 where
   pub facts : ℕ
   pub initial : Formula
@@ -16,8 +16,8 @@ pub record Problem : Type 0 where
   pub actions : List Action
 
 module _ (s : List ℕ) (facts : ℕ) where
-  -- "for each effect a literal byte and a condition"; "23 effect literal not of a declared fact; 24 effect literal not above the one
-  -- before"; "at an effect literal 23, then 24": the literal's byte is `least` or more
+  -- an effect: a literal's byte, refused with 23 where its fact is not declared and then with 24 where it is below `least`, which is one above the
+  -- byte of the effect before; and its condition
   unfoldable pub effect : ℕ → Reader Effect
   effect least = do
     p ← position
@@ -27,7 +27,7 @@ module _ (s : List ℕ) (facts : ℕ) where
     condition ← formula s facts
     done (record { literal = literal_of b; condition = condition })
 
-  -- "Literals rise strictly."
+  -- the bytes of an action's literals rise
   unfoldable pub effects : ℕ → ℕ → Reader (List Effect)
   effects zero least = done []
   effects (suc n) least = do
@@ -37,13 +37,13 @@ module _ (s : List ℕ) (facts : ℕ) where
 
 module _ (F : Limits) (s : List ℕ) where
   module _ (facts : ℕ) where
-    -- "an effect count (1 byte, 0 to 96), and for each effect a literal byte and a condition"; "22 effect count over 96"
+    -- the effects of an action: 22 for a count over the limit, and then so many
     unfoldable pub effect_list : Reader (List Effect)
     effect_list = do
       n ← count s 22 0 F.effects
       effects s facts n 0
 
-    -- "An action is its precondition, an effect count .."
+    -- action bytes: its precondition, and its effects
     unfoldable pub action : Reader Action
     action = do
       precondition ← formula s facts
@@ -57,7 +57,7 @@ module _ (F : Limits) (s : List ℕ) where
       as' ← actions m
       done (a ∷ as')
 
-  -- ".. the actions"; "25 bytes after the last action (the first)"
+  -- the actions, and then the block has to end: 25 at the first byte after them
   unfoldable pub ending : ℕ → ℕ → Formula → Formula → Reader Problem
   ending facts m initial goal = do
     as' ← actions facts m
@@ -65,20 +65,21 @@ module _ (F : Limits) (s : List ℕ) where
     require (leb (length s) p) 25 p
     done (record { facts = facts; initial = initial; goal = goal; actions = as' })
 
-  -- "initial formula, goal formula, the actions"
+  -- what follows the counts: the formulas for start and goal, and the actions
   unfoldable pub parts : ℕ → ℕ → Reader Problem
   parts facts m = do
     initial ← formula s facts
     goal ← formula s facts
     ending facts m initial goal
 
-  -- "fact count (1 byte, 1 to 48), action count (1 byte, 0 to 64)"; "15 fact count (its place); 16 action count"
+  -- the body of a problem block: the count of facts, else 15, and of actions, else 16, a byte each; and the rest
   unfoldable pub body : Reader Problem
   body = do
     facts ← count s 15 1 F.facts
     m ← count s 16 0 max_actions
     parts facts m
 
+  -- problem block: its header, and then its body
   unfoldable pub problem : Reader Problem
   problem = do
     header s 10 max_problem_bytes F.version
@@ -88,7 +89,7 @@ module _ (F : Limits) (s : List ℕ) where
   problem_of = answer_of (problem 0)
 
 module _ (s : List ℕ) where
-  -- "34 step naming no action (its byte)": so many steps, which the block's length counts
+  -- so many steps, which the block's length counts: 34 at a step that is no action's number
   unfoldable pub steps : ℕ → ℕ → Reader (List ℕ)
   steps m zero = done []
   steps m (suc n) = do
@@ -98,8 +99,8 @@ module _ (s : List ℕ) where
     bs ← steps m n
     done (b ∷ bs)
 
-  -- "one byte a step, an action number, 0 to 256 steps"; "30 over 261 bytes (261); 31, 32, 33 as 11, 12, 13": a plan for m actions.
-  -- A plan's version is 1.
+  -- plan block: for m actions: 30, at the most bytes that one may have, if it has more; 31 to 33 for its header; then a byte a step. A plan's
+  -- version is 1.
   unfoldable pub plan : ℕ → Reader (List ℕ)
   plan m = do
     header s 30 (head_bytes + max_steps) 1

@@ -14,7 +14,7 @@ unfoldable pub and_then : {A B : Type 0} → Read A → (A → Reader B) → Rea
 and_then (reject n q) k = reject n q
 and_then (got a p) k = k a p
 
--- one reader after the other: "left to right"; "the first met decides"
+-- one reader after another, from the left: the first fault is the answer
 unfoldable pub ◌>>=◌ : {A B : Type 0} → Reader A → (A → Reader B) → Reader B
 ◌>>=◌ r k p = and_then (r p) k
 
@@ -36,7 +36,7 @@ unfoldable pub answer_of : {A : Type 0} → Read A → Answer A
 answer_of (reject n q) = refused n q
 answer_of (got a p) = answered a
 
--- "four-byte big-endian length", "two-byte length", "six bytes taken as one big-endian number"
+-- a number of several bytes, the highest first
 unfoldable pub big_endian_from : ℕ → List ℕ → ℕ
 big_endian_from n [] = n
 big_endian_from n (b ∷ bs) = big_endian_from (n * 256 + b) bs
@@ -49,7 +49,7 @@ unfoldable pub bytes_of : ℕ → ℕ → List ℕ
 bytes_of zero n = []
 bytes_of (suc k) n = (n / 256 ^ k) % 256 ∷ bytes_of k n
 
--- "Every block: version byte 1, then a four-byte big-endian length of all that follows."
+-- each block begins with its version, and with the length of what follows in four bytes
 abbrev pub head_bytes : ℕ
 head_bytes = 5
 
@@ -65,9 +65,8 @@ module _ (s : List ℕ) where
   unfoldable pub counted : Reader ℕ
   counted p = got (get_or s p 0) (p + 1)
 
-  -- "10 over 32,768 bytes (place 32,768); 11 under five bytes (place its length); 12 version (0); 13 length field differs from the
-  -- bytes that follow (1)"; "31, 32, 33 as 11, 12, 13"; "61, 62, 63 as 11, 12, 13": a block of at most `most` bytes, with the first
-  -- of its four numbers
+  -- block header: of a block of at most `most` bytes; its four faults have the numbers from the given one on: too long a block, at the byte past
+  -- the most; one with no room for a header, at its length; another version, at 0; a length that is not that of the bytes that follow, at 1
   unfoldable pub header : ℕ → ℕ → ℕ → Reader (Unit {0})
   header number most version = do
     require (leb (length s) most) number most
@@ -76,8 +75,8 @@ module _ (s : List ℕ) where
     require (eqb (big_endian (take 4 (drop 1 s))) (length s - head_bytes)) (number + 3) 1
     λ p. got tt head_bytes
 
-  -- a count of one byte, refused with `number` at its place where it is not from `low` to `high`; "14 block ends inside a field
-  -- .. (place the block's length)"
+  -- a count of one byte, refused with `number` at its place where it is not from `low` to `high`, and with 14, at the block's length, where the block
+  -- ends before it
   unfoldable pub count : ℕ → ℕ → ℕ → Reader ℕ
   count number low high = do
     p ← position

@@ -1,5 +1,5 @@
--- Which start facts an outcome rests on (document 02, W-204): "Work backward." A set of facts has a value for each fact, fact 0 first: whether
--- it is a member.
+-- On which start facts a run rests, found by going backward over its steps. A set of facts has a value for each fact, fact 0 first: whether it is
+-- a member.
 use Rattle.std.specs.Prelude.{◌≡◌, Bool, true, false, cond, ◌&&◌, ◌||◌, List, [], ◌∷◌, ◌++◌, map, ℕ, zero, suc, ◌+◌, ◌-◌, ◌*◌, ◌^◌, ◌<◌, length, get_or, eqb}
 use Rattle.model.specs.Kleene.{two}
 use Rattle.model.specs.Formula.{Literal, fact, denial, Formula, Formulas, lit, all, any, none, more}
@@ -33,58 +33,58 @@ has_entry l [] = false
 has_entry l (e ∷ es) = same_literal l e.literal || has_entry l es
 
 module _ (a : Action) where
-  -- "a fact that has set and clear entries"
+  -- whether an action has an entry that sets fact f, and one that clears it
   abbrev pub set_and_cleared : ℕ → Bool
   set_and_cleared g = has_entry (fact g) a.effects && has_entry (denial g) a.effects
 
-  -- "the facts of its set condition", and those of its clear condition, of fact g's: a literal without an entry names none
+  -- the facts of a condition of fact g's, to set or to clear it; a literal without an entry names none
   abbrev pub set_names : ℕ → ℕ → Bool
   set_names g = names (condition_of (fact g) a.effects)
 
   abbrev pub clear_names : ℕ → ℕ → Bool
   clear_names g = names (condition_of (denial g) a.effects)
 
-  -- fact g, which mattered after the step, rests on these, in the state c before it: "the facts of its set condition if that was true,
-  -- otherwise the fact itself and the facts of both its conditions"
+  -- on what fact g rests that matters after a step, in the state c before it: where it was surely set, on the facts of its set condition; else on
+  -- itself and on the facts of both its conditions
   abbrev pub rests_on : List Bool → ℕ → ℕ → Bool
   rests_on c g f = cond (sets two a c g) (set_names g f) (eqb g f || (set_names g f || clear_names g f))
 
-  -- "all named in both conditions of a fact that has set and clear entries", over n facts: whether f is one of them
+  -- whether f is named in a condition of one of n facts that the action may both set and clear
   abbrev pub exclusion_names : ℕ → ℕ → Bool
   exclusion_names n f = some n (λ g. set_and_cleared g && (set_names g f || clear_names g f))
 
-  -- "for each fact that mattered after the step": whether one of these rests on f
+  -- whether a fact that matters after the step rests on f
   abbrev pub effect_names : ℕ → List Bool → List Bool → ℕ → Bool
   effect_names n c after f = some n (λ g. get_or after g false && rests_on c g f)
 
-  -- "Before a step, these matter: all facts named in its precondition; all named in both conditions ..; and for each fact that mattered
-  -- after the step .."
+  -- what matters before a step: the facts of its precondition, those of the conditions of every fact that it may both set and clear, and what the
+  -- facts rest on that matter after it
   unfoldable pub matters_before : ℕ → List Bool → List Bool → ℕ → Bool
   matters_before n c after f = names a.precondition f || (exclusion_names n f || effect_names n c after f)
 
 module _ (n : ℕ) where
-  -- the facts that matter before what is left of a plan, from the state c: "After the last step the facts named in the goal matter."
+  -- relevant facts: what matters before what is left of a plan, from the state c: at its end, the facts of the goal
   unfoldable pub relevant : Formula → List Action → List Bool → List Bool
   relevant goal [] c = tabulate n (names goal)
   relevant goal (a ∷ plan) c = let after = relevant goal plan (step two n a c) in tabulate n (matters_before a n c after)
 
-  -- "the states of the run, in order": that before each step, and the last
+  -- run rows: the states of a run: the one before each step, and the last
   unfoldable pub states : List Action → List Bool → List (List Bool)
   states [] c = c ∷ []
   states (a ∷ plan) c = c ∷ states plan (step two n a c)
 
--- "as a state number with those bits set": w bits wide, fact 0 on top
+-- a set as the number of a state, w bits wide, fact 0 on top
 unfoldable pub number_of : ℕ → List Bool → ℕ
 number_of w [] = 0
 number_of w (b ∷ bs) = flag b * 2 ^ (w - 1) + number_of (w - 1) bs
 
--- "rows of one byte (0 or 1) per fact"
+-- a row of the work area: a byte for each fact, 0 or 1
 unfoldable pub rows : List (List Bool) → List ℕ
 rows [] = []
 rows (c ∷ cs) = map flag c ++ rows cs
 
 module _ (T : Task) where
-  -- "The answer is a set of start facts", those that matter before the run of the state numbered s
+  -- relevant set: the start facts that matter before the run of the state numbered s
   unfoldable pub relevant_to : ℕ → ℕ
   relevant_to s = number_of T.width (relevant T.facts T.goal T.plan (state_of T.width T.facts s))
 
@@ -92,7 +92,7 @@ module _ (T : Task) where
   abbrev pub is_relevant : ℕ → ℕ → Bool
   is_relevant s f = get_or (relevant T.facts T.goal T.plan (state_of T.width T.facts s)) f false
 
-  -- "The work area has steps plus one rows"; "afterwards they hold the states of the run, in order"
+  -- the bytes that the rows need, one row for each state of the run, and what stands there after the call
   abbrev pub work_bytes : ℕ
   work_bytes = suc (length T.plan) * T.facts
 
@@ -103,11 +103,11 @@ module _ (T : Task) where
   abbrev pub AgreeOn : ℕ → ℕ → ℕ → Type 0
   AgreeOn m s t = (f : ℕ) → f < T.facts → bit T.width m f ≡ true → bit T.width t f ≡ bit T.width s f
 
-  -- W-204
+  -- relevance theorem: what the set is for, of any task
   pub record RestsOnRelevant : Type 0 where
     -- the set is one of declared facts only
     pub is_state : (s : ℕ) → IsState T (relevant_to s)
     -- a declared fact's bit in its number is whether the fact is in the set
     pub each_bit : (s f : ℕ) → f < T.facts → bit T.width (relevant_to s) f ≡ is_relevant s f
-    -- "Prove that any other state which agrees on that set is also reached."
+    -- from any state that has the same values of these facts the goal is reached too
     pub reached_too : (s : ℕ) → run_of T s ≡ reached → (t : ℕ) → AgreeOn (relevant_to s) s t → run_of T t ≡ reached

@@ -1,11 +1,11 @@
--- One run of a plan (document 01, "The store as facts").
+-- The run of a plan from one state or case.
 use Rattle.std.specs.Prelude.{Bool, true, false, cond, List, [], ◌∷◌, ℕ, zero, suc}
 use Rattle.model.specs.Kleene.{Logic}
 use Rattle.model.specs.Formula.{Formula, Formulas, lit, all, any, none, more, eval}
 use Rattle.model.specs.Action.{Action, exclusive, applicable, step}
 
--- which part of a precondition was unmet, where `holds` says which formulas hold (document 02, W-201): "if the precondition is an "all",
--- the first of its members, from 0, that is false; otherwise 0"
+-- which member of a precondition is not true, where `holds` says which formulas are: the first such member of an "all", from 0; of any other
+-- formula 0
 module _ (holds : Formula → Bool) where
   unfoldable pub first_false : Formulas → ℕ
   first_false none = 0
@@ -25,22 +25,22 @@ unfoldable pub lowest_false : ℕ → (ℕ → Bool) → ℕ
 lowest_false zero f = zero
 lowest_false (suc n) f = cond (f zero) (suc (lowest_false n (λ i. f (suc i)))) zero
 
--- what a block names: (W-201) "a member number", or (W-202) "the lowest such fact instead of a member, and says that it does"
+-- blocking part: what keeps an action from being applicable: a member of its precondition by number, or a fact, which is set and cleared at once
 pub data Part : Type 0 where
   at_member at_fact : ℕ → Part
 
--- the part of an action that is not applicable: "an unmet precondition comes first" (W-202)
+-- which of them it is: the precondition is looked at first, and then the facts, the lowest first
 unfoldable pub part_of : {X : Type 0} → Logic X → ℕ → Action → List X → Part
 part_of L n a c =
     let member = unmet (holds_in L c) a.precondition in
     cond (holds_in L c a.precondition) (at_fact (lowest_false n (exclusive L a c))) (at_member member)
 
--- where a run is blocked: "the first step, counted from 0, that is not applicable", and which part of it
+-- where a run is blocked: the number of the first step whose action is not applicable, from 0, and what keeps it from being so
 pub record Stop : Type 0 where
   pub step : ℕ
   pub part : Part
 
--- "A run stops as blocked at the first step .. that is not applicable. Otherwise it is reached or missed by the goal at the end."
+-- a run is blocked at the first action that is not applicable; else the goal decides at its end
 pub data Outcome : Type 0 where
   reached missed : Outcome
   blocked : Stop → Outcome
@@ -56,6 +56,7 @@ goes_on false rest s = blocked s
 
 -- the run of what is left of a plan over n facts, at step i, from the values c
 module _ {X : Type 0} (L : Logic X) (n : ℕ) (goal : Formula) where
+  -- runs: how a run ends: at the first step whose action is not applicable, or by the goal after the last
   unfoldable pub run : List Action → ℕ → List X → Outcome
   run [] i c = at_end (L.holds (eval L c goal))
   run (a ∷ plan) i c =

@@ -1,4 +1,4 @@
--- Every short plan, tried in order (document 02, W-205).
+-- Every short plan, tried in order.
 use Rattle.std.specs.Prelude.{◌≡◌, ◌⊎◌, ◌≢◌, List, [], ◌∷◌, ◌++◌, map, ℕ, zero, suc, ◌+◌, ◌-◌, ◌*◌, ◌≤◌, ◌<◌, length}
 use Rattle.model.specs.Case.{Task}
 use Rattle.model.specs.Walk.{Line, Verdict, right, wrong, undecided, visits, walked, judged}
@@ -11,29 +11,29 @@ unfoldable pub each_step : ℕ → ℕ → List (List ℕ) → List (List ℕ)
 each_step zero a ps = []
 each_step (suc n) a ps = map (λ p. a ∷ p) ps ++ each_step n (suc a) ps
 
--- ".. then by step numbers from the first step on": the plans of one length over m actions
+-- the plans of one length over m actions: ordered by their first step, then by the second, and so on
 unfoldable pub plans_of : ℕ → ℕ → List (List ℕ)
 plans_of m zero = [] ∷ []
 plans_of m (suc l) = each_step m 0 (plans_of m l)
 
--- "by length ..": those of n lengths from l on
+-- those of n lengths from l on, the shorter first
 unfoldable pub plans_from : ℕ → ℕ → ℕ → List (List ℕ)
 plans_from m l zero = []
 plans_from m l (suc n) = plans_of m l ++ plans_from m (suc l) n
 
--- "take every plan up to that length"
+-- short plans: all up to a length
 unfoldable pub plans_up_to : ℕ → ℕ → List (List ℕ)
 plans_up_to m longest = plans_from m 0 (suc longest)
 
--- how many they are: the empty plan, and each of m steps before every plan that is a step shorter
+-- plan count: how many they are: the empty plan, and each of m steps before every plan that is a step shorter
 unfoldable pub plan_count : ℕ → ℕ → ℕ
 plan_count m zero = 1
 plan_count m (suc l) = m * plan_count m l + 1
 
 -- ---- the search
 
--- "Report the first right plan, or that none is right, or undecided with the first plan whose walk needs more than the visits left, each
--- with the visits used in all."
+-- what a search finds, with all visits that it used: the first right plan; that there is none; or the first plan for whose walk too few visits were
+-- left
 pub data Search : Type 0 where
   first_right : List ℕ → ℕ → Search
   none_right : ℕ → Search
@@ -48,7 +48,7 @@ module _ (task : List ℕ → Task) where
     tried p used rest (wrong s o a) = rest (used + a)
     tried p used rest (undecided a) = undecided_at p grant
 
-    -- "Judge them under one shared grant of visits.": each with the visits that are left
+    -- search: the grant is for all of them: each is judged with the visits that are left
     unfoldable pub search : List (List ℕ) → ℕ → Search
     search [] used = none_right used
     search (p ∷ ps) used = tried p used (search ps) (judged (task p) (grant - used))
@@ -71,7 +71,7 @@ LowerSteps [] q = ⊥
 LowerSteps (a ∷ p) [] = ⊥
 LowerSteps (a ∷ p) (b ∷ q) = (a < b) ⊎ ((a ≡ b) × LowerSteps p q)
 
--- "by length and then by step numbers": p is before q
+-- p comes before q: it is shorter, or of the same length with the lower step where they first differ
 abbrev pub Earlier : List ℕ → List ℕ → Type 0
 Earlier p q = (length p < length q) ⊎ ((length p ≡ length q) × LowerSteps p q)
 
@@ -79,7 +79,7 @@ abbrev pub Sorted : List (List ℕ) → Type 0
 Sorted [] = Unit {0}
 Sorted (p ∷ ps) = Each (Earlier p) ps × Sorted ps
 
--- "every plan up to that length, .. each exactly once"
+-- every plan up to a length stands in the list once, and nothing else does
 pub record Enumerates (m longest : ℕ) (plans : List (List ℕ)) : Type 0 where
   pub short : Each (IsShort m longest) plans
   pub once :

@@ -10,6 +10,7 @@ module _ (w n : ℕ) where
   abbrev pub InCase : ℕ → ℕ → ℕ → Type 0
   InCase k v s = (f : ℕ) → f < k → bit w s f ≡ bit w v f
 
+  -- sound readings: what a formula reads in a case is so in each of its states
   pub record KleeneSound : Type 0 where
     -- a formula that reads yes in a case is true in every state of the case
     pub yes_is_true :

@@ -8,20 +8,20 @@ use Rattle.model.specs.Soundness.{KleeneSound}
 use Rattle.model.specs.Walk.{Look}
 use Rattle.model.specs.Cover.{RunningEnd}
 use Rattle.model.specs.WellFormed.{Sensible}
-use Rattle.model.specs.Demands.{Demands}
+use Rattle.model.specs.Guarantees.{Guarantees}
 use Rattle.model.specs.Trials.{Hold, starred, NoStart, edges, DeskGrant, unmet_members, conflicts, running_ends, relevances, searches}
 
 pub record Theorems : Type 0 where
-  -- the three demands, and what W-204 and W-205 ask to be proved, of every version whose numbers are sensible
-  pub demands : (F : Limits) → Sensible F → Demands F
+  -- all input, verdicts, certificates, relevant facts and search, of every version whose numbers are sensible
+  pub guarantees : (F : Limits) → Sensible F → Guarantees F
   -- version 1 is such a version, and so they hold of it
   pub version1_sensible : Sensible version1
-  pub version1_demands : Demands version1
+  pub version1_guarantees : Guarantees version1
   -- what reading a formula in a case says of its states, for every width and fact count
   pub kleene : (w n : ℕ) → KleeneSound w n
-  -- W-203, for every width, fact count and look
+  -- the running value of the cover, for every width, fact count and look
   pub running_ends : (w : ℕ) (look : ℕ → ℕ → Look) (n : ℕ) → RunningEnd w look n
-  -- document 004's assumption, in states and in cases
+  -- a step that is taken sets and clears no fact at once, in states and in cases
   pub free_in_states : OrderFree two
   pub free_in_cases : OrderFree three
 

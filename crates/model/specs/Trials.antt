@@ -1,5 +1,5 @@
--- The trial cases of document 01 that are to be proved, on their bytes, each refusal at and inside its edge, and what the requests of
--- document 02 add: a call and what it gives. What no row can say, for every plan or for walks of a million visits, is a statement beside the tables.
+-- Examples that are proved on their bytes: a call and what it gives, among them each refusal at its edge and inside it. What no row can say, for
+-- every plan or for walks of a million visits, is a statement beside the tables.
 use Rattle.std.specs.Prelude.{◌≡◌, List, [], ◌∷◌, ◌++◌, ℕ, zero, suc, ◌≤◌, ◌<◌, length, drop, replicate, map, codes}
 use Rattle.std.specs.Fmt.{digits}
 use Rattle.model.specs.declared.Limits.{Limits}
@@ -67,13 +67,13 @@ infix 10 ◌⇒◌
 abbrev pub ◌⇒◌ : Call → Reply → Row
 c ⇒ r = record { call = c; gives = r }
 
--- "P (after document 001)"
+-- the trial problem
 abbrev P : List ℕ
 P =
     hex
     "01 00000020 03 02 0007 80 02 81 02 00 01 42 0001 02 0002 80 00 01 02 0001 00 0002 80 00 01 02 0001 01"
 
--- P with "Action 0 given precondition fact 0", "Goal the empty "all"" and "Initial the empty "any""
+-- it with fact 0 as the precondition of action 0; with a goal that is always true; and with no start state
 abbrev P_guarded : List ℕ
 P_guarded =
     hex
@@ -99,7 +99,7 @@ step-0 = hex "01 00000001 00"
 abbrev pub no_step : List ℕ
 no_step = hex "01 00000000"
 
--- "Its list", "its last line split into 10 and 11", "Last line dropped", "Last two swapped", "First line with kind 1"
+-- its list; and lists like it: with the last line in two halves, without it, with the last two exchanged, and with a first line that claims kind 1
 abbrev the_list : List ℕ
 the_list = hex "01 00000018 00 02 000000000000 01 02 400000000000 01 01 800000000000"
 
@@ -125,7 +125,7 @@ wrote n bytes = writes (record { answer = answered n; buffer = bytes })
 abbrev kept : ℕ → ℕ → List ℕ → Reply
 kept n q out = writes (record { answer = refused n q; buffer = out })
 
--- the starred cases, in document 01's order
+-- verdicts and lists of the trial problem
 abbrev pub starred : List Row
 starred =
     (judge_with P both_steps grant ⇒ verdict (answered (right 3 5)))
@@ -145,7 +145,7 @@ starred =
     ∷ (follow-list P both_steps other_kind ⇒ number (refused 69 0))
     ∷ []
 
--- "Initial the empty "any", any plan: right, one line of kind 0, 1 visit": every plan block that is read, every grant of 1 or more,
+-- without a start state any plan is right, with one line of kind 0 and one visit: every plan block that is read, every grant of 1 or more,
 -- and every buffer that the list fits
 abbrev pub NoStart : Type 0
 NoStart =
@@ -307,7 +307,7 @@ edges =
     ∷ (desk two_lines P both_steps ⇒ text (codes "right lines 3 visited 5\nlist too long\n"))
     ∷ []
 
--- "a grant fixed at 1,000,000"; "undecided is "undecided visited 1000000"": every problem and plan that are read
+-- what the program shows where a million visits do not suffice: of every problem and plan that are read
 abbrev pub DeskGrant : Type 0
 DeskGrant =
     (problem plan : List ℕ) (T : Task) → read_task version1 problem plan ≡ answered T →
@@ -327,7 +327,7 @@ guards =
 abbrev blocks_at : ℕ → ℕ → Reply
 blocks_at i m = outcome (answered (blocked (record { step = i; part = at_member m })))
 
--- a block's member (document 02, W-201): the second and the third of an "all", the first of several, none; an "any", a literal, an
+-- the member that blocks a run: the second and the third of an "all", the first of several, none; an "any", a literal, an
 -- empty "any"; an "any" in an "all"; in the state before a later step; and what judge and desk program make of it
 abbrev pub unmet_members : List Row
 unmet_members =
@@ -344,7 +344,7 @@ unmet_members =
     ∷ (desk version1 guards (block1 (5 ∷ 0 ∷ [])) ⇒ text (codes "wrong 0000 at step 1 member 1 visited 5\n"))
     ∷ []
 
--- "An action that always sets and always clears 2", in P
+-- the trial problem, where an action always sets and always clears fact 2
 abbrev P_both : List ℕ
 P_both = hex "01 0000001d 03 01 0007 80 02 81 02 00 01 42 0001 02 0002 80 00 02 02 0002 80 00 42 0002 80 00"
 
@@ -360,8 +360,8 @@ stalls =
 abbrev pub stalls_at : ℕ → ℕ → Outcome
 stalls_at i f = blocked (record { step = i; part = at_fact f })
 
--- an action that sets and clears a fact (document 02, W-202): "The last trial problem becomes a block"; the lower of two facts;
--- "an unmet precondition comes first"; a fact that is false, and one that is true already; conditions that are true in no start state, and
+-- an action that sets and clears a fact at once: the run is blocked; the lower of two facts is named; a precondition that is not true comes
+-- before; a fact that is false, and one that is true already; conditions that are true in no start state, and
 -- after a step that makes them so; a case in which the pair reads unknown is open and its parts close; set or clear alone
 abbrev pub conflicts : List Row
 conflicts =
@@ -382,7 +382,7 @@ conflicts =
     ∷ (judge_with stalls (block1 (3 ∷ 5 ∷ [])) grant ⇒ verdict (answered (right 1 1)))
     ∷ []
 
--- the running value (document 02, W-203): before the first line, after each, and past the last; where a list ends short, and where it has
+-- the running value: before the first line, after each, and past the last; where a list ends short, and where it has
 -- no line; before a line that begins elsewhere and at it; before a claim that is not so and at it; and the refusals that come first
 abbrev pub running_ends : List Row
 running_ends =
@@ -411,8 +411,8 @@ resting =
     (hex "04 05 0002 80 00 0001 01 0002 80 00 01 01 0001 00 0002 80 00 01 41 0001 00" ++
     hex "0002 80 00 02 02 0001 00 42 0001 03 0001 00 00 0002 80 00 01 01 0004 81 02 00 42")
 
--- which start facts an outcome rests on (document 02, W-204), with the states of the run in the work area: P from three states; "the facts of
--- its set condition if that was true", also where the fact was true already, "otherwise the fact itself and the facts of both its conditions",
+-- relevant facts, with the states of the run in the work area: the trial problem from three states; a fact that was surely set, also where it was
+-- true already, and one that was not,
 -- of a set and of a clear entry; a fact with both entries that matters to nobody; a precondition; a condition that names several facts; two
 -- steps, of which the second overwrites nothing; no step, and no fact that matters. Work areas that are longer, exact and short (42); a run
 -- that is missed, blocked by a member and by a fact (41, before 42); and what comes first: no state (40), the plan's refusals, the problem's.
@@ -460,7 +460,7 @@ finds_none used = searched (answered (none_right used))
 abbrev pub stops_at : List ℕ → ℕ → Reply
 stops_at plan used = searched (answered (undecided_at plan used))
 
--- every short plan (document 02, W-205): P, whose plans of the steps 0, 1 and 1, 0 are right, up to each length, and with grants that suffice,
+-- search: the trial problem, whose plans of the steps 0, 1 and 1, 0 are right, up to each length, and with grants that suffice,
 -- fall one short, and are used up before and at a plan; a problem whose empty plan is right, and one without start states; no plan right, with 0, 1 and
 -- more actions; 31, 32 and 64 actions; and what is refused, the problem's refusals first, then 43, then 44.
 abbrev pub searches : List Row
@@ -497,6 +497,6 @@ searches =
     ∷ (search-plans [] 5 0 ⇒ searched (refused 11 0))
     ∷ []
 
--- every row gives what it says
+-- tables: every row gives what it says
 abbrev pub Hold : List Row → Type 0
 Hold rows = map (λ r. reply r.call) rows ≡ map (λ r. r.gives) rows

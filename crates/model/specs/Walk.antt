@@ -1,11 +1,11 @@
--- Cases, the walk over them, and the verdict under a grant (document 01, "Cases and the walk").
+-- The walk over cases, and the verdict under a grant.
 use Rattle.std.specs.Prelude.{cond, List, [], ◌∷◌, ◌++◌, ℕ, zero, suc, ◌+◌, ◌-◌, ◌^◌, leb}
 use Rattle.model.specs.Kleene.{Kleene, No, Unknown, Yes, three}
 use Rattle.model.specs.Formula.{eval}
 use Rattle.model.specs.Run.{Outcome, reached, missed, blocked, run}
 use Rattle.model.specs.Case.{case_of, Task, run_of}
 
--- "Kind 0 claims empty, kind 1 claims carries."
+-- what a line claims of its case, by the number in its bytes: that it is empty (0), or that it carries (1)
 pub data Kind : Type 0 where
   empty carries : Kind
 
@@ -13,12 +13,12 @@ abbrev pub kind_number : Kind → ℕ
 kind_number empty = 0
 kind_number carries = 1
 
--- what a visit finds of a case: "Either closes it", or it is open
+-- what a visit finds of a case: that it is closed, since it is empty or carries, or that it is open
 pub data Look : Type 0 where
   closed : Kind → Look
   opened : Look
 
--- "lines of 8 bytes: kind, k, six bytes of values"
+-- lines: a line has its kind, how many facts it fixes, and the number at which it begins
 pub record Line : Type 0 where
   pub kind : ℕ
   pub k : ℕ
@@ -32,6 +32,7 @@ pub data Walked : Type 0 where
   covered : List Line → ℕ → Walked
   failed : ℕ → ℕ → Walked
 
+-- visits: how many cases were looked at
 abbrev pub visits : Walked → ℕ
 visits (covered ls a) = a
 visits (failed s a) = a
@@ -42,8 +43,8 @@ join (covered ls a) (covered ms b) = covered (ls ++ ms) (suc (a + b))
 join (covered ls a) (failed s b) = failed s (suc (a + b))
 join (failed s a) r = failed s (suc a)
 
--- "The walk starts at k = 0. Each case looked at is one visit. A closed case ends there. An open case with k below the fact count
--- is split on the next fact, no first. An open case with all facts fixed is a failing start state and ends the walk."
+-- the walk of a case, of which a visit finds out first. A closed case ends there, with its line; an open one is split on its next fact, which is no
+-- and then yes; where no fact is left, an open case is a failing start state, and ends the whole walk.
 module _ (w : ℕ) (look : ℕ → ℕ → Look) where
   -- the walk from the case (k, v), which looks so, with d facts still open
   unfoldable pub walk_from : ℕ → Look → ℕ → ℕ → Walked
@@ -55,6 +56,7 @@ module _ (w : ℕ) (look : ℕ → ℕ → Look) where
       let r = walk_from d (look (suc k) m) (suc k) m in
       join (walk_from d (look (suc k) v) (suc k) v) r
 
+  -- walk: from the case that fixes no fact
   unfoldable pub walk : ℕ → Walked
   walk n = walk_from n (look 0 0) 0 0
 
@@ -63,8 +65,8 @@ look_end reached = closed carries
 look_end missed = opened
 look_end (blocked s) = opened
 
--- "A case is empty if the initial formula reads no. It carries if it isn't empty, every precondition reads yes in turn, and the goal
--- reads yes"; and "the "all" of each fact's two conditions must also read no at each step" (W-202): the run in three values is reached.
+-- what a visit finds: empty where the initial formula is no; otherwise the case carries if its run, with three values, is reached: every precondition
+-- yes in turn, no fact set and cleared at once, and the goal yes at the end
 abbrev pub look_of : Kleene → Outcome → Look
 look_of No r = closed empty
 look_of Unknown r = look_end r
@@ -84,6 +86,7 @@ module _ (T : Task) where
   abbrev pub run_at : ℕ → ℕ → Outcome
   run_at k v = run three T.facts T.goal T.plan 0 (case_of T.width T.facts k v)
 
+  -- closed cases: what a visit finds of the case (k, v)
   unfoldable pub look_at : ℕ → ℕ → Look
   look_at k v = let r = run_at k v in look_of (initial_at k v) r
 
@@ -94,9 +97,10 @@ module _ (T : Task) where
   found (covered ls a) = right ls a
   found (failed s a) = wrong s (run_of T s) a
 
-  -- "A grant is 0 to 2^64 - 1; if the walk needs more, the verdict is undecided with visits equal to the grant."
+  -- the verdict: undecided, with the whole grant as its visits, where the walk needs more
   abbrev pub granted : ℕ → Walked → Verdict (List Line)
   granted g r = cond (leb (visits r) g) (found r) (undecided g)
 
+  -- grant: the verdict on the plan, under a grant
   unfoldable pub judged : ℕ → Verdict (List Line)
   judged g = granted g walked

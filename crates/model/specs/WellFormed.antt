@@ -1,5 +1,5 @@
--- What a sound block holds, said of the abstract problem, plan and list and without any order of reading (document 01, "Blocks"); and
--- what a list that passes holds, without any order of looking for faults ("Follow a list").
+-- What a sound block holds, said of the abstract problem, plan and list and without any order of reading; and
+-- what a list that passes holds, without any order of looking for faults.
 use Rattle.std.specs.Prelude.{◌≡◌, true, List, [], ◌∷◌, ℕ, ◌+◌, ◌-◌, ◌*◌, ◌%◌, ◌^◌, ◌≤◌, ◌<◌, length, get_or}
 use Rattle.model.specs.declared.Limits.{Limits}
 use Rattle.model.specs.Limits.{max_facts, max_effects, max_actions, max_steps, max_problem_bytes, max_formula_bytes, max_depth}
@@ -24,8 +24,8 @@ abbrev pub Declared : ℕ → Literal → Type 0
 Declared facts (fact f) = f < facts
 Declared facts (denial f) = f < facts
 
--- "An "all" never directly holds an "all", nor an "any" an "any"; groups nest at most 8 deep": a formula in a group whose mark is
--- `parent` (0: in none), where `left` more groups may nest; a count is one byte
+-- a formula that may stand in a group whose mark is `parent` (0: in none), where `left` more groups may nest: no group is of the kind that it stands
+-- in, and a count is one byte
 unfoldable mutual
   pub Formed : ℕ → ℕ → ℕ → Formula → Type 0
   Formed facts left parent (lit l) = Declared facts l
@@ -36,31 +36,31 @@ unfoldable mutual
   FormedAll facts left parent none = Unit {0}
   FormedAll facts left parent (more m ms) = Formed facts left parent m × FormedAll facts left parent ms
 
--- "two-byte length, 1 to 1,024"
+-- a formula's length: 1 to 1,024 bytes
 pub record FormulaOk (facts : ℕ) (f : Formula) : Type 0 where
   pub formed : Formed facts max_depth 0 f
   pub short : length (formula_bytes f) ≤ max_formula_bytes
 
--- "Literals rise strictly.": from the literal byte `least` on
+-- the literals' bytes rise, from `least` on
 abbrev pub EffectsOk : ℕ → ℕ → List Effect → Type 0
 EffectsOk facts least [] = Unit {0}
 EffectsOk facts least (e ∷ es) =
     Declared facts e.literal × (least ≤ literal_byte e.literal) × FormulaOk facts e.condition ×
     EffectsOk facts (literal_byte e.literal + 1) es
 
--- "one byte a step, an action number, 0 to 256 steps", for m actions
+-- a plan for m actions: at most 256 steps, each the number of an action
 pub record PlanOk (m : ℕ) (steps : List ℕ) : Type 0 where
   pub count : length steps ≤ max_steps
   pub actions : Each (λ b. b < m) steps
 
 module _ (F : Limits) where
-  -- "an effect count (1 byte, 0 to 96)"
+  -- an action: its formulas are sound, and its effects within their limit
   pub record ActionOk (facts : ℕ) (a : Action) : Type 0 where
     pub precondition : FormulaOk facts a.precondition
     pub count : length a.effects ≤ F.effects
     pub effects : EffectsOk facts 0 a.effects
 
-  -- "Problem, at most 32,768 bytes in all: fact count (1 byte, 1 to 48), action count (1 byte, 0 to 64)"
+  -- sound blocks: a problem: its counts, and its block's bytes, are within their limits
   pub record ProblemOk (p : Problem) : Type 0 where
     pub some_fact : 1 ≤ p.facts
     pub facts : p.facts ≤ F.facts
@@ -70,7 +70,7 @@ module _ (F : Limits) where
     pub actions : Each (ActionOk p.facts) p.actions
     pub short : length (encode_problem F p) ≤ max_problem_bytes
 
-  -- "lines of 8 bytes: kind, k, six bytes of values"; "8,191 lines"
+  -- a line's parts fit their bytes
   pub record LineOk (l : Line) : Type 0 where
     pub kind : l.kind < 256
     pub k : l.k < 256
@@ -91,7 +91,7 @@ module _ (F : Limits) where
     pub width : F.facts ≤ F.width
     pub bits : F.width ≡ 8 * (F.line - 2)
 
--- a line that fixes declared facts and has no bit set past them, and whose claim is so; a state is w bits wide and has n facts
+-- passing lists: a line that fixes declared facts and has no bit set past them, and whose claim is so; a state is w bits wide and has n facts
 pub record LineHolds (w : ℕ) (look : ℕ → ℕ → Look) (n : ℕ) (l : Line) : Type 0 where
   pub k_fits : l.k ≤ n
   pub no_bits : l.value % 2 ^ (w - l.k) ≡ 0

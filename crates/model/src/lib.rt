@@ -4,7 +4,6 @@
 
 ghost use Rattle.std.specs.Prelude.{◌≡◌, ◌≤◌};
 ghost use Rattle.model.specs.Limits.{version1};
-ghost use Rattle.model.specs.Values.{Shows, ShowsEach, first_case, empty_state};
 
 pub mod fault;
 pub mod marks;
@@ -14,9 +13,6 @@ pub mod theorems;
 pub use fault::{Block, Fault, HeaderFault};
 pub use marks::{Group, Kind, UnknownMark};
 pub use short_plan::ShortPlan;
-
-// The values of a case or a state as the code holds them, one byte a fact: 0 no, 1 unknown, 2 yes.
-pub type Values = [u8; Problem::SLOTS];
 
 // A problem block's limits.
 pub struct Problem;
@@ -35,25 +31,6 @@ impl Problem {
     pub const MAX_DEPTH: u8 = 8;
     // Values that the code holds: a denial's byte is its fact's and 64 more, so no version has more facts.
     pub const SLOTS: usize = 64;
-
-    // The state in which no fact is true.
-    pub fn empty_state() -> Values
-        ensures { ShowsEach result empty_state }
-    {
-        [0u8; Problem::SLOTS]
-    }
-
-    // The case that fixes none of so many facts: the walk starts there.
-    pub fn first_case(facts: usize) -> Values
-        requires { facts ≤ 64 }
-        ensures { Shows result (first_case facts) }
-    {
-        let mut values = [0u8; Problem::SLOTS];
-        for i in 0..facts {
-            values[i] = 1;
-        }
-        values
-    }
 }
 
 // A plan block's limits: its steps stand from byte 5 on, one byte each.
@@ -76,8 +53,6 @@ impl CaseList {
     pub const MAX_BYTES: usize = Limits::HEAD_BYTES + CaseList::LINE_BYTES * CaseList::MAX_LINES;
     // A state's number, and a line's value, in bits.
     pub const WIDTH: u8 = 48;
-    // The numbers that all lines cover together.
-    pub const NUMBERS: u64 = 1u64 << CaseList::WIDTH;
 }
 
 // The numbers that one version of the formats has and another may not. The definitions take them as a parameter.

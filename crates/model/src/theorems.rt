@@ -1,8 +1,8 @@
 // The theorems about the definitions. Each is the contract of a function, which has nothing to do: a check that passes has proved it.
 ghost use Rattle.model.specs.Theorems.{Theorems, TrialsHold};
 
-// The demands, and what is said of every width, fact count and look.
-pub fn demands_hold()
+// What the operations guarantee, and what is said of every width, fact count and look.
+pub fn guarantees_hold()
     ensures { Theorems }
 {}
 

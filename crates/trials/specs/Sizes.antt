@@ -56,9 +56,8 @@ quarter v =
 abbrev single_numbers : List ℕ
 single_numbers = block1 (hex "01 30 000000000000 01 30 000000000001 01 2f 000000000002")
 
--- 16, 17 and 22 at their edges; 48 facts and 256 steps; a conflict of fact 47 (W-202); pages whose numbers have three digits; the running
--- value after lines that fix all of 48 facts, and after one that fixes none (W-203); the start facts of runs over 48 facts, none or the last
--- (W-204)
+-- 16, 17 and 22 at their edges; 48 facts and 256 steps; a fact 47 that is set and cleared at once; pages whose numbers have three digits; the running
+-- value after lines that fix all of 48 facts, and after one that fixes none; the relevant facts of runs over 48 facts, none or the last
 abbrev pub sizes : List Row
 sizes =
     (read-problem (block1 (hex "01 41 0001 00 0001 00" ++ idle 65)) ⇒ refuses 16 6)

@@ -1,5 +1,5 @@
--- Document 004's solutions are the right plans: belief states and runs of single states agree, and every list of n values is a
--- state. A run of one state ends as that section says of the belief that holds it alone. Assumes nothing.
+-- The solutions from a belief are the right plans: beliefs and runs of single states agree, and every list of n values is a
+-- state. How the run of one state ends is what is said of the belief that has it alone. Assumes nothing.
 use mathlib.Core.Path.{◌≡◌, refl, sym, ap, ◌∙◌, subst}
 use mathlib.Core.Bool.{Bool, true, false, false≢true, not-eq-not}
 use mathlib.Core.Logic.{◌↔◌}

@@ -1,4 +1,4 @@
--- An action that sets and clears a fact: what `every` and `lowest_false` say, applicable in a state as document 004 has it, and equation 2
+-- An action that sets and clears a fact: what `every` and `lowest_false` say, applicable in a state where its precondition is true, and the value after a step
 -- where the two conditions exclude each other. Assumes nothing.
 use mathlib.Core.Path.{◌≡◌, refl, sym, ap, ◌∙◌}
 use mathlib.Core.Bool.{Bool, true, false, false≢true, cond, not, ◌&&◌, ◌||◌}
@@ -152,7 +152,7 @@ module _ (n : ℕ) (a : Action) (s : List Bool) where
       let r = lowest-is n (exclusive two a s) f ((lowest-conflict f).1 (h.1, h.2, h.3)) in
       rw h.0 (r.0, ap at_fact r.1)
 
--- ---- equation 2
+-- ---- the value of a fact after a step
 
 order-two : (x y z : Bool) → not (x && y) ≡ true → (x || (z && not y)) ≡ ((x || z) && not y)
 order-two true true z e = absurd (false≢true e)

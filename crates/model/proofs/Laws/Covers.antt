@@ -1,4 +1,4 @@
--- The running value of a list that was read: what following makes of it, and each prefix of its lines (W-203). Assumes nothing.
+-- The running value of a list that was read: what following makes of it, and each prefix of its lines. Assumes nothing.
 use mathlib.Core.Path.{◌≡◌, refl, sym, ap, ◌∙◌}
 use mathlib.Core.Logic.{◌⊎◌, inl, inr}
 use mathlib.Core.List.{List}
@@ -18,7 +18,7 @@ use Rattle.model.specs.Cover.{CoversTo, cover_end, FaultAt}
 use Rattle.model.specs.ListBytes.{list_of}
 use Rattle.model.specs.Operations.{read_task, follow_list, cover_after}
 use Rattle.model.specs.WellFormed.{Sensible}
-use Rattle.model.specs.Demands.{lines_in}
+use Rattle.model.specs.Guarantees.{lines_in}
 use Rattle.model.proofs.Laws.RunningEnd.{covers-to, end_kept, fault-at, same_answers}
 use Rattle.model.proofs.Laws.Tasks.{answer-then, refusal-of, follow-is, cover-is, task-fits}
 use Rattle.model.proofs.Laws.Lists.{list_count}

@@ -1,4 +1,4 @@
--- Demand 2 for the definitions of the judge and the run. Assumes nothing.
+-- What verdicts guarantee, for the definitions of the judge and the run. Assumes nothing.
 use mathlib.Core.Path.{◌≡◌, sym, ap, ◌∙◌, subst}
 use mathlib.Core.Logic.{inl, inr}
 use mathlib.Core.List.{List}
@@ -9,7 +9,7 @@ use Rattle.model.specs.Answer.{answered}
 use Rattle.model.specs.Case.{state_of, Task, run_of}
 use Rattle.model.specs.Walk.{Line, covered, failed, Verdict, right, wrong, undecided, visits, walked, judged}
 use Rattle.model.specs.Operations.{read_task, line_count}
-use Rattle.model.specs.Demands.{Says, Demand2}
+use Rattle.model.specs.Guarantees.{Says, Verdicts}
 use Rattle.model.proofs.Laws.Verdicts.{Means, judged-means, right-closes, larger_grant, walk-closes-right, walk_ends}
 pub use Rattle.model.proofs.Laws.Verdicts.{judged-in, judged-out}
 use Rattle.model.proofs.Laws.Beliefs.{outcome-means, solution-right}
@@ -32,7 +32,7 @@ module _ (T : Task) (n≤w : T.facts ≤ T.width) where
   counted g (undecided a) m = record { all_used = m.0; needs_more = m.1 }
 
   module _ (F : Limits) (problem plan : List ℕ) (given : read_task F problem plan ≡ answered T) where
-    pub verdicts : Demand2 F problem plan T
+    pub verdicts : Verdicts F problem plan T
     unfolding run_of
     verdicts =
         let is = judge-is F problem plan T given in

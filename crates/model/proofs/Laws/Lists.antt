@@ -1,4 +1,4 @@
--- Demand 3 for the definitions of writing and following, where what is encoded is decoded. Assumes nothing.
+-- What certificates guarantee, for the definitions of writing and following, where what is encoded is decoded. Assumes nothing.
 use mathlib.Core.Path.{◌≡◌, refl, sym, ap, subst, ◌∙◌}
 use mathlib.Core.Bool.{Bool, true, false, cond}
 use mathlib.Core.Logic.{inl, inr}
@@ -19,7 +19,7 @@ use Rattle.model.specs.Read.{head_bytes, ◌>>=◌, ◌>>◌, done}
 use Rattle.model.specs.ListBytes.{case_list, list_of, lines_bytes, encode_list}
 use Rattle.model.specs.Operations.{read_task, list_bytes, lines_for, written, list_for, write_list, follow_list}
 use Rattle.model.specs.WellFormed.{Each, LineOk, Sensible}
-use Rattle.model.specs.Demands.{lines_in, written_list, ClosesWithin, NotWritten, by_visits, by_verdict, by_lines, by_room, Demand3}
+use Rattle.model.specs.Guarantees.{lines_in, written_list, ClosesWithin, NotWritten, by_visits, by_verdict, by_lines, by_room, Certificates}
 use Rattle.model.proofs.Laws.Cover.{claimed, Follows}
 use Rattle.model.proofs.Laws.Verdicts.{Passes, Means, judged-means, passes-right, right-closes, walk_ends, walk-closes-right, walk-passes, walk-fewest}
 use Rattle.model.proofs.Laws.Following.{follow-passes, passes-follow}
@@ -54,7 +54,7 @@ module _ (F : Limits) (S : Sensible F) (w : ℕ) (look : ℕ → ℕ → Look) (
       let e : 2 ^ w ≡ 256 ^ (F.line - 2) = ap (λ (x : ℕ). 2 ^ x) (w_Fits ∙ S.bits) ∙ sym (byte-bits (F.line - 2)) in
       (omega arith, (omega (arith, f.0.0, f.1.0.k_fits), rs))
 
--- ---- what "Write the list" writes
+-- ---- what `write_list` writes
 
 module _ (F : Limits) (out : List ℕ) where
   pub written-answered :
@@ -201,7 +201,7 @@ module _ (F : Limits) (S : Sensible F) (T : Task) (fits : Fits F T) where
         list_for F problem plan grant room ≡ lines_for F room (right ls (visits (walked T)))
     closed-lines grant room ls c = lines-are grant room _ (judged-in T n≤w grant (covered ls _) c.closes c.within)
 
-    pub lists : Demand3 F problem plan T
+    pub lists : Certificates F problem plan T
     unfolding write_list written lines_for
     lists =
         record {

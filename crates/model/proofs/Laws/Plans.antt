@@ -1,4 +1,4 @@
--- Every short plan (W-205): the list of them has each once, by length and then by step numbers, and is so long. Assumes nothing.
+-- Every short plan: the list of them has each once, by length and then by step numbers, and is so long. Assumes nothing.
 use mathlib.Core.Path.{◌≡◌, refl, sym, ap, subst}
 use mathlib.Core.Logic.{◌≢◌, inl, inr}
 use mathlib.Core.List.{List, [], ◌∷◌, ◌++◌, map}

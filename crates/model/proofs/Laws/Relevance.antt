@@ -1,4 +1,4 @@
--- Working backward (W-204): a formula is known by the facts that it names, an action by those that matter before it, and so a run that is
+-- Working backward: a formula is known by the facts that it names, an action by those that matter before it, and so a run that is
 -- reached by the start facts that are relevant to it. Assumes nothing.
 use mathlib.Core.Path.{◌≡◌, refl, sym, ap, ap₂, subst, ◌∙◌}
 use mathlib.Core.Bool.{Bool, true, false, false≢true, not, ◌&&◌, ◌||◌}
@@ -57,7 +57,7 @@ module _ {X : Type 0} (L : Logic X) (c d : List X) where
 
 -- ---- entries
 
--- "A literal without an entry has a condition that never holds."
+-- a literal without an entry has a condition that is never true
 pub without-entry : (l : Literal) (es : List Effect) → has_entry l es ≡ false → (found : Formula) → condition_in found l es ≡ found
 unfolding has_entry condition_in
 without-entry l [] h found = refl

@@ -1,4 +1,4 @@
--- The running value is the end of what the lines cover together, and following is one test of it after the last line (W-203). The width,
+-- The running value is the end of what the lines cover together, and following is one test of it after the last line. The width,
 -- the fact count and the look are parameters. Assumes nothing.
 use mathlib.Core.Path.{◌≡◌, refl, sym, ap, ◌∙◌, subst}
 use mathlib.Core.Logic.{◌↔◌, inl, inr, ⊎_elim}

@@ -1,4 +1,4 @@
--- The search (W-205): over any plans each answer exactly if it is so; and the operation that tries every short plan. Assumes nothing.
+-- The search: over any plans each answer exactly if it is so; and the operation that tries every short plan. Assumes nothing.
 use mathlib.Core.Path.{◌≡◌, refl, sym, ap, subst, ◌∙◌}
 use mathlib.Core.Logic.{◌≢◌, ◌⊎◌, inl, inr}
 use mathlib.Core.List.Memᴰ
@@ -18,7 +18,7 @@ use Rattle.model.specs.Search.{Search, first_right, none_right, undecided_at, pl
 use Rattle.model.specs.ProblemBytes.{Problem, problem_of}
 use Rattle.model.specs.WellFormed.{Each, Sensible}
 use Rattle.model.specs.Operations.{task_of, when_few, plans_in, search_plans}
-use Rattle.model.specs.Demands.{NotRight, ComesTo, SearchSays, Searching}
+use Rattle.model.specs.Guarantees.{NotRight, ComesTo, SearchSays, Searching}
 use Rattle.model.proofs.Laws.Verdicts.{judged-in, judged-out, right-closes, walk-closes-right, walk_ends}
 use Rattle.model.proofs.Laws.Tasks.{problem-fits}
 use Rattle.model.proofs.Laws.Plans.{each_append, each_of, stands, stands-before, enumerates}

@@ -51,12 +51,12 @@ state-tested T s = by_tests (ltb s (2 ^ T.width)) (eqb (s % 2 ^ (T.width - T.fac
     by_tests false c p q = inr ((λ h. false≢true (sym p ∙ lt-ltb _ _ h.in_width)), refl)
 
 module _ (F : Limits) where
-  -- the bounds that the demands need
+  -- the bounds that the guarantees need
   pub record Fits (T : Task) : Type 0 where
     pub facts : T.facts ≤ F.facts
     pub width : T.width ≡ F.width
 
-  -- "fact count (1 byte, 1 to 48)": a problem that was read has no more facts
+  -- a problem that was read has no more facts
   pub problem-fits : (problem' : List ℕ) (p : Problem) → problem_of F problem' ≡ answered p → p.facts ≤ F.facts
   unfolding problem_of problem body parts ending ◌>>=◌ ◌>>◌ done
   problem-fits problem' p e =

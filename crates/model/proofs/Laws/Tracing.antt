@@ -1,4 +1,4 @@
--- The operation that tells which start facts an outcome rests on (W-204): its answers by cases, and what they say. Assumes nothing.
+-- The operation that tells which start facts an outcome rests on: its answers by cases, and what they say. Assumes nothing.
 use mathlib.Core.Path.{◌≡◌, refl, sym, ap, subst, ◌∙◌}
 use mathlib.Core.Bool.{Bool, true, false, cond}
 use mathlib.Core.Logic.{◌≢◌, inl, inr}
@@ -20,7 +20,7 @@ use Rattle.model.specs.Run.{Outcome, reached, missed, blocked}
 use Rattle.model.specs.Case.{bit, flag, state_of, Task, run_of, IsState}
 use Rattle.model.specs.Relevance.{states, rows, relevant_to, work_bytes, run_rows, AgreeOn}
 use Rattle.model.specs.Operations.{Written, is_state_number, state_answer, read_task, run_state, when_reached, traced_back, reached_task, relevant_facts}
-use Rattle.model.specs.Demands.{Relevance}
+use Rattle.model.specs.Guarantees.{Relevance}
 use Rattle.model.proofs.Laws.Tasks.{state-tested, run-answers}
 use Rattle.model.proofs.Laws.Relevance.{start-length, step-length, rests-on}
 

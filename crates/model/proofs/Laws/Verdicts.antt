@@ -16,7 +16,7 @@ use Rattle.model.specs.Run.{Outcome, reached, missed, blocked, run}
 use Rattle.model.specs.Case.{bit, state_of, case_of, Task, run_of, initially, IsState, Right}
 use Rattle.model.specs.Soundness.{KleeneSound}
 use Rattle.model.specs.Walk.{Kind, closed, opened, Line, Walked, covered, failed, visits, look_of, look_end, Verdict, right, wrong, undecided, initial_at, run_at, look_at, walked, found, judged}
-use Rattle.model.specs.Demands.{LowestFailing}
+use Rattle.model.specs.Guarantees.{LowestFailing}
 use Rattle.model.proofs.Laws.Agreement.{Along, eval-keeps, tabulate-keeps, run-keeps, run-same, Refines, same, wider, refining, refines-yes, Exact, exact, yes-exact, known-inj, refines-known}
 use Rattle.model.proofs.Laws.Cover.{Block, agree, Traced, walk-traced, fails-at, covering, Follows, closes-follows, closes-visits, fewest, root-span, mod-of-block}
 

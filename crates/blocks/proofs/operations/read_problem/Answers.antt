@@ -1,13 +1,12 @@
-use Rattle.std.proofs.lemmas.Result.{err_from_is_err_and}
 use Rattle.blocks.proofs.Promise.{of-slice, problem-promised}
 use Rattle.blocks.proofs.Tasks.{read_problem-refused, read_problem-found}
+use Rattle.formula.proofs.Readers.{returned}
 use Rattle.blocks.proofs.operations.read_problem.Goals as goal
 
 pub returns-in_err-problem : goal.returns-in_err-problem
 returns-in_err-problem c =
-    let p = err_from_is_err_and c.from_residual.result c.from_residual.ensures.1 in
     let e = read_problem-refused _ _ _ c.in_err-problem.ensures.read in
-    rw (p.1, p.2) (record { answer = e; promised = problem-promised _ (of-slice c.args.s.now c.type_inv.s) _ e })
+    rw (returned c.from_residual.result c.from_residual.ensures.1) (record { answer = e; promised = problem-promised _ (of-slice c.args.s.now c.type_inv.s) _ e })
 
 pub returns : goal.returns
 returns c =

@@ -1,5 +1,4 @@
-use Rattle.std.proofs.Common.{◌≡◌, suc, ◌+◌, ◌-◌, length, sym, ◌∙◌, arith}
-use borrow.Author.Tests.{lt-ltb, le-ltb}
+use Rattle.std.proofs.Common.{◌≡◌, ◌<◌, ◌≤◌, suc, ◌+◌, ◌-◌, length, get_or, sym, ◌∙◌, arith, lt-ltb, le-ltb}
 use Rattle.model.specs.Read.{◌>>=◌, ◌>>◌, and_then, position, require, done, counted}
 use Rattle.model.specs.ProblemBytes.{steps}
 use Rattle.formula.specs.Readings.{forgotten}
@@ -11,14 +10,16 @@ unfolding steps ◌>>=◌ ◌>>◌ and_then position counted require forgotten
 returns-then-actions-s c =
     let left = length c.args.s.now - c.loop-place.place in
     let e : left ≡ suc (left - 1) = omega arith in
-    rw (c.at_byte.ensures, c.loop-place.invariant, e, le-ltb _ _ c.if-actions-s.true)
+    let over : c.args.actions ≤ get_or c.args.s.now c.loop-place.place 0 = omega arith in
+    rw (c.at_byte.ensures, c.loop-place.invariant, e, le-ltb _ _ over)
 
 pub loop-place-preserved : goal.loop-place-preserved
 unfolding steps ◌>>=◌ ◌>>◌ and_then position counted require done
 loop-place-preserved c =
     let s = c.args.s.now in
     let e : length s - c.loop-place.place ≡ suc (length s - (c.loop-place.place + 1)) = omega arith in
-    c.loop-place.invariant ∙ rw (e, lt-ltb _ _ c.if-actions-s.false) (then_next _ _)
+    let below : get_or s c.loop-place.place 0 < c.args.actions = omega arith in
+    c.loop-place.invariant ∙ rw (e, lt-ltb _ _ below) (then_next _ _)
 
 pub returns : goal.returns
 unfolding steps done forgotten

@@ -1,7 +1,6 @@
 use Rattle.std.proofs.Common.{refl, arith}
-use Rattle.std.proofs.lemmas.Result.{err_from_is_err_and}
 use Rattle.model.specs.Read.{answer_of}
-use Rattle.formula.proofs.Readers.{next-refused}
+use Rattle.formula.proofs.Readers.{next-refused, returned}
 use Rattle.fields.proofs.Encoding.{action-cut}
 use Rattle.blocks.proofs.Promise.{of-slice}
 use Rattle.blocks.proofs.Actions.{sofar-none, sofar-refused, sofar-next, sofar-left, sofar-all}
@@ -13,9 +12,8 @@ loop-i-init c = sofar-none
 pub returns-in_err-next : goal.returns-in_err-next
 unfolding answer_of
 returns-in_err-next c =
-    let p = err_from_is_err_and c.from_residual.result c.from_residual.ensures.1 in
     let e = sofar-refused c.loop-i.invariant (omega arith) (next-refused _ _ _ c.in_err-next.ensures) in
-    rw (p.1, p.2) (record { read = rw e refl; begin = tt })
+    rw (returned c.from_residual.result c.from_residual.ensures.1) (record { read = rw e refl; begin = tt })
 
 pub loop-i-preserved : goal.loop-i-preserved
 loop-i-preserved c =

@@ -1,6 +1,4 @@
-use Rattle.std.proofs.Common.{◌≡◌, length, take, drop, ap, ◌∙◌, arith}
-use Rattle.std.specs.Prelude.{slice_set}
-use Rattle.std.proofs.lemmas.List.{length-take, length-drop, length-set}
+use Rattle.std.proofs.Common.{◌≡◌, length, take, drop, ap, ◌∙◌, arith, slice_set, length-take, length-drop, length-set}
 use Rattle.std.proofs.lemmas.List.Edits.{sets}
 use Rattle.model.specs.Read.{bytes_of}
 use Rattle.model.proofs.Laws.Reading.{length-bytes_of}

@@ -1,8 +1,7 @@
 use Rattle.std.proofs.Common.{arith}
-use Rattle.std.proofs.lemmas.Result.{err_from_is_err_and}
 use Rattle.model.proofs.Laws.Tabulate.{length-tabulate}
 use Rattle.formula.proofs.Decoding.{part}
-use Rattle.formula.proofs.Readers.{Got, next-refused, next-got}
+use Rattle.formula.proofs.Readers.{Got, next-refused, next-got, returned}
 use Rattle.model.specs.ProblemBytes.{plan}
 use Rattle.blocks.proofs.Promise.{of-slice}
 use Rattle.blocks.proofs.Tasks.{plan_read, each_below, plan-refused, plan-task}
@@ -14,8 +13,7 @@ found c = next-got _ _ c.in_ok-check_plan.ensures
 
 pub returns-in_err-check_plan-clause-read : goal.returns-in_err-check_plan-clause-read
 returns-in_err-check_plan-clause-read c =
-    let p = err_from_is_err_and c.from_residual.result c.from_residual.ensures.1 in
-    rw (p.1, p.2) (plan-refused _ _ _ (length-tabulate _ _) _ (next-refused _ _ _ c.in_err-check_plan.ensures))
+    rw (returned c.from_residual.result c.from_residual.ensures.1) (plan-refused _ _ _ (length-tabulate _ _) _ (next-refused _ _ _ c.in_err-check_plan.ensures))
 
 pub slice_bounds-of-count : goal.slice_bounds-of-count
 slice_bounds-of-count c =

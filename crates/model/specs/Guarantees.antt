@@ -1,5 +1,6 @@
--- The three demands, said of the operations' definitions, and what document 02 asks to be proved of its own. A reviewer opens this file
--- first; proofs/Demands.antt proves it for every version whose numbers are sensible, and so for version 1.
+-- What the operations guarantee, said of their definitions: all input, verdicts, certificates; and what the relevant facts, the search and the
+-- kinds of cover rest on. A reviewer opens this file first; proofs/Guarantees.antt proves it for every version whose numbers are sensible, and
+-- so for version 1.
 --
 -- What no definition can say is proved of the code by the toolchain: that every call ends and touches only the lent buffers. Each
 -- operation's contract is an equation with its definition, so what is said here of a definition holds of the code's answer.
@@ -19,9 +20,9 @@ use Rattle.model.specs.ListBytes.{list_of, encode_list}
 use Rattle.model.specs.WellFormed.{Bytes, Each, ProblemOk, PlanOk, ListOk, LineHolds, Joined}
 use Rattle.model.specs.Operations.{task_of, read_task, run_state, judge, list_bytes, write_list, follow_list, relevant_facts, plans_in, search_plans}
 
--- Demand 1, "All input": ".. refuses malformed blocks by number and place in the stated order, calls nothing else malformed, and a
--- refused call changes no byte." The order is the text of the readers (FormulaBytes, ProblemBytes, ListBytes).
-pub record Demand1 (F : Limits) : Type 0 where
+-- All input: a block that is malformed is refused, by the number and place of its first fault, and no other; and a refused call leaves every byte
+-- as it was. Which fault comes first is the text of the readers (FormulaBytes, ProblemBytes, ListBytes).
+pub record AllInput (F : Limits) : Type 0 where
   -- nothing malformed gets through: what is accepted is sound, and the bytes are its encoding
   pub problem_sound :
       (s : List ℕ) → Bytes s → (p : Problem) → problem_of F s ≡ answered p → ProblemOk F p × (s ≡ encode_problem F p)
@@ -37,21 +38,21 @@ pub record Demand1 (F : Limits) : Type 0 where
   pub task_accepted :
       (p : Problem) (steps : List ℕ) → ProblemOk F p → PlanOk (length p.actions) steps →
       read_task F (encode_problem F p) (encode_plan steps) ≡ answered (task_of F p steps)
-  -- "a refused call changes no byte"
+  -- a refused call leaves the lent buffer as it was
   pub refused_unchanged :
       (problem plan : List ℕ) (grant : ℕ) (out : List ℕ) (n q : ℕ) →
       (write_list F problem plan grant out).answer ≡ refused n q → (write_list F problem plan grant out).buffer ≡ out
   pub refused_work_unchanged :
       (problem plan : List ℕ) (s : ℕ) (work : List ℕ) (n q : ℕ) →
       (relevant_facts F problem plan s work).answer ≡ refused n q → (relevant_facts F problem plan s work).buffer ≡ work
-  -- "It refuses, after the run's refusals, with 41 .. and 42" (W-204): what the run refuses is refused alike
+  -- what the run of the state refuses is refused alike, before 41 and 42
   pub run_refuses_first :
       (problem plan : List ℕ) (s : ℕ) (work : List ℕ) (n q : ℕ) →
       run_state F problem plan s ≡ refused n q → (relevant_facts F problem plan s work).answer ≡ refused n q
-  -- "It refuses, after the problem's refusals, with 43 .. and 44" (W-205): what reading the problem refuses is refused alike
+  -- what reading the problem refuses is refused alike, before 43 and 44
   pub problem_refuses_first :
       (problem : List ℕ) (longest grant n q : ℕ) → problem_of F problem ≡ refused n q → search_plans F problem longest grant ≡ refused n q
-  -- "A call that writes changes nothing past what it is said to write, and returns the length of each block it wrote."
+  -- the answer is the length of the list that was written, and no byte past it is changed
   pub rest_unchanged :
       (problem plan : List ℕ) (grant : ℕ) (out : List ℕ) (n : ℕ) → (write_list F problem plan grant out).answer ≡ answered n →
       (n ≤ length out) × (drop n (write_list F problem plan grant out).buffer ≡ drop n out)
@@ -62,25 +63,25 @@ pub record LowestFailing (T : Task) (s : ℕ) : Type 0 where
   pub not_reached : run_of T s ≢ reached
   pub before : (t : ℕ) → IsStart T t → t < s → run_of T t ≡ reached
 
--- section 3 of document 004: the plan is a solution from the initial formula's belief
+-- the plan is a solution from the belief of the initial formula
 abbrev pub IsSolution : Task → Type 0
 IsSolution T = Solution T.facts (initial_belief T.facts T.initial) T.goal T.plan
 
--- "Right only if every start state carries the plan to the goal (section 3 of document 004)": what "right" says, with its lines and visits
+-- what "right" says, with its lines and visits: every start state reaches the goal
 pub record SaysRight (T : Task) (grant lines used : ℕ) : Type 0 where
   pub is_right : Right T
   pub is_solution : IsSolution T
-  -- "The visits used are part of the result and equal the visits of this walk"; they were granted
+  -- the visits are those of the walk, and were granted
   pub walk_visits : used ≡ visits (walked T)
   pub within : used ≤ grant
-  -- "For a right plan, visits are twice the lines less one."
+  -- every line but the first takes two visits
   pub twice_lines : suc used ≡ 2 * lines
 
--- what an outcome of the run of the state numbered s says: section 3 of document 004, of the belief that holds this state alone
+-- what an outcome of the run of the state numbered s says, of the belief that has this state alone
 abbrev pub OutcomeSays : Task → ℕ → Outcome → Type 0
 OutcomeSays T s o = OutcomeMeans T.facts (state_of T.width T.facts s) T.goal T.plan o
 
--- "wrong only with the lowest failing start state and where it fails"
+-- what "wrong" says, with a state and how its run ends: no start state below it fails
 pub record SaysWrong (T : Task) (grant s : ℕ) (o : Outcome) (used : ℕ) : Type 0 where
   pub lowest : LowestFailing T s
   pub where_it_fails : o ≡ run_of T s
@@ -88,7 +89,7 @@ pub record SaysWrong (T : Task) (grant s : ℕ) (o : Outcome) (used : ℕ) : Typ
   pub walk_visits : used ≡ visits (walked T)
   pub within : used ≤ grant
 
--- "undecided only when the defined walk needs more visits than granted"
+-- what "undecided" says: the walk needs more than was granted
 pub record SaysUndecided (T : Task) (grant used : ℕ) : Type 0 where
   pub all_used : used ≡ grant
   pub needs_more : grant < visits (walked T)
@@ -98,11 +99,11 @@ Says T grant (right lines used) = SaysRight T grant lines used
 Says T grant (wrong s o used) = SaysWrong T grant s o used
 Says T grant (undecided used) = SaysUndecided T grant used
 
--- Demand 2, "Verdicts", for a problem and a plan that are read as T
-pub record Demand2 (F : Limits) (problem plan : List ℕ) (T : Task) : Type 0 where
+-- Verdicts, for a problem and a plan that are read as T
+pub record Verdicts (F : Limits) (problem plan : List ℕ) (T : Task) : Type 0 where
   -- every verdict of the judge is so
   pub judge_says : (g : ℕ) (v : Verdict ℕ) → judge F problem plan g ≡ answered v → Says T g v
-  -- "right" is what section 3 of document 004 calls a solution
+  -- a right plan is a solution, and a solution is right
   pub right_is_solution : Right T ↔ IsSolution T
   -- where the visits suffice, a right plan is called right and any other wrong; where they do not, it is undecided
   pub called_right :
@@ -112,12 +113,12 @@ pub record Demand2 (F : Limits) (problem plan : List ℕ) (T : Task) : Type 0 wh
       (g : ℕ) → visits (walked T) ≤ g → (Right T → ⊥) →
       (s : ℕ) × (o : Outcome) × (judge F problem plan g ≡ answered (wrong s o (visits (walked T))))
   pub called_undecided : (g : ℕ) → g < visits (walked T) → judge F problem plan g ≡ answered (undecided g)
-  -- "so with no start state at all, every plan is right"
+  -- where there is no start state, every plan is right
   pub no_start : ((s : ℕ) → IsStart T s → ⊥) → Right T
   -- a right or wrong verdict stays the same under every larger grant
   pub larger_grant :
       (g g' : ℕ) → g ≤ g' → (judge F problem plan g ≢ answered (undecided g)) → judge F problem plan g' ≡ judge F problem plan g
-  -- "The run of one given state answers by that same section": each outcome exactly if it is so; 40 is for what is no state
+  -- each outcome of a state's run is answered exactly if it is so, and 40 for a number that is no state's
   pub run_says : (s : ℕ) → IsState T s → (o : Outcome) → (run_state F problem plan s ≡ answered o) ↔ OutcomeSays T s o
   pub run_no_state : (s : ℕ) → (IsState T s → ⊥) → run_state F problem plan s ≡ refused 40 0
 
@@ -125,11 +126,11 @@ pub record Demand2 (F : Limits) (problem plan : List ℕ) (T : Task) : Type 0 wh
 abbrev pub lines_in : Limits → List ℕ → ℕ
 lines_in F list = (length list - head_bytes) / F.line
 
--- what "Write the list" leaves in the buffer up to the returned length
+-- what `write_list` leaves in the buffer up to the returned length
 abbrev pub written_list : Limits → List ℕ → List ℕ → ℕ → List ℕ → ℕ → List ℕ
 written_list F problem plan grant out n = take n (write_list F problem plan grant out).buffer
 
--- a list that passes: its block is sound, its lines follow one another from 0 to the width's end, and each claim holds
+-- passing lists: a list that passes: its block is sound, its lines follow one another from 0 to the width's end, and each claim holds
 pub record Passing (F : Limits) (T : Task) (list : List ℕ) (lines : List Line) : Type 0 where
   pub sound : ListOk F lines
   pub block : list ≡ encode_list F lines
@@ -152,9 +153,9 @@ pub data NotWritten (F : Limits) (T : Task) (grant room : ℕ) : ℕ → ℕ →
       (lines : List Line) → ClosesWithin T grant lines → length lines ≤ F.lines → room < list_bytes F (length lines) →
       NotWritten F T grant room 53 (length lines)
 
--- Demand 3, "Case lists", one claim about whole lists: "Whatever bytes a list holds, it passes only if the plan is right; the list that
--- we write passes, and no passing list has fewer lines."
-pub record Demand3 (F : Limits) (problem plan : List ℕ) (T : Task) : Type 0 where
+-- Certificates, one claim about whole lists: whatever a list's bytes are, that it passes shows that the plan is right; what `write_list` leaves
+-- passes; and no list that passes is shorter.
+pub record Certificates (F : Limits) (problem plan : List ℕ) (T : Task) : Type 0 where
   -- any bytes of any length that pass: the plan is right, and the count is that of the lines in those bytes
   pub passes_only_right :
       (list : List ℕ) (m : ℕ) → follow_list F problem plan list ≡ answered m → Right T × (m ≡ lines_in F list)
@@ -199,9 +200,9 @@ pub record Demand3 (F : Limits) (problem plan : List ℕ) (T : Task) : Type 0 wh
       (list : List ℕ) (m : ℕ) → follow_list F problem plan list ≡ answered m →
       lines_in F (written_list F problem plan grant out n) ≤ lines_in F list
 
--- W-204, for a problem and a plan that are read as T: "which start facts an outcome rests on"
+-- Relevant facts, for a problem and a plan that are read as T: on which start facts a run rests
 pub record Relevance (F : Limits) (problem plan : List ℕ) (T : Task) : Type 0 where
-  -- "It refuses .. with 41 if the run is not reached and 42 if the work area is short", after 40; otherwise it answers
+  -- after 40, it is refused with 41 where the run does not reach the goal, and with 42 where the rows have no room; otherwise it answers
   pub no_state : (s : ℕ) (work : List ℕ) → (IsState T s → ⊥) → (relevant_facts F problem plan s work).answer ≡ refused 40 0
   pub not_reached :
       (s : ℕ) (work : List ℕ) → IsState T s → run_of T s ≢ reached → (relevant_facts F problem plan s work).answer ≡ refused 41 0
@@ -211,13 +212,13 @@ pub record Relevance (F : Limits) (problem plan : List ℕ) (T : Task) : Type 0 
   pub answers :
       (s : ℕ) (work : List ℕ) → IsState T s → run_of T s ≡ reached → work_bytes T ≤ length work →
       (relevant_facts F problem plan s work).answer ≡ answered (relevant_to T s)
-  -- "The answer is a set of start facts, as a state number": of declared facts only
+  -- the set has declared facts only
   pub is_state : (s : ℕ) (work : List ℕ) (m : ℕ) → (relevant_facts F problem plan s work).answer ≡ answered m → IsState T m
   -- fact by fact: a declared fact's bit in the answer is whether the fact matters before the run
   pub each_bit :
       (s : ℕ) (work : List ℕ) (m : ℕ) → (relevant_facts F problem plan s work).answer ≡ answered m →
       (f : ℕ) → f < T.facts → bit T.width m f ≡ is_relevant T s f
-  -- "any other state which agrees on that set is also reached"
+  -- from any state that has the same values of these facts the goal is reached too
   pub reached_too :
       (s : ℕ) (work : List ℕ) (m : ℕ) → (relevant_facts F problem plan s work).answer ≡ answered m →
       (t : ℕ) → IsState T t → AgreeOn T m s t → run_state F problem plan t ≡ answered reached
@@ -240,7 +241,7 @@ module _ (task : List ℕ → Task) (plans : List (List ℕ)) (grant : ℕ) wher
     pub none_before : Each (NotRight task) before
     pub within : visits_of task before ≤ grant
 
-  -- "the first right plan", with "the visits used in all"
+  -- it finds a plan: it is right, and no plan before it is; with the visits of all walks
   pub record SaysFirstRight (p : List ℕ) (used : ℕ) : Type 0 where
     pub before : List (List ℕ)
     pub comes_to : ComesTo before p
@@ -248,13 +249,13 @@ module _ (task : List ℕ → Task) (plans : List (List ℕ)) (grant : ℕ) wher
     pub is_used : used ≡ visits_of task before + visits (walked (task p))
     pub granted : used ≤ grant
 
-  -- "that none is right"
+  -- it finds that none is right
   pub record SaysNoneRight (used : ℕ) : Type 0 where
     pub none : Each (NotRight task) plans
     pub is_used : used ≡ visits_of task plans
     pub granted : used ≤ grant
 
-  -- "undecided with the first plan whose walk needs more than the visits left"
+  -- it is undecided at the first plan for whose walk too few visits are left
   pub record SaysUndecidedAt (p : List ℕ) (used : ℕ) : Type 0 where
     pub before : List (List ℕ)
     pub comes_to : ComesTo before p
@@ -266,11 +267,11 @@ module _ (task : List ℕ → Task) (plans : List (List ℕ)) (grant : ℕ) wher
   SearchSays (none_right used) = SaysNoneRight used
   SearchSays (undecided_at p used) = SaysUndecidedAt p used
 
--- W-205, for a problem that is read as p: "Try every short plan, in order"
+-- Search, for a problem that is read as p: every plan up to a length, in order
 pub record Searching (F : Limits) (problem : List ℕ) (p : Problem) : Type 0 where
-  -- "every plan up to that length, by length and then by step numbers from the first step on, each exactly once"
+  -- the plans, sorted by length and then by their steps, each of them once
   pub enumerates : (longest : ℕ) → Enumerates (length p.actions) longest (plans_in p longest)
-  -- "43 for a length over 4 and 44 if there are more than 1,000,000 plans of those lengths"; otherwise it answers
+  -- it is refused with 43 for a length over 4, with 44 for more than 1,000,000 plans; otherwise it answers
   pub over_length : (longest grant : ℕ) → max_length < longest → search_plans F problem longest grant ≡ refused 43 0
   pub too_many :
       (longest grant : ℕ) → longest ≤ max_length → max_plans < length (plans_in p longest) →
@@ -298,9 +299,9 @@ pub record Searching (F : Limits) (problem : List ℕ) (p : Problem) : Type 0 wh
       (longest g g' : ℕ) → g ≤ g' → ((q : List ℕ) (used : ℕ) → search_plans F problem longest g ≢ answered (undecided_at q used)) →
       search_plans F problem longest g' ≡ search_plans F problem longest g
 
-pub record Demands (F : Limits) : Type 0 where
-  pub demand1 : Demand1 F
-  pub demand2 : (problem plan : List ℕ) (T : Task) → read_task F problem plan ≡ answered T → Demand2 F problem plan T
-  pub demand3 : (problem plan : List ℕ) (T : Task) → read_task F problem plan ≡ answered T → Demand3 F problem plan T
+pub record Guarantees (F : Limits) : Type 0 where
+  pub all_input : AllInput F
+  pub verdicts : (problem plan : List ℕ) (T : Task) → read_task F problem plan ≡ answered T → Verdicts F problem plan T
+  pub certificates : (problem plan : List ℕ) (T : Task) → read_task F problem plan ≡ answered T → Certificates F problem plan T
   pub relevance : (problem plan : List ℕ) (T : Task) → read_task F problem plan ≡ answered T → Relevance F problem plan T
   pub searching : (problem : List ℕ) (p : Problem) → problem_of F problem ≡ answered p → Searching F problem p

@@ -1,4 +1,4 @@
--- The three demands hold of every version whose numbers are sensible, and so of version 1. Assumes nothing.
+-- What is guaranteed holds of every version whose numbers are sensible, and so of version 1. Assumes nothing.
 use mathlib.Core.Path.{refl}
 use native.Mathlib.Omega.{arith}
 use lib.ListN.{length}
@@ -9,7 +9,7 @@ use Rattle.model.specs.ProblemBytes.{problem, problem_of, plan, plan_of, encode_
 use Rattle.model.specs.ListBytes.{encode_list}
 use Rattle.model.specs.Operations.{read_task, list_for, write_list}
 use Rattle.model.specs.WellFormed.{Sensible}
-use Rattle.model.specs.Demands.{Demand1, Demands}
+use Rattle.model.specs.Guarantees.{AllInput, Guarantees}
 use Rattle.model.specs.Theorems.{Theorems}
 use Rattle.model.proofs.Laws.Conflicts.{order-free-two, order-free-three}
 use Rattle.model.proofs.Laws.Reading.{answer-got}
@@ -24,7 +24,7 @@ use Rattle.model.proofs.Laws.Searching.{problem-first, searching}
 use Rattle.model.proofs.Laws.Lists.{written-answered, refused_unchanged, wrote, lists, n≤w}
 
 module _ (F : Limits) (S : Sensible F) where
-  reading : Demand1 F
+  reading : AllInput F
   unfolding problem_of plan_of write_list list_for read_task Answer.◌>>=◌
   reading =
       record {
@@ -50,12 +50,12 @@ module _ (F : Limits) (S : Sensible F) where
             (o.inside, o.rest);
       }
 
-  pub demands-hold : Demands F
-  demands-hold =
+  pub guarantees-hold : Guarantees F
+  guarantees-hold =
       record {
-        demand1 = reading;
-        demand2 = λ problem plan T given. verdicts T (n≤w F S T (task-fits F problem plan T given)) F problem plan given;
-        demand3 = λ problem plan T given. lists F S T (task-fits F problem plan T given) problem plan given;
+        all_input = reading;
+        verdicts = λ problem plan T given. verdicts T (n≤w F S T (task-fits F problem plan T given)) F problem plan given;
+        certificates = λ problem plan T given. lists F S T (task-fits F problem plan T given) problem plan given;
         relevance = λ problem plan T given. relevances F problem plan T given (n≤w F S T (task-fits F problem plan T given));
         searching = searching F S;
       }
@@ -63,15 +63,15 @@ module _ (F : Limits) (S : Sensible F) where
 pub version1-sensible : Sensible version1
 version1-sensible = omega arith
 
-pub version1-holds : Demands version1
-version1-holds = demands-hold version1 version1-sensible
+pub version1-holds : Guarantees version1
+version1-holds = guarantees-hold version1 version1-sensible
 
 pub theorems-hold : Theorems
 theorems-hold =
     record {
-      demands = demands-hold;
+      guarantees = guarantees-hold;
       version1_sensible = version1-sensible;
-      version1_demands = version1-holds;
+      version1_guarantees = version1-holds;
       kleene = kleene-sound;
       running_ends = running-end;
       free_in_states = order-free-two;
