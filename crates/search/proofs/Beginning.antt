@@ -1,9 +1,8 @@
 -- Plans that begin alike share the cases after their first steps. Assumes nothing.
-use Rattle.std.proofs.Common.{◌≡◌, refl, sym, ap, ◌∙◌, subst, List, [], ◌∷◌, ◌++◌, ℕ, zero, suc, ◌<◌, length, slice_index, Result, Ok, Err, arith}
+use Rattle.std.proofs.Common.{◌≡◌, refl, sym, ap, ◌∙◌, subst, List, [], ◌∷◌, ◌++◌, ℕ, zero, suc, ◌<◌, length, slice_index, Result, Ok, Err, arith, length-append, append-nil}
 use native.Mathlib.Decide.{dec_lt}
-use lib.ListN.{length-append, length-map, get_or-append}
+use lib.ListN.{length-map, get_or-append}
 use lib.Seq.{get_or-append_seam, append_snoc}
-use mathlib.Core.List.{append-nil}
 use Rattle.std.specs.Result.{result_unwrap_or}
 use Rattle.model.specs.Kleene.{Kleene}
 use Rattle.model.specs.Action.{Action}
@@ -71,16 +70,6 @@ module _ (root : Root) (first : List ℕ) (alive : ℕ) (c : Cases) (B : IsBegun
 
   abbrev case : ℕ → List Kleene
   case = case_of root.first.now.cases.now
-
-  -- a step more, of which nothing is to be obeyed
-  pub begun-stopped : alive ≡ 0 → IsBegun root (first ++ (step ∷ [])) alive c
-  begun-stopped e =
-      record {
-        facts = B.facts;
-        named = named-next p.actions first step B.named l;
-        going = λ n more. absurd (n e);
-        stopped = λ z more. rw (append_snoc first step more) (B.stopped e (step ∷ more));
-      }
 
   -- a step more, which was obeyed where it could be
   module _ (n : alive ≡ 0 → ⊥) (a : Action) (is : a ≡ action_at (problem p).actions step) (d : Cases) (f : d.facts ≡ c.facts) where

@@ -1,10 +1,5 @@
 -- The plans up to a length are few enough to be counted. Assumes nothing.
-use mathlib.Core.Path.{◌≡◌, refl}
-use Prim.Native.Nat.{ℕ, zero, suc, ◌+◌, ◌*◌, ◌^◌, ◌≤◌, ◌<◌}
-use native.Mathlib.Omega.{arith}
-use native.Mathlib.Nat.{mul-le-mul}
-use native.Mathlib.Numerals.{add-one}
-use lib.Pow.{pow_pos, pow_mono, pow-add}
+use Rattle.std.proofs.Common.{◌≡◌, refl, ℕ, zero, suc, ◌+◌, ◌*◌, ◌^◌, ◌≤◌, ◌<◌, arith, mul-le-mul, add-one, pow_pos, pow_mono, pow-add}
 use Rattle.model.specs.Search.{plan_count}
 
 count-bound : (m l : ℕ) → m ≤ 64 → plan_count m l ≤ 2 ^ (7 * l)

@@ -1,14 +1,11 @@
 -- What an answer of `search_plans` promises: from the equation with the definition and the theorem about the definitions. Assumes nothing.
-use mathlib.Core.Path.{◌≡◌, refl, ◌∙◌}
-use mathlib.Core.Logic.{inl, inr}
-use mathlib.Core.List.{List}
-use Prim.Native.Nat.{ℕ}
+use Rattle.std.proofs.Common.{◌≡◌, refl, ◌∙◌, inl, inr, List, ℕ}
 use Rattle.model.specs.Limits.{version1}
 use Rattle.model.specs.Answer.{Answer, refused, answered}
 use Rattle.model.specs.ProblemBytes.{Problem, problem_of}
 use Rattle.model.specs.Search.{Search}
 use Rattle.model.specs.Operations.{search_plans}
-use Rattle.model.proofs.Demands.{version1-sensible, version1-holds}
+use Rattle.model.proofs.Guarantees.{version1-sensible, version1-holds}
 use Rattle.model.proofs.Laws.Searching.{answers-or-refuses}
 use Rattle.search.specs.Promise.{SearchPromised}
 
@@ -32,5 +29,5 @@ module _ (problem : List ℕ) (longest grant : ℕ) where
       same n q h k = rw k (inl h)
 
       by-problem : (x : Answer Problem) → problem_of version1 problem ≡ x → SearchPromised problem longest grant r
-      by-problem (refused n q) h = same n q h (e ∙ version1-holds.demand1.problem_refuses_first problem longest grant n q h)
+      by-problem (refused n q) h = same n q h (e ∙ version1-holds.all_input.problem_refuses_first problem longest grant n q h)
       by-problem (answered p) h = read-promised p h r e

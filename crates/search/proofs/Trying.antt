@@ -1,11 +1,7 @@
 -- A plan judged with the visits left, and plans one after another. Assumes nothing.
-use mathlib.Core.Path.{◌≡◌, refl, sym, ap, ap₂, ◌∙◌}
-use mathlib.Core.List.{List, [], ◌∷◌, ◌++◌, map, append_assoc, map-append}
-use Prim.Native.Nat.{ℕ, suc, ◌+◌, ◌-◌, ◌≤◌}
-use native.Mathlib.Omega.{arith}
+use Rattle.std.proofs.Common.{◌≡◌, refl, sym, ap, ap₂, ◌∙◌, List, [], ◌∷◌, ◌++◌, map, append_assoc, ℕ, suc, ◌+◌, ◌-◌, ◌≤◌, arith, bit_xor, Ok, Err}
+use mathlib.Core.List.{map-append}
 use lib.Seq.{append_snoc}
-use lib.Bits.{bit_xor}
-use Rattle.std.specs.Prelude.{Ok, Err}
 use Rattle.model.specs.Walk.{Line, covered, failed, visits, walked}
 use Rattle.model.specs.Operations.{task_of}
 use Rattle.model.specs.Planes.{ones}

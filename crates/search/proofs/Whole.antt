@@ -9,7 +9,7 @@ use Rattle.model.specs.ProblemBytes.{problem_of}
 use Rattle.model.specs.Search as Search
 use Rattle.model.specs.Search.{plan_count, none_right}
 use Rattle.model.specs.Operations.{task_of, plans_in, search_plans}
-use Rattle.model.proofs.Demands.{version1-sensible, version1-holds}
+use Rattle.model.proofs.Guarantees.{version1-sensible, version1-holds}
 use Rattle.model.proofs.Laws.Plans.{enumerates}
 use Rattle.model.proofs.Laws.Searching.{answers}
 use Rattle.blocks.specs.declared.problem.Problem.{Problem}
@@ -29,7 +29,7 @@ comes-to p longest grant r t x e = e ∙ sym (rw (action-count p) t.is)
 
 module _ (s : List ℕ) (longest grant : ℕ) where
   pub search-refused : (y : Refusal) → refusal y ≡ problem_of version1 s → refusal y ≡ search_plans version1 s longest grant
-  search-refused y e = sym (version1-holds.demand1.problem_refuses_first s longest grant _ _ (sym e))
+  search-refused y e = sym (version1-holds.all_input.problem_refuses_first s longest grant _ _ (sym e))
 
   module _ (p : Problem) (read : answered (problem p) ≡ problem_of version1 s) where
     pub search-over : max_length < longest → refused 43 0 ≡ search_plans version1 s longest grant

@@ -5,7 +5,7 @@ use Rattle.model.specs.Answer.{Answer, refused, answered}
 use Rattle.model.specs.ProblemBytes.{Problem, problem_of}
 use Rattle.model.specs.Search.{Search}
 use Rattle.model.specs.Operations.{task_of, plans_in}
-use Rattle.model.specs.Demands.{SearchSays}
+use Rattle.model.specs.Guarantees.{SearchSays}
 
 -- what a refusal is of: the problem's own, 43 or 44
 abbrev pub RefusedFor : List ℕ → ℕ → ℕ → ℕ → Type 0

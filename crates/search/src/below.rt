@@ -77,22 +77,39 @@ impl Begun<'_> {
         requires room { length self.now.plan + more < max_length }
         ensures { let p = self.now.root.now.problem.now in Comes p (longer p (self.now.plan ++ step ∷ []) more) left result }
     {
-        let plan = self.plan.extended(step);
         if self.alive == 0 {
             let next = Begun {
                 root: self.root,
-                plan,
+                plan: self.plan.extended(step),
                 alive: 0,
                 cases: self.cases,
             };
             return next.try_below(more, left, conditions);
         }
+        self.try_obeyed(step, more, left, conditions)
+    }
+
+    // The same where a lane goes on: the step is obeyed in a copy of the cases. Only here a call holds cases, so that no other makes room for
+    // them.
+    #[cycle(plans)]
+    fn try_obeyed(
+        &self,
+        step: u8,
+        more: usize,
+        left: u64,
+        conditions: &mut Conditions,
+    ) -> Result<u64, Ended>
+        requires action { step < self.now.root.now.problem.now.actions }
+        requires room { length self.now.plan + more < max_length }
+        requires some { 0 < self.now.alive }
+        ensures { let p = self.now.root.now.problem.now in Comes p (longer p (self.now.plan ++ step ∷ []) more) left result }
+    {
         let mut cases = *self.cases;
         let action = self.root.problem.action(step);
         let going = obey(action, &mut cases, conditions, self.alive).unwrap_or(0);
         let next = Begun {
             root: self.root,
-            plan,
+            plan: self.plan.extended(step),
             alive: going,
             cases: &cases,
         };

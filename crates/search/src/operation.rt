@@ -33,7 +33,7 @@ fn search_problem(problem: &Problem, longest: usize, grant: u64) -> Search
     requires { longest ≤ max_length }
     ensures { search_end result ≡ search (task_with problem.now) grant (plans_in (problem_of problem.now) longest) 0 }
 {
-    let mut cases = Cases::none_fixed(problem.facts);
+    let mut cases = Cases::first_case(problem.facts);
     let first = FirstBlock::of(&mut cases);
     let root = Root {
         problem,

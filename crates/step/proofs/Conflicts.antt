@@ -1,15 +1,10 @@
 -- Facts that are set and cleared at once: the entries are gone through in order, and the lanes that are left are those in which no fact
 -- that was passed is in conflict. Assumes nothing.
-use mathlib.Core.Path.{◌≡◌, refl, sym, ap, ◌∙◌, subst}
-use mathlib.Core.Bool.{Bool, true, false, ◌&&◌}
-use mathlib.Core.List.{List}
-use Prim.Native.Nat.{ℕ, suc, ◌+◌, ◌-◌, ◌≤◌, ◌<◌, min}
-use native.Mathlib.Omega.{arith}
+use Rattle.std.proofs.Common.{◌≡◌, refl, sym, ap, ◌∙◌, subst, Bool, true, false, ◌&&◌, List, ℕ, suc, ◌+◌, ◌-◌, ◌≤◌, ◌<◌, min, arith, length, get_or, bit_and}
 use native.Mathlib.Decide.{dec_lt, ℕ_discrete}
-use lib.ListN.{length, get_or}
-use lib.Bits.{bit_and, and_le_l}
+use lib.Bits.{and_le_l}
 use Rattle.model.specs.Limits.{max_facts}
-use Rattle.model.specs.Kleene.{Kleene, No, Unknown, Yes, both, denied, is_yes, three}
+use Rattle.model.specs.Kleene.{Kleene, No, both, denied, is_yes, three}
 use Rattle.model.specs.Formula.{Literal, fact, denial, eval}
 use Rattle.model.specs.FormulaBytes.{literal_byte}
 use Rattle.model.specs.Action.{Effect, Action, condition_of, every, exclusive}
@@ -31,9 +26,7 @@ use Rattle.step.proofs.Settling.{fact-at, denial-at}
 use Rattle.step.proofs.Holding.{held-byte, held-rise, read-value}
 
 pub sure-flag : (t : Kleene) → sure_bit t ≡ flag (is_yes t)
-sure-flag No = refl
-sure-flag Unknown = refl
-sure-flag Yes = refl
+sure-flag t = by_row sure_bit (λ t. flag (is_yes t)) refl t
 
 -- where a value is yes
 pub sure-yes : (v : Value) (j : ℕ) → j < 64 → lane_bit j v.sure ≡ flag (is_yes (value_at v j))

@@ -1,12 +1,6 @@
 -- The entries of an action by their numbers: their literals rise, so each has its own condition. Assumes nothing.
-use mathlib.Core.Path.{◌≡◌, refl, sym, ap, ◌∙◌}
-use mathlib.Core.List.{List, [], ◌∷◌}
-use Prim.Native.Nat.{ℕ, zero, suc, ◌+◌, ◌≤◌, ◌<◌, suc-le-suc}
-use native.Mathlib.Omega.{arith}
+use Rattle.std.proofs.Common.{◌≡◌, refl, sym, ap, ◌∙◌, List, [], ◌∷◌, ℕ, zero, suc, ◌+◌, ◌≤◌, ◌<◌, suc-le-suc, arith, add-one, length, drop, drop-cons}
 use native.Mathlib.Decide.{ℕ_discrete}
-use native.Mathlib.Numerals.{add-one}
-use lib.ListN.{length, drop}
-use lib.Seq.{drop-cons}
 use Rattle.model.specs.Limits.{max_facts}
 use Rattle.model.specs.Formula.{Literal, any, none}
 use Rattle.model.specs.Action.{Effect, condition_in, condition_of}
@@ -52,7 +46,7 @@ module _ (facts : ℕ) (m : facts ≤ max_facts) where
       other-condition facts least e es (entry_at es i).literal m ok (declared-at facts _ es i ok.2 l) (λ z. omega arith) ∙
       condition-at (literal_byte e.literal + 1) es i ok.2 l
 
-  -- "A literal without an entry has a condition that never holds."
+  -- a literal without an entry has a condition that is never true
   pub condition-none :
       (least : ℕ) (es : List Effect) (l : Literal) → Rising facts least es → Declared facts l → ((i : ℕ) → i < length es → byte_at es i ≡ literal_byte l → ⊥) →
       condition_of l es ≡ any none

@@ -1,23 +1,17 @@
 -- An action entry by entry: entries whose literals rise, settled from the last to the first, give the values after the action.
 -- Assumes nothing.
-use mathlib.Core.Path.{◌≡◌, refl, sym, ap, ◌∙◌, subst}
-use mathlib.Core.Bool.{Bool, true, false}
-use mathlib.Core.List.{List, [], ◌∷◌}
-use Prim.Native.Nat.{ℕ, zero, suc, ◌+◌, ◌≤◌, ◌<◌}
-use native.Mathlib.Omega.{arith}
+use Rattle.std.proofs.Common.{◌≡◌, refl, sym, ap, ◌∙◌, subst, true, false, List, [], ◌∷◌, ℕ, ◌+◌, ◌≤◌, ◌<◌, arith, length, get_or, set, length-set, get_or-set_same, get_or-set_other, eq-eqb, ne_eqb, ext_get_or}
 use native.Mathlib.Decide.{dec_lt, ℕ_discrete}
-use lib.ListN.{length, get_or, set, length-set, get_or-eq_default}
-use lib.Seq.{get_or-set_same, get_or-set_other}
-use lib.Dec.{eqb}
-use borrow.Author.Tests.{eq-eqb, eqb-true}
+use lib.ListN.{get_or-eq_default}
 use Rattle.model.specs.Limits.{max_facts}
-use Rattle.model.specs.Kleene.{Kleene, No, Unknown, Yes, both, either, denied, three}
+use Rattle.model.specs.Kleene.{Kleene, No, Yes, both, either, denied, three}
 use Rattle.model.specs.Formula.{Literal, fact, denial, Formula, any, none, value_of, eval}
 use Rattle.model.specs.Action.{Effect, Action, same_literal, condition_in, condition_of, next, step}
 use Rattle.model.specs.Relevance.{fact_of}
 use Rattle.model.specs.FormulaBytes.{literal_byte}
 use Rattle.model.specs.WellFormed.{Declared}
 use Rattle.fields.specs.ActionBytes.{Rising}
+use Rattle.model.proofs.Laws.Agreement.{by_row, by-table}
 use Rattle.model.proofs.Laws.Tabulate.{length-tabulate, get_d_tabulate, getD-tabulate-past}
 use Rattle.cases.specs.Cases.{with_literal}
 
@@ -33,23 +27,16 @@ settled before (e ∷ es) = settled_by e.literal (eval three before e.condition)
 
 -- ---- literals that rise
 
-eqb-other : (a b : ℕ) → (a ≡ b → ⊥) → eqb a b ≡ false
-eqb-other a b h = go (eqb a b) refl
-  where
-    go : (t : Bool) → eqb a b ≡ t → t ≡ false
-    go true e = absurd (h (eqb-true a b e))
-    go false e = refl
-
 same_self : (l : Literal) → same_literal l l ≡ true
 same_self (fact f) = eq-eqb f f refl
 same_self (denial f) = eq-eqb f f refl
 
 -- literals of declared facts whose bytes differ
 same-other : (facts : ℕ) (l m : Literal) → facts ≤ max_facts → Declared facts l → Declared facts m → (literal_byte l ≡ literal_byte m → ⊥) → same_literal l m ≡ false
-same-other facts (fact f) (fact g) h d d' n = eqb-other f g n
+same-other facts (fact f) (fact g) h d d' n = ne_eqb f g n
 same-other facts (fact f) (denial g) h d d' n = refl
 same-other facts (denial f) (fact g) h d d' n = refl
-same-other facts (denial f) (denial g) h d d' n = eqb-other f g (λ e. n (omega arith))
+same-other facts (denial f) (denial g) h d d' n = ne_eqb f g (λ e. n (omega arith))
 
 -- a literal below the least has no entry
 no-entry :
@@ -85,9 +72,7 @@ abbrev due : List Kleene → List Effect → ℕ → Kleene
 due v es f = either (eval three v (condition_of (fact f) es)) (both (get_or v f No) (denied (eval three v (condition_of (denial f) es))))
 
 both_yes : (x : Kleene) → both x Yes ≡ x
-both_yes No = refl
-both_yes Unknown = refl
-both_yes Yes = refl
+both_yes x = by_row (λ x. both x Yes) (λ x. x) refl x
 
 length-by : (l : Literal) (t : Kleene) (v : List Kleene) → length (settled_by l t v) ≡ length v
 length-by (fact f) t v = length-set v f _
@@ -181,30 +166,16 @@ settled-step facts a v h ok n g =
           sym (get_or-eq_default (settled v a.effects) No (omega (arith, length-settled v a.effects)))
     ]
 
-lists-same : (v w : List Kleene) → length v ≡ length w → ((g : ℕ) → get_or v g No ≡ get_or w g No) → v ≡ w
-lists-same [] [] e h = refl
-lists-same [] (y ∷ w) e h = absurd (omega arith)
-lists-same (x ∷ v) [] e h = absurd (omega arith)
-lists-same (x ∷ v) (y ∷ w) e h = ap (λ (z : Kleene). z ∷ v) (h zero) ∙ ap (λ (z : List Kleene). y ∷ z) (lists-same v w (omega arith) (λ g. h (suc g)))
-
 pub settled-is : (facts : ℕ) (a : Action) (v : List Kleene) → facts ≤ max_facts → Rising facts 0 a.effects → length v ≡ facts → settled v a.effects ≡ step three facts a v
 unfolding step
 settled-is facts a v h ok n =
-    lists-same (settled v a.effects) (step three facts a v) (length-settled v a.effects ∙ n ∙ sym (length-tabulate facts (next three a v)))
-    (λ g. sym (settled-step facts a v h ok n g))
+    ext_get_or No (settled v a.effects) (step three facts a v) (length-settled v a.effects ∙ n ∙ sym (length-tabulate facts (next three a v)))
+    (λ g l. sym (settled-step facts a v h ok n g))
 
 -- ---- one entry, as a literal that is put
 
 either-denied : (t x : Kleene) → denied (either t (denied x)) ≡ both x (denied t)
-either-denied No No = refl
-either-denied No Unknown = refl
-either-denied No Yes = refl
-either-denied Unknown No = refl
-either-denied Unknown Unknown = refl
-either-denied Unknown Yes = refl
-either-denied Yes No = refl
-either-denied Yes Unknown = refl
-either-denied Yes Yes = refl
+either-denied t x = by-table (λ t x. denied (either t (denied x))) (λ t x. both x (denied t)) refl t x
 
 -- the literal holds where it did, or where its condition does
 pub settles-literal : (m : Literal) (t : Kleene) (v : List Kleene) → with_literal m (either t (value_of three v m)) v ≡ settled_by m t v

@@ -23,7 +23,7 @@ pub record GoesOn (c : Cases) (a : Action) (alive : ℕ) (d : Cases) (lanes : �
   pub bits : (j : ℕ) → j < 64 → lane_bit j lanes ≡ applicable_bit c a alive j
   pub cases : (j : ℕ) → j < 64 → case_of d j ≡ step three c.facts a (case_of c j)
 
--- what hinders the action in the values v, of n facts: "an unmet precondition comes first", and else the lowest fact in conflict
+-- what hinders the action in the values v, of n facts: a precondition that is not true, and else the lowest fact in conflict
 abbrev pub Hinders : ℕ → Action → List Kleene → Hindrance → Type 0
 Hinders n a v Precondition = holds_in three v a.precondition ≡ false
 Hinders n a v (Conflict f) = (holds_in three v a.precondition ≡ true) × (f ≡ lowest_false n (exclusive three a v))

@@ -16,6 +16,7 @@ pub enum Hindrance {
 
 // Obeys the action in those lanes of `alive` in which it is applicable, and answers these. Where there is none, the cases stay as they are; and
 // where lane 0 alone is asked, what hinders the action there: an unmet precondition, or else the lowest fact in conflict.
+#[inline(always)]
 pub fn obey(
     action: Action,
     cases: &mut Cases,

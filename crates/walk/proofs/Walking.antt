@@ -1,32 +1,35 @@
--- The walk over blocks, by the cases of a visit: what each function answers of a lane's case is the definition's walk from it, under the
--- grant. Assumes nothing.
+-- The walk through a block, lane after lane: what was walked so far, the walk from the lane that is turned to, and the walks that come after
+-- it are the walk from the block's own case. Assumes nothing.
 use mathlib.Core.Path.{◌≡◌, refl, sym, ap, ◌∙◌, subst}
+use mathlib.Core.Bool.{Bool, true, false, cond}
+use mathlib.Core.Logic.{◌⊎◌, inl, inr}
 use mathlib.Core.List.{List, [], ◌∷◌, ◌++◌}
-use Prim.Native.Nat.{ℕ, zero, suc, ◌+◌, ◌*◌, ◌-◌, ◌%◌, ◌^◌, ◌≤◌, ◌<◌}
+use Prim.Native.Nat.{ℕ, zero, suc, ◌+◌, ◌*◌, ◌-◌, ◌/◌, ◌%◌, ◌^◌, ◌≤◌, ◌<◌}
 use native.Mathlib.Omega.{arith}
+use native.Mathlib.Decide.{dec_le, ℕ_discrete}
 use native.Mathlib.Nat.{pow-suc, zero-mod}
+use lib.Dec.{eqb}
 use lib.ListN.{length, get_or, set, replicate, length-append}
 use lib.Pow.{pow_pos, pow_mono}
-use Rattle.std.specs.Prelude.{Option, None, Some, Result, Ok, Err}
+use borrow.Author.Tests.{eq-eqb, ne_eqb}
+use Rattle.std.specs.Prelude.{Option, None, Some, Result, Ok, Err, IsTrue, ◌↔◌}
 use Rattle.model.specs.Kleene.{Kleene, No, Unknown, Yes, three}
 use Rattle.model.specs.Formula.{eval}
 use Rattle.model.specs.Run.{run}
 use Rattle.model.specs.Case as model-case
-use Rattle.model.specs.Operations.{task_of as task_of_steps}
 use Rattle.model.specs.Walk as model
-use Rattle.model.specs.Walk.{Line, Walked, covered, failed, visits, join, walk_from, walk, walked, look_of, look_at}
+use Rattle.model.specs.Walk.{Line, Walked, covered, failed, opened, visits, join, walk_from, walk, walked, look_of, look_at}
 use Rattle.model.specs.Planes.{lane_bit}
 use Rattle.model.specs.declared.marks.Kind.{Kind}
-use Rattle.model.proofs.Laws.Cover.{Block, pow-half, rescale, next-block, block-of-mod, mod-of-block, root-span}
+use Rattle.model.proofs.Laws.Cover.{Block, block-of-mod, mod-of-block, root-span}
 use Rattle.model.proofs.Laws.Grants.{visits-walk}
-use Rattle.model.proofs.Laws.Splitting.{case-unknown, case-no, case-yes, case-first}
+use Rattle.model.proofs.Laws.Splitting.{case-unknown, case-first}
 use Rattle.cases.specs.declared.cases.Cases.{Cases}
 use Rattle.cases.specs.Blocks.{block_case}
 use Rattle.cases.specs.Facts.{with_facts, fact_of}
 use Rattle.cases.specs.Cases.{case_of}
-use Rattle.cases.proofs.Lanes.{length-case_in}
-use Rattle.cases.proofs.Blocks.{block-root, block-path, part_no as lane-no, part-yes as lane-yes}
-use Rattle.runs.specs.Looks.{kind_look, look_bits}
+use Rattle.cases.proofs.Blocks.{block-path}
+use Rattle.runs.specs.Looks.{kind_look}
 use Rattle.blocks.specs.declared.task.Task as blocks
 use Rattle.blocks.specs.Values as values
 use Rattle.blocks.proofs.Tasks.{task-width, task-facts, facts-fit}
@@ -36,37 +39,12 @@ use Rattle.walk.specs.declared.case.Case.{Case}
 use Rattle.walk.specs.declared.visits.Closed as done
 use Rattle.walk.specs.declared.visits.Stopped.{Stopped}
 use Rattle.walk.specs.declared.visits.Stopped.TheVariants.{OutOfVisits, Failed}
-use Rattle.walk.specs.Lanes.{IsBlock, LevelsOf}
-use Rattle.walk.specs.Cases.{CaseFits, whole_case, part_of, part_no, part_yes, closed_line}
-use Rattle.walk.specs.Nodes.{task_of, limits_of, IsNode, walk_of, walk_at}
+use Rattle.walk.specs.Lanes.{IsBlock, LevelsOf, OnLevel, IsAfter}
+use Rattle.walk.specs.Cases.{closed_line}
+use Rattle.walk.specs.Nodes.{task_of, limits_of, look_in, case_at, walk_of, walk_at}
 use Rattle.walk.specs.Walks.{Ended, Counted, Walks}
-
--- ---- a walk after a walk
-
-visits-closed : (ls : List Line) (a : ℕ) (y : Walked) → visits (join (covered ls a) y) ≡ suc (a + visits y)
-visits-closed ls a (covered ms b) = refl
-visits-closed ls a (failed s b) = refl
-
-visits-join : (x y : Walked) → visits x < visits (join x y)
-visits-join (covered ls a) y = omega (arith, visits-closed ls a y)
-visits-join (failed s a) y = omega arith
-
--- the first part did not close
-join_stopped : (g : ℕ) → 0 < g → (ls : List Line) (e : Stopped) (x y z : Walked) → Counted (g - 1) ls (Err e) → z ≡ join x y → Ended (g - 1) ls (Err e) x → Ended g ls (Err e) z
-join_stopped g k ls OutOfVisits x y z c j h = rw j (omega (arith, visits-join x y))
-join_stopped g k ls (Failed s rest) x y z c j h = let i : g - rest ≡ suc (g - 1 - rest) = omega arith in rw (i, j, h)
-
-abbrev pub added : ℕ → Result done.Closed Stopped → Result done.Closed Stopped
-added n (Ok d) = Ok (record { lines = n + d.lines; left = d.left })
-added n (Err e) = Err e
-
--- the first part closed: the second decides
-join_closed :
-    (g : ℕ) → 0 < g → (c : done.Closed) (ls ms : List Line) (r : Result done.Closed Stopped) (x y z : Walked) → c.left ≤ g - 1 → Counted c.left ms r → z ≡ join x y →
-    x ≡ covered ls (g - 1 - c.left) → Ended c.left ms r y → Ended g (ls ++ ms) (added c.lines r) z
-join_closed g k c ls ms (Ok d) x y z m n j h i = let u : g - d.left ≡ suc ((g - 1 - c.left) + (c.left - d.left)) = omega (arith, n.0) in rw (u, j, h, i)
-join_closed g k c ls ms (Err OutOfVisits) x y z m n j h i = rw (j, h) (omega (arith, visits-closed ls (g - 1 - c.left) y))
-join_closed g k c ls ms (Err (Failed s rest)) x y z m n j h i = let u : g - rest ≡ suc ((g - 1 - c.left) + (c.left - rest)) = omega arith in rw (u, j, h, i)
+use Rattle.walk.proofs.Lanes.{HasCase, lane-case, half-level, lane-small, level-within, no-level, yes-level, first-level, level_le, one-level, below_ge, below-number, below-fits, edge-fits, number-no, number-yes, number-room}
+use Rattle.walk.proofs.Sequence.{and_then, nothing, nothing-then, then-nothing, then-covered, then-split, then-failed, visits-then}
 
 -- ---- one visit
 
@@ -75,312 +53,456 @@ unfolding walk_from
 walk-closed w look zero k v κ = refl
 walk-closed w look (suc d) k v κ = refl
 
-walk-failing : (w : ℕ) (look : ℕ → ℕ → model.Look) (k v : ℕ) → walk_from w look 0 model.opened k v ≡ failed v 1
+walk-failing : (w : ℕ) (look : ℕ → ℕ → model.Look) (k v : ℕ) → walk_from w look 0 opened k v ≡ failed v 1
 unfolding walk_from
 walk-failing w look k v = refl
 
 walk_split :
     (w : ℕ) (look : ℕ → ℕ → model.Look) (d k v : ℕ) → 0 < d →
-    walk_from w look d model.opened k v ≡
+    walk_from w look d opened k v ≡
     join (walk_from w look (d - 1) (look (suc k) v) (suc k) v)
     (walk_from w look (d - 1) (look (suc k) (v + 2 ^ (w - suc k))) (suc k) (v + 2 ^ (w - suc k)))
 unfolding walk_from
 walk_split w look zero k v h = absurd (omega arith)
-walk_split w look (suc d) k v h = let e : suc d - 1 ≡ d = omega arith in rw e
+walk_split w look (suc d) k v h = let e : suc d - 1 ≡ d = omega arith in rw e refl
 
-halves : (w k : ℕ) → k < w → 2 ^ (w - k) ≡ 2 ^ (w - (k + 1)) + 2 ^ (w - (k + 1))
-halves w k h = let s : k + 1 ≡ suc k = omega arith in rw s (pow-half w k h)
+same-walk : (T : model-case.Task) (d d' k k' v v' : ℕ) → d ≡ d' → k ≡ k' → v ≡ v' → walk_of T d k v ≡ walk_of T d' k' v'
+same-walk T d d' k k' v v' a b c = rw (a, b, c) refl
 
-pub half_room : (w : ℕ) (case : Case) → CaseFits w case → 0 < case.left → case.number + 2 ^ (w - (case.k + 1)) < 2 ^ 64
-half_room w case F h =
-    omega (arith, F.numbers, halves w case.k (omega (arith, F.slots)), pow_pos (w - (case.k + 1)), pow_mono {i = w} {j = 64} (omega (arith, F.most)))
+-- ---- the lanes of a block
 
--- ---- a task, and a case in a lane of a block
+doubled : (a t u : ℕ) → u ≡ t * 2 → a * u ≡ 2 * (a * t)
+doubled a t u e = rw e (omega arith)
 
 module _ (b : block.Block) where
-  width-is : (task_of b).width ≡ (limits_of b).width
-  width-is = task-width b.task.now
+  abbrev T : model-case.Task
+  T = task_of b
 
-  facts-is : (task_of b).facts ≡ b.cases.now.facts
+  n : ℕ
+  n = b.cases.now.facts
+
+  facts-is : T.facts ≡ b.cases.now.facts
   facts-is = task-facts b.task.now ∙ sym b.facts
 
-  n≤w : (task_of b).facts ≤ (task_of b).width
-  n≤w = facts-fit b.task.now
+  n≤w : b.cases.now.facts ≤ T.width
+  n≤w = omega (arith, facts-is, facts-fit b.task.now)
 
-module _ (b : block.Block) (case : Case) (N : IsNode b case) where
-  pub lane-small : case.lane < 64
-  lane-small = omega (arith, N.lane_to, pow_mono {i = suc (case.k - b.first)} {j = 6} (omega (arith, b.few, N.within)))
+  pub most : T.width ≤ 64
+  most = omega (arith, task-width b.task.now, b.task.now.problem.now.sensible.word)
 
-  pub node_fits : CaseFits (limits_of b).width case
-  node_fits =
-      record {
-        most = b.task.now.problem.now.sensible.word;
-        slots = omega (arith, N.left_facts, width-is b, facts-is b, n≤w b);
-        numbers = N.numbers;
-      }
+  has-case : (e lane : ℕ) → e ≤ b.levels → OnLevel lane e → HasCase T.width b.cases.now.facts b.first b.levels b.number n≤w b.few b.inside (block-of-mod T.width b.first b.number b.begins) e lane
+  has-case e lane h o = lane-case T.width b.cases.now.facts b.first b.levels b.number n≤w b.few b.inside (block-of-mod T.width b.first b.number b.begins) e lane h o
 
-  pub few-facts : case.k < 256
-  few-facts = omega (arith, node_fits.slots, node_fits.most)
+  small : (e lane : ℕ) → e ≤ b.levels → OnLevel lane e → lane < 64
+  small e lane h o = omega (arith, o.to, b.few, pow_mono {i = suc e} {j = 6} (omega (arith, b.few)))
 
-module _ {L : Type 0} (puts : L → List Line → L → Type 0) (b : block.Block) (case : Case) (N : IsNode b case) (g : ℕ) (old : L) where
-  abbrev Here : Result done.Closed Stopped → L → Type 0
-  Here r new = Walks puts (walk_at b case) g old r new
+  -- a lane has its case
+  pub in-lane : (e lane : ℕ) → e ≤ b.levels → OnLevel lane e → case_of b.cases.now lane ≡ model-case.case_of T.width b.cases.now.facts (b.first + e) (case_at b e lane).number
+  in-lane e lane h o = b.lanes lane (small e lane h o) ∙ (has-case e lane h o).is
 
-  pub node_out : puts old [] old → g ≡ 0 → Here (Err OutOfVisits) old
-  node_out p z =
-      record {
-        closed = [];
-        put = p;
-        counted = tt;
-        is = omega (arith, visits-walk (task_of b).width (look_at (task_of b)) case.left (look_at (task_of b) case.k case.number) case.k case.number);
-      }
+  pub begins-at : (e lane : ℕ) → e ≤ b.levels → OnLevel lane e → (case_at b e lane).number % 2 ^ (T.width - (b.first + e)) ≡ 0
+  begins-at e lane h o = mod-of-block T.width (b.first + e) (case_at b e lane).number (has-case e lane h o).block
 
-  module _ (kind : Option Kind) (F : kind_look kind ≡ look_bits (lane_bit case.lane b.looks.empty) (lane_bit case.lane b.looks.carries)) (some : 0 < g) where
-    one : g - (g - 1) ≡ 1
-    one = omega arith
+  pub room-at : (e lane : ℕ) → e ≤ b.levels → OnLevel lane e → (case_at b e lane).number + 2 ^ (T.width - (b.first + e)) ≤ 2 ^ T.width
+  room-at e lane h o = number-room T.width b.first b.number e lane (omega (arith, b.inside, n≤w)) o b.numbers
 
-    -- a visit finds what the block says of the lane
-    node-look : look_at (task_of b) case.k case.number ≡ kind_look kind
-    unfolding look_at
-    node-look =
-        sym
-        (F ∙
-        b.looked case.lane (lane-small b case N) ∙
-        ap (λ (x : List Kleene). look_of (eval three x (task_of b).initial) (run three (task_of b).facts (task_of b).goal (task_of b).plan 0 x)) N.lane_is)
+  -- a visit finds what the block says of the lane
+  look-is : (e lane : ℕ) → e ≤ b.levels → OnLevel lane e → look_at T (b.first + e) (case_at b e lane).number ≡ look_in b lane
+  unfolding look_at
+  look-is e lane h o =
+      sym
+      (b.looked lane (small e lane h o) ∙
+      ap (λ (x : List Kleene). look_of (eval three x T.initial) (run three T.facts T.goal T.plan 0 x)) (in-lane e lane h o ∙ ap (λ (x : ℕ). model-case.case_of T.width x (b.first + e) (case_at b e lane).number) (sym facts-is)))
 
-    pub node_closed : (κ : Kind) → kind ≡ Some κ → (new : L) → puts old (closed_line κ case ∷ []) new → Here (Ok (record { lines = 1; left = g - 1 })) new
-    node_closed κ e new p =
+  walk-look : (e lane : ℕ) → e ≤ b.levels → OnLevel lane e → walk_at b e lane ≡ walk_from T.width (look_at T) (b.cases.now.facts - (b.first + e)) (look_in b lane) (b.first + e) (case_at b e lane).number
+  walk-look e lane h o = ap (λ (x : model.Look). walk_from T.width (look_at T) (b.cases.now.facts - (b.first + e)) x (b.first + e) (case_at b e lane).number) (look-is e lane h o)
+
+  pub lane-closed : (e lane : ℕ) → e ≤ b.levels → OnLevel lane e → (κ : model.Kind) → look_in b lane ≡ model.closed κ → walk_at b e lane ≡ covered (model.line κ (b.first + e) (case_at b e lane).number ∷ []) 1
+  lane-closed e lane h o κ i = walk-look e lane h o ∙ rw (i, walk-closed) refl
+
+  pub lane-fails : (e lane : ℕ) → e ≤ b.levels → OnLevel lane e → look_in b lane ≡ opened → b.first + e ≡ b.cases.now.facts → walk_at b e lane ≡ failed (case_at b e lane).number 1
+  lane-fails e lane h o i z = let d : b.cases.now.facts - (b.first + e) ≡ 0 = omega arith in walk-look e lane h o ∙ rw (i, d, walk-failing) refl
+
+  pub lane-splits : (e lane : ℕ) → e < b.levels → OnLevel lane e → look_in b lane ≡ opened → walk_at b e lane ≡ join (walk_at b (suc e) (2 * lane)) (walk_at b (suc e) (2 * lane + 1))
+  lane-splits e lane h o i =
+      let l : b.first + e < T.width = omega (arith, b.inside, n≤w) in
+      let s : suc (b.first + e) ≡ b.first + suc e = omega arith in
+      let d : b.cases.now.facts - (b.first + e) - 1 ≡ b.cases.now.facts - (b.first + suc e) = omega arith in
+      walk-look e lane (omega arith) o ∙
+      ap (λ (x : model.Look). walk_from T.width (look_at T) (b.cases.now.facts - (b.first + e)) x (b.first + e) (case_at b e lane).number) i ∙
+      walk_split T.width (look_at T) (b.cases.now.facts - (b.first + e)) (b.first + e) (case_at b e lane).number (omega (arith, b.inside)) ∙
+      ap (λ (x : Walked). join x (walk_of T (b.cases.now.facts - (b.first + e) - 1) (suc (b.first + e)) ((case_at b e lane).number + 2 ^ (T.width - suc (b.first + e)))))
+      (same-walk T _ _ _ _ _ _ d s (sym (number-no T.width b.first b.number e lane l))) ∙
+      ap (join (walk_at b (suc e) (2 * lane))) (same-walk T _ _ _ _ _ _ d s (sym (number-yes T.width b.first b.number e lane l o.from)))
+
+  pub some-visits : (e lane : ℕ) → 1 ≤ visits (walk_at b e lane)
+  some-visits e lane = visits-walk T.width (look_at T) (b.cases.now.facts - (b.first + e)) (look_at T (b.first + e) (case_at b e lane).number) (b.first + e) (case_at b e lane).number
+
+  -- ---- what comes after a lane and all below it
+
+  pub coming : ℕ → ℕ → Walked
+  coming zero lane = nothing
+  coming (suc e) lane = cond (eqb (lane % 2) 0) (and_then (walk_at b (suc e) (lane + 1)) (coming e (lane / 2))) (coming e (lane / 2))
+
+  coming-none : (lane : ℕ) → coming 0 lane ≡ nothing
+  unfolding coming
+  coming-none lane = refl
+
+  coming-no : (e lane m : ℕ) → lane ≡ 2 * m → coming (suc e) lane ≡ and_then (walk_at b (suc e) (lane + 1)) (coming e m)
+  unfolding coming
+  coming-no e lane m h = let z : lane % 2 ≡ 0 = omega arith in let d : lane / 2 ≡ m = omega arith in rw (eq-eqb (lane % 2) 0 z, d) refl
+
+  coming-yes : (e lane m : ℕ) → lane ≡ 2 * m + 1 → coming (suc e) lane ≡ coming e m
+  unfolding coming
+  coming-yes e lane m h =
+      let z : lane % 2 ≡ 0 → ⊥ = λ (y : lane % 2 ≡ 0). omega arith in let d : lane / 2 ≡ m = omega arith in rw (ne_eqb (lane % 2) 0 z, d) refl
+
+  pub record Turns (e lane next : ℕ) : Type 0 where
+    pub level : ℕ
+    pub within : level ≤ e
+    pub on : OnLevel next level
+    pub past : 1 < next
+    pub is : coming e lane ≡ and_then (walk_at b level next) (coming level next)
+
+  abbrev pub ComesAfter : ℕ → ℕ → ℕ → Type 0
+  ComesAfter e lane next = ((next ≡ 1) × (coming e lane ≡ nothing)) ⊎ Turns e lane next
+
+  one-of : (a t : ℕ) → 0 < t → a * t ≡ 1 → a ≡ 1
+  one-of a zero h e = absurd (omega arith)
+  one-of zero (suc t) h e = absurd (omega arith)
+  one-of (suc a) (suc t) h e = omega arith
+
+  pub comes-after : (e lane next up : ℕ) → OnLevel lane e → lane + 1 ≡ next * 2 ^ up → next % 2 ≡ 1 → ComesAfter e lane next
+  comes-after zero lane next zero o i odd = absurd (omega (arith, o.from, o.to))
+  comes-after zero lane next (suc up) o i odd =
+      let h : next * 2 ^ up ≡ 1 = omega (arith, o.from, o.to, doubled next (2 ^ up) (2 ^ suc up) (pow-suc 2 up)) in
+      inl (one-of next (2 ^ up) (pow_pos up) h, coming-none lane)
+  comes-after (suc e) lane next zero o i odd =
+      let x : lane + 1 ≡ next = omega arith in
+      let m = lane / 2 in
+      let z : lane ≡ 2 * m = omega arith in
+      let y : next ≡ 2 * m + 1 = omega arith in
+      let on : OnLevel next (suc e) = record { from = omega (arith, o.from); to = omega (arith, o.to, pow-suc 2 e, pow-suc 2 (suc e)) } in
+      inr
+      (record {
+        level = suc e;
+        within = omega arith;
+        on = on;
+        past = omega (arith, on.from, pow-suc 2 e, pow_pos e);
+        is = coming-no e lane m z ∙ ap (λ (t : ℕ). and_then (walk_at b (suc e) t) (coming e m)) x ∙ ap (and_then (walk_at b (suc e) next)) (sym (coming-yes e next m y));
+      })
+  comes-after (suc e) lane next (suc up) o i odd =
+      let d = doubled next (2 ^ up) (2 ^ suc up) (pow-suc 2 up) in
+      let m = lane / 2 in
+      let z : lane ≡ 2 * m + 1 = omega arith in
+      let below : OnLevel m e = half-level lane m e o (omega arith) (omega arith) in
+      elim (comes-after e m next up below (omega arith) odd) [
+        | inl (p, q) ↦ inl (p, coming-yes e lane m z ∙ q)
+        | inr t ↦ inr (record { level = t.level; within = omega (arith, t.within); on = t.on; past = t.past; is = coming-yes e lane m z ∙ t.is })
+      ]
+
+  -- ---- the number of a lane's case, as the code computes it
+
+  module _ (lane l s : ℕ) (o : OnLevel lane l) (inside : lane < 2 * 2 ^ b.levels) (S : s ≡ 2 ^ ((limits_of b).width - (b.first + b.levels))) where
+    abbrev computed : ℕ
+    computed = (lane * 2 ^ (b.levels - l) % 2 ^ 64 - 1 * 2 ^ b.levels % 2 ^ 64) * s
+
+    within : l ≤ b.levels
+    within = level-within lane l b.levels o inside
+
+    pub computed-ge : 1 * 2 ^ b.levels % 2 ^ 64 ≤ lane * 2 ^ (b.levels - l) % 2 ^ 64
+    computed-ge = rw (below-fits l lane b.levels within o b.few, edge-fits l lane b.levels within o b.few) (below_ge l lane b.levels within o)
+
+    computed-is : (lane * 2 ^ (b.levels - l) % 2 ^ 64 - 1 * 2 ^ b.levels % 2 ^ 64) * s ≡ (lane - 2 ^ l) * 2 ^ (T.width - (b.first + l))
+    computed-is =
+        let S' : s ≡ 2 ^ (T.width - (b.first + b.levels)) = S ∙ ap (λ (x : ℕ). 2 ^ (x - (b.first + b.levels))) (sym (task-width b.task.now)) in
+        rw (below-fits l lane b.levels within o b.few, edge-fits l lane b.levels within o b.few, S')
+        (below-number l lane b.levels within o T.width b.first (omega (arith, b.inside, n≤w)))
+
+    pub case-number : b.number + (lane * 2 ^ (b.levels - l) % 2 ^ 64 - 1 * 2 ^ b.levels % 2 ^ 64) * s ≡ (case_at b l lane).number
+    case-number = ap (λ (x : ℕ). b.number + x) computed-is
+
+    case-small : (case_at b l lane).number < 2 ^ 64
+    case-small = omega (arith, room-at l lane within o, pow_pos (T.width - (b.first + l)), pow_mono {i = T.width} {j = 64} most)
+
+    pub sum-fits : b.number + (lane * 2 ^ (b.levels - l) % 2 ^ 64 - 1 * 2 ^ b.levels % 2 ^ 64) * s < 2 ^ 64
+    sum-fits = rw case-number case-small
+
+    pub product-fits : (lane * 2 ^ (b.levels - l) % 2 ^ 64 - 1 * 2 ^ b.levels % 2 ^ 64) * s < 2 ^ 64
+    product-fits = part _ _ sum-fits
+      where
+        part : (x y : ℕ) → x + y < 2 ^ 64 → y < 2 ^ 64
+        part x y h = omega arith
+
+    pub case-is : (e : ℕ) → OnLevel lane e → (case : Case) → case ≡ record { k = b.first + l; number = b.number + (lane * 2 ^ (b.levels - l) % 2 ^ 64 - 1 * 2 ^ b.levels % 2 ^ 64) * s } → case ≡ case_at b e lane
+    case-is e p case c =
+        c ∙ ap (λ (x : ℕ). record { k = b.first + l; number = x }) case-number ∙ ap (λ (x : ℕ). case_at b x lane) (one-level lane l e o p)
+
+-- ---- a lane's walk, by what the code answers of it
+
+module _ {L : Type 0} (puts : L → List Line → L → Type 0) (b : block.Block) where
+  module _ (e lane : ℕ) (within : e ≤ b.levels) (on : OnLevel lane e) (g : ℕ) (old : L) where
+    abbrev Here : Result done.Closed Stopped → L → Type 0
+    Here r new = Walks puts (walk_at b e lane) g old r new
+
+    one : 0 < g → g - (g - 1) ≡ 1
+    one some = omega arith
+
+    pub lane_closes :
+        (kind : Kind) → kind_look (Some kind) ≡ look_in b lane → 0 < g → (case : Case) → case ≡ case_at b e lane → (new : L) → puts old (closed_line kind case ∷ []) new →
+        Here (Ok (record { lines = 1; left = g - 1 })) new
+    lane_closes kind i some case c new p =
         record {
-          closed = closed_line κ case ∷ [];
+          closed = closed_line kind case ∷ [];
           put = p;
           counted = (omega arith, refl, omega arith);
-          is = rw (node-look, e, walk-closed, one);
+          is = rw (c, one some) (lane-closed b e lane within on _ (sym i));
         }
 
-    pub node_fails : puts old [] old → kind ≡ None → case.left ≡ 0 → Here (Err (Failed case.number (g - 1))) old
-    node_fails p e z = record { closed = []; put = p; counted = omega arith; is = rw (node-look, e, z, walk-failing, one) }
+    pub lane_fails : look_in b lane ≡ opened → 0 < g → b.first + e ≡ b.cases.now.facts → puts old [] old → (case : Case) → case ≡ case_at b e lane → Here (Err (Failed case.number (g - 1))) old
+    lane_fails i some z p case c = record { closed = []; put = p; counted = omega arith; is = rw (c, one some) (lane-fails b e lane within on i z) }
 
-    -- an open case is the walk of its parts
-    splits : kind ≡ None → 0 < case.left → walk_at b case ≡ join (walk_at b (part_no case)) (walk_at b (part_yes (limits_of b).width case))
-    unfolding task_of_steps
-    splits e k =
-        let s : case.k + 1 ≡ suc case.k = omega arith in
-        rw (node-look, e, s, ← width-is b) (walk_split (task_of b).width (look_at (task_of b)) case.left case.k case.number k)
+  -- ---- through the lanes
 
--- ---- the parts of a lane's case
+  -- The walk from the block's case, with g visits granted: so many lines were put and so many visits are left as it turns to a lane.
+  pub record Going (g : ℕ) (old : L) (lane count left : ℕ) (now' : L) : Type 0 where
+    pub level : ℕ
+    pub within : level ≤ b.levels
+    pub on : OnLevel lane level
+    pub closed : List Line
+    pub put : puts old closed now'
+    pub few : left ≤ g
+    pub counted : count ≡ length closed
+    pub fewer : count ≤ g - left
+    pub is : walk_at b 0 1 ≡ and_then (covered closed (g - left)) (and_then (walk_at b level lane) (coming b level lane))
 
-module _ (b : block.Block) (case : Case) (N : IsNode b case) (inner : case.k < b.first + b.levels) where
-  abbrev W : ℕ
-  W = (limits_of b).width
-
-  abbrev V : ℕ
-  V = (task_of b).width
-
-  abbrev own : List Kleene
-  own = case_of b.cases.now 1
-
-  pub some-left : 0 < case.left
-  some-left = omega (arith, b.inside, N.left_facts)
-
-  k<n : case.k < (task_of b).facts
-  k<n = omega (arith, b.inside, facts-is b)
-
-  two_halves : 2 ^ (W - case.k) ≡ 2 ^ (W - (case.k + 1)) + 2 ^ (W - (case.k + 1))
-  two_halves = halves W case.k (omega (arith, k<n, n≤w b, width-is b))
-
-  aligned : Block V case.k case.number
-  aligned = block-of-mod V case.k case.number (let z : case.number % 2 ^ (V - case.k) ≡ 0 = rw (width-is b) N.begins in z)
-
-  smaller : Block V (suc case.k) case.number
-  smaller = rescale V case.k (suc case.k) case.number (omega arith) (omega (arith, k<n, n≤w b)) aligned
-
-  room : b.first + b.levels ≤ length own
-  room = omega (arith, b.inside, length-case_in b.cases.now.facts b.cases.now.words 1)
-
-  -- the lane of a part has that part's case
-  part-node :
-      (v i : ℕ) (x : Kleene) → v + 2 ^ (W - (case.k + 1)) ≤ 2 ^ W → 2 * case.lane ≤ i → i ≤ 2 * case.lane + 1 → Block V (suc case.k) v →
-      block_case own b.first b.levels i ≡ set (block_case own b.first b.levels case.lane) (b.first + (case.k - b.first)) x →
-      model-case.case_of V (task_of b).facts (suc case.k) v ≡ set (model-case.case_of V (task_of b).facts case.k case.number) case.k x →
-      IsNode b (part_of case v i)
-  part-node v i x h l m B e f =
-      let s : suc case.k ≡ case.k + 1 = omega arith in
-      let level : b.first + (case.k - b.first) ≡ case.k = omega (arith, N.from) in
-      let deeper : case.k + 1 - b.first ≡ suc (case.k - b.first) = omega (arith, N.from) in
-      let small : i < 64 =
-      omega (arith, N.lane_to, pow-suc 2 (suc (case.k - b.first)), pow_mono {i = suc (suc (case.k - b.first))} {j = 6} (omega (arith, b.few)))
-      in
+  pub going-begins : (g : ℕ) (old : L) → puts old [] old → Going g old 1 0 g old
+  going-begins g old p =
+      let z : g - g ≡ 0 = omega arith in
       record {
-        left_facts = omega (arith, N.left_facts, some-left);
-        begins = subst (λ (k : ℕ). v % 2 ^ (W - k) ≡ 0) s (rw (← width-is b) (mod-of-block V (suc case.k) v B));
-        numbers = h;
-        from = omega (arith, N.from);
+        level = 0;
         within = omega arith;
-        lane_from = rw deeper (omega (arith, N.lane_from, pow-suc 2 (case.k - b.first)));
-        lane_to = rw deeper (omega (arith, N.lane_to, pow-suc 2 (suc (case.k - b.first))));
-        lane_is =
-            b.lanes i small ∙
-            e ∙
-            (λ j. set (sym (b.lanes case.lane (lane-small b case N)) j) (level j) x) ∙
-            ap (λ (c : List Kleene). set c case.k x) N.lane_is ∙
-            sym f ∙
-            ap (λ (k : ℕ). model-case.case_of V (task_of b).facts k v) s;
-      }
-
-  pub first_node : (x : Case) → x ≡ part_no case → IsNode b x
-  first_node x y =
-      rw y
-      (part-node case.number (2 * case.lane) No (omega (arith, N.numbers, two_halves)) (omega arith) (omega arith) smaller
-      (lane-no own b.first b.levels (case.k - b.first) case.lane b.few (omega (arith, N.from)) N.lane_from N.lane_to room)
-      (case-no V (task_of b).facts case.k case.number k<n (n≤w b) aligned))
-
-  pub second_node : (x : Case) → x ≡ part_yes W case → IsNode b x
-  second_node x y =
-      let z : 2 ^ (V - suc case.k) ≡ 2 ^ (W - (case.k + 1)) = (let s : suc case.k ≡ case.k + 1 = omega arith in rw (s, width-is b)) in
-      rw (y, ← z)
-      (part-node (case.number + 2 ^ (V - suc case.k)) (2 * case.lane + 1) Yes (rw z (omega (arith, N.numbers, two_halves))) (omega arith) (omega arith)
-      (next-block V (suc case.k) case.number smaller)
-      (lane-yes own b.first b.levels (case.k - b.first) case.lane b.few (omega (arith, N.from)) N.lane_from N.lane_to room)
-      (case-yes V (task_of b).facts case.k case.number k<n (n≤w b) aligned))
-
--- ---- both parts
-
-counted-stopped : (g : ℕ) (ls : List Line) (s : Stopped) → Counted (g - 1) ls (Err s) → Counted g ls (Err s)
-counted-stopped g ls OutOfVisits c = tt
-counted-stopped g ls (Failed s left) c = omega arith
-
-counted-added :
-    (g : ℕ) (c : done.Closed) (ls ms : List Line) (r : Result done.Closed Stopped) → Counted (g - 1) ls (Ok c) → Counted c.left ms r →
-    Counted g (ls ++ ms) (added c.lines r)
-counted-added g c ls ms (Ok d) k l = (omega (arith, k.0, l.0), omega (arith, k.1, l.1, length-append ls ms), omega (arith, k.0, k.2, l.0, l.2))
-counted-added g c ls ms (Err OutOfVisits) k l = tt
-counted-added g c ls ms (Err (Failed s left)) k l = omega (arith, k.0)
-
-module _ {L : Type 0} (puts : L → List Line → L → Type 0) (b : block.Block) (case : Case) (N : IsNode b case) (g : ℕ) (old : L)
-    (kind : Option Kind) (F : kind_look kind ≡ look_bits (lane_bit case.lane b.looks.empty) (lane_bit case.lane b.looks.carries)) (some : 0 < g) (open_ : kind ≡ None) (inner : case.k < b.first + b.levels)
-    (first : Case) (e : first ≡ part_no case) where
-  split : walk_at b case ≡ join (walk_at b first) (walk_at b (part_yes (limits_of b).width case))
-  split = rw e (splits puts b case N g old kind F some open_ (some-left b case N inner))
-
-  pub node_stops : (s : Stopped) (mid : L) → Walks puts (walk_at b first) (g - 1) old (Err s) mid → Walks puts (walk_at b case) g old (Err s) mid
-  node_stops s mid W =
-      record {
-        closed = W.closed;
-        put = W.put;
-        counted = counted-stopped g W.closed s W.counted;
-        is = join_stopped g some W.closed s _ _ _ W.counted split W.is;
-      }
-
-  pub node_joins :
-      ((s t u : L) (ls ms : List Line) → puts s ls t → puts t ms u → puts s (ls ++ ms) u) → (c : done.Closed) (mid : L) →
-      Walks puts (walk_at b first) (g - 1) old (Ok c) mid → (second : Case) → second ≡ part_yes (limits_of b).width case → (r : Result done.Closed Stopped) (new : L) →
-      Walks puts (walk_at b second) c.left mid r new → Walks puts (walk_at b case) g old (added c.lines r) new
-  node_joins more c mid W second f r new V =
-      record {
-        closed = W.closed ++ V.closed;
-        put = more _ _ _ W.closed V.closed W.put V.put;
-        counted = counted-added g c W.closed V.closed r W.counted V.counted;
+        on = first-level;
+        closed = [];
+        put = p;
+        few = omega arith;
+        counted = refl;
+        fewer = omega arith;
         is =
-            join_closed g some c W.closed V.closed r _ _ _ W.counted.0 V.counted split W.is
-            (subst (λ (x : Case). Ended c.left V.closed r (walk_at b x)) f V.is);
+            sym (then-nothing (walk_at b 0 1)) ∙
+            ap (and_then (walk_at b 0 1)) (sym (coming-none b 1)) ∙
+            sym (nothing-then (and_then (walk_at b 0 1) (coming b 0 1))) ∙
+            ap (λ (x : ℕ). and_then (covered [] x) (and_then (walk_at b 0 1) (coming b 0 1))) (sym z);
       }
+
+  module _ (g : ℕ) (old : L) (lane count left : ℕ) (now' : L) (G : Going g old lane count left now') where
+    pub going-small : lane < 64
+    going-small = small b G.level lane G.within G.on
+
+    pub going-splits : look_in b lane ≡ opened → lane < 2 ^ b.levels → 0 < left → Going g old (2 * lane) count (left - 1) now'
+    going-splits i h some =
+        let l : G.level < b.levels = inner (omega (arith, G.on.from)) in
+        let a : g - left + 1 ≡ g - (left - 1) = omega (arith, G.few) in
+        record {
+          level = suc G.level;
+          within = l;
+          on = no-level lane G.level G.on;
+          closed = G.closed;
+          put = G.put;
+          few = omega (arith, G.few);
+          counted = G.counted;
+          fewer = omega (arith, G.few, G.fewer);
+          is =
+              G.is ∙
+              ap (λ (x : Walked). and_then (covered G.closed (g - left)) (and_then x (coming b G.level lane))) (lane-splits b G.level lane l G.on i) ∙
+              then-split G.closed (g - left) (walk_at b (suc G.level) (2 * lane)) (walk_at b (suc G.level) (2 * lane + 1)) (coming b G.level lane) ∙
+              ap (λ (x : ℕ). and_then (covered G.closed x) (and_then (walk_at b (suc G.level) (2 * lane)) (and_then (walk_at b (suc G.level) (2 * lane + 1)) (coming b G.level lane)))) a ∙
+              ap (λ (x : Walked). and_then (covered G.closed (g - (left - 1))) (and_then (walk_at b (suc G.level) (2 * lane)) x)) (sym (coming-no b G.level (2 * lane) lane refl));
+        }
+      where
+        inner : 2 ^ G.level < 2 ^ b.levels → G.level < b.levels
+        inner h = elim (dec_le b.levels G.level) [ yes y ↦ absurd (omega (arith, pow_mono {i = b.levels} {j = G.level} y)) | no d ↦ omega arith ]
+
+    pub going-out : left ≡ 0 → Walks puts (walk_at b 0 1) g old (Err OutOfVisits) now'
+    going-out z =
+        record {
+          closed = G.closed;
+          put = G.put;
+          counted = tt;
+          is = rw G.is (omega (arith, visits-then G.closed (g - left) (walk_at b G.level lane) (coming b G.level lane), some-visits b G.level lane));
+        }
+
+    module _ (more : (s t u : L) (ls ms : List Line) → puts s ls t → puts t ms u → puts s (ls ++ ms) u) where
+      pub going-stops : (s : Stopped) (new : L) → Walks puts (walk_at b G.level lane) left now' (Err s) new → Walks puts (walk_at b 0 1) g old (Err s) new
+      going-stops OutOfVisits new W =
+          record {
+            closed = G.closed ++ W.closed;
+            put = more _ _ _ G.closed W.closed G.put W.put;
+            counted = tt;
+            is = rw G.is (omega (arith, G.few, W.is, visits-then G.closed (g - left) (walk_at b G.level lane) (coming b G.level lane)));
+          }
+      going-stops (Failed s rest) new W =
+          let a : g - left + (left - rest) ≡ g - rest = omega (arith, G.few, W.counted) in
+          record {
+            closed = G.closed ++ W.closed;
+            put = more _ _ _ G.closed W.closed G.put W.put;
+            counted = omega (arith, G.few, W.counted);
+            is =
+                G.is ∙
+                ap (λ (x : Walked). and_then (covered G.closed (g - left)) (and_then x (coming b G.level lane))) W.is ∙
+                then-failed G.closed (g - left) s (left - rest) (coming b G.level lane) ∙
+                ap (failed s) a;
+          }
+
+      module _ (c : done.Closed) (new : L) (W : Walks puts (walk_at b G.level lane) left now' (Ok c) new) where
+        sum : g - left + (left - c.left) ≡ g - c.left
+        sum = omega (arith, G.few, W.counted.0)
+
+        so-far : walk_at b 0 1 ≡ and_then (covered (G.closed ++ W.closed) (g - c.left)) (coming b G.level lane)
+        so-far =
+            G.is ∙
+            ap (λ (x : Walked). and_then (covered G.closed (g - left)) (and_then x (coming b G.level lane))) W.is ∙
+            then-covered G.closed W.closed (g - left) (left - c.left) (coming b G.level lane) ∙
+            ap (λ (x : ℕ). and_then (covered (G.closed ++ W.closed) x) (coming b G.level lane)) sum
+
+        counts : count + c.lines ≡ length (G.closed ++ W.closed)
+        counts = omega (arith, length-append G.closed W.closed, G.counted, W.counted.1)
+
+        fewer : count + c.lines ≤ g - c.left
+        fewer = omega (arith, G.few, G.fewer, W.counted.0, W.counted.2)
+
+        pub closed-fewer : c.left < left
+        closed-fewer = omega (arith, some-visits b G.level lane, ap visits W.is)
+
+        -- nothing comes after it
+        pub going-ends : coming b G.level lane ≡ nothing → Walks puts (walk_at b 0 1) g old (Ok (record { lines = count + c.lines; left = c.left })) new
+        going-ends z =
+            record {
+              closed = G.closed ++ W.closed;
+              put = more _ _ _ G.closed W.closed G.put W.put;
+              counted = (omega (arith, G.few, W.counted.0), counts, fewer);
+              is = so-far ∙ ap (and_then (covered (G.closed ++ W.closed) (g - c.left))) z ∙ then-nothing (covered (G.closed ++ W.closed) (g - c.left));
+            }
+
+        -- the next lane
+        pub going-turns : (next : ℕ) → Turns b G.level lane next → Going g old next (count + c.lines) c.left new
+        going-turns next N =
+            record {
+              level = N.level;
+              within = omega (arith, N.within, G.within);
+              on = N.on;
+              closed = G.closed ++ W.closed;
+              put = more _ _ _ G.closed W.closed G.put W.put;
+              few = omega (arith, G.few, W.counted.0);
+              counted = counts;
+              fewer = fewer;
+              is = so-far ∙ ap (and_then (covered (G.closed ++ W.closed) (g - c.left))) N.is;
+            }
+
+        pub going-on : (next : ℕ) → IsAfter lane next → (next ≡ 1 → ⊥) → Going g old next (count + c.lines) c.left new
+        going-on next A h =
+            elim (comes-after b G.level lane next A.up G.on A.is A.odd) [ inl (p, q) ↦ absurd (h p) | inr N ↦ going-turns next N ]
+
+        pub going-done : (next : ℕ) → IsAfter lane next → next ≡ 1 → Walks puts (walk_at b 0 1) g old (Ok (record { lines = count + c.lines; left = c.left })) new
+        going-done next A h =
+            elim (comes-after b G.level lane next A.up G.on A.is A.odd) [ inl (p, q) ↦ going-ends q | inr N ↦ absurd (omega (arith, N.past)) ]
+
+-- a lane that does not split into two of its block is closed, or at the edge
+pub not-split : (r : Bool) {A : Type 0} (lane edge : ℕ) → IsTrue r ↔ (A × (lane < edge)) → r ≡ false → A → edge ≤ lane
+not-split r lane edge i f a = elim (dec_le edge lane) [ yes y ↦ y | no d ↦ let t : r ≡ true = i.1 (a, omega arith) in absurd (cc) ]
+
+pub edge-level : (lane e levels : ℕ) → OnLevel lane e → e ≤ levels → 2 ^ levels ≤ lane → e ≡ levels
+edge-level lane e levels o h k = let m = level_le lane levels e k o.to in omega arith
+
+pub few-facts : (b : block.Block) (e lane : ℕ) → e ≤ b.levels → (case : Case) → case ≡ case_at b e lane → case.k < 256
+few-facts b e lane h case c = omega (arith, ap (λ (x : Case). x.k) c, b.inside, n≤w b, most b)
+
+pub at-level :
+    {L : Type 0} (puts : L → List Line → L → Type 0) (b : block.Block) (lane e g : ℕ) (old : L) (r : Result done.Closed Stopped) (new : L) → e ≡ b.levels →
+    Walks puts (walk_at b b.levels lane) g old r new → Walks puts (walk_at b e lane) g old r new
+at-level puts b lane e g old r new s W = subst (λ (x : ℕ). Walks puts (walk_at b x lane) g old r new) (sym s) W
+
+pub does-split : (r : Bool) {P : Type 0} → IsTrue r ↔ P → r ≡ true → P
+does-split r i t = i.0 t
 
 -- ---- a block below, and the first one
 
--- the block of a case that fixes none of its facts has that case in lane 1
-pub own-case :
-    (c : Cases) (v : List Kleene) (k levels : ℕ) → ((f : ℕ) → k ≤ f → f < k + levels → get_or v f No ≡ Unknown) → IsBlock (case_of c) v k levels →
-    case_of c 1 ≡ v
-own-case c v k levels u B = B 1 (omega arith) ∙ block-root v k levels u
-
-pub own-block :
-    (c : Cases) (v : List Kleene) (k levels : ℕ) → ((f : ℕ) → k ≤ f → f < k + levels → get_or v f No ≡ Unknown) → IsBlock (case_of c) v k levels →
-    IsBlock (case_of c) (case_of c 1) k levels
-own-block c v k levels u B = subst (λ (x : List Kleene). IsBlock (case_of c) x k levels) (sym (own-case c v k levels u B)) B
+-- the walk from the block's own case
+pub root-walk : (b : block.Block) → walk_at b 0 1 ≡ walk_of (task_of b) (b.cases.now.facts - b.first) b.first b.number
+root-walk b =
+    let z : b.first + 0 ≡ b.first = omega arith in
+    same-walk (task_of b) _ _ _ _ _ _ (ap (λ (x : ℕ). b.cases.now.facts - x) z) z (omega arith)
 
 -- an open case at a block's edge begins a block of its own
-module _ (b : block.Block) (case : Case) (N : IsNode b case) (path below : Cases) (levels : ℕ) (G : LevelsOf case.left levels)
-    (P :
-    (j : ℕ) → j < 64 → case_of path j ≡ with_facts b.first (b.first + b.levels) (fact_of (case_of b.cases.now case.lane)) (case_of b.cases.now j))
-    (X : (j : ℕ) → j < 64 → case_of below j ≡ block_case (case_of path j) case.k levels j) where
-  abbrev here : List Kleene
-  here = model-case.case_of (task_of b).width (task_of b).facts case.k case.number
+module _ (b : block.Block) (lane : ℕ) (on : OnLevel lane b.levels) (case : Case) (c : case ≡ case_at b b.levels lane) where
+  pub edge-k : case.k ≡ b.first + b.levels
+  edge-k = ap (λ (x : Case). x.k) c
 
-  on_path : (j : ℕ) → j < 64 → case_of path j ≡ here
-  on_path j l =
-      let own = case_of b.cases.now 1 in
-      let m = lane-small b case N in
-      P j l ∙
-      (λ i. with_facts b.first (b.first + b.levels) (fact_of (b.lanes case.lane m i)) (b.lanes j l i)) ∙
-      block-path own b.first b.levels (b.first + b.levels) case.lane j refl ∙
-      sym (b.lanes case.lane m) ∙
-      N.lane_is
+  edge-number : case.number ≡ (case_at b b.levels lane).number
+  edge-number = ap (λ (x : Case). x.number) c
 
-  is_block : IsBlock (case_of below) here case.k levels
-  is_block j l = X j l ∙ ap (λ (x : List Kleene). block_case x case.k levels j) (on_path j l)
+  pub edge-begins : case.number % 2 ^ ((task_of b).width - case.k) ≡ 0
+  edge-begins = rw c (begins-at b b.levels lane (omega arith) on)
 
-  unfixed : (f : ℕ) → case.k ≤ f → f < case.k + levels → get_or here f No ≡ Unknown
-  unfixed f h l = case-unknown (task_of b).width (task_of b).facts case.k case.number f h (omega (arith, G.inside, N.left_facts, facts-is b))
+  pub edge-numbers : case.number + 2 ^ ((task_of b).width - case.k) ≤ 2 ^ (task_of b).width
+  edge-numbers = rw c (room-at b b.levels lane (omega arith) on)
 
-  pub below-lanes : IsBlock (case_of below) (case_of below 1) case.k levels
-  below-lanes = own-block below here case.k levels unfixed is_block
+  -- the walk from its block's own case is the walk from it
+  below-walk :
+      (t : blocks.Task) (n f v : ℕ) → t ≡ b.task.now → n ≡ b.cases.now.facts → f ≡ case.k → v ≡ case.number →
+      walk_of (values.task t) (n - (f + 0)) (f + 0) (v + (1 - 2 ^ 0) * 2 ^ ((values.task t).width - (f + 0))) ≡ walk_at b b.levels lane
+  below-walk t n f v i m e h =
+      ap (λ (x : blocks.Task). walk_of (values.task x) (n - (f + 0)) (f + 0) (v + (1 - 2 ^ 0) * 2 ^ ((values.task x).width - (f + 0)))) i ∙
+      same-walk (task_of b) _ _ _ _ _ _ (omega (arith, m, e, edge-k)) (omega (arith, e, edge-k)) (omega (arith, h, edge-number))
 
-  pub below-node :
-      (inner : block.Block) → inner.task.now ≡ b.task.now → inner.cases.now ≡ below → inner.first ≡ case.k → inner.cases.now.facts ≡ b.cases.now.facts →
-      (root : Case) → root ≡ record case { lane = 1 } → IsNode inner root
-  below-node inner t c f n root r =
-      let w : (limits_of inner).width ≡ (limits_of b).width = ap (λ (x : blocks.Task). x.problem.now.limits.width) t in
-      let z : case.k - inner.first ≡ 0 = omega arith in
-      rw r
-      (record {
-        left_facts = N.left_facts ∙ sym n;
-        begins = rw w N.begins;
-        numbers = rw w N.numbers;
-        from = omega (arith, f);
-        within = omega (arith, f);
-        lane_from = rw z (omega arith);
-        lane_to = rw z (omega arith);
-        lane_is =
-            ap (λ (x : Cases). case_of x 1) c ∙
-            own-case below here case.k levels unfixed is_block ∙
-            ap (λ (x : blocks.Task). model-case.case_of (values.task x).width (values.task x).facts case.k case.number) (sym t);
-      })
+  pub below-walks :
+      {L : Type 0} (puts : L → List Line → L → Type 0) (t : blocks.Task) (n f v : ℕ) → t ≡ b.task.now → n ≡ b.cases.now.facts → f ≡ case.k → v ≡ case.number →
+      (g : ℕ) (old : L) (r : Result done.Closed Stopped) (new : L) →
+      Walks puts (walk_of (values.task t) (n - (f + 0)) (f + 0) (v + (1 - 2 ^ 0) * 2 ^ ((values.task t).width - (f + 0)))) g old r new →
+      Walks puts (walk_at b b.levels lane) g old r new
+  below-walks puts t n f v i m e h g old r new W = subst (λ (x : Walked). Walks puts x g old r new) (below-walk t n f v i m e h) W
+
+  module _ (path below : Cases) (levels : ℕ) (n : below.facts ≡ b.cases.now.facts)
+      (P : (j : ℕ) → j < 64 → case_of path j ≡ with_facts b.first (b.first + b.levels) (fact_of (case_of b.cases.now lane)) (case_of b.cases.now j))
+      (X : (j : ℕ) → j < 64 → case_of below j ≡ block_case (case_of path j) case.k levels j) where
+    abbrev own : List Kleene
+    own = model-case.case_of (task_of b).width b.cases.now.facts b.first b.number
+
+    abbrev here : List Kleene
+    here = model-case.case_of (task_of b).width below.facts case.k case.number
+
+    here-is : case_of b.cases.now lane ≡ here
+    here-is = in-lane b b.levels lane (omega arith) on ∙ rw (c, n) refl
+
+    on_path : (j : ℕ) → j < 64 → case_of path j ≡ here
+    on_path j l =
+        let m = small b b.levels lane (omega arith) on in
+        P j l ∙
+        (λ i. with_facts b.first (b.first + b.levels) (fact_of (b.lanes lane m i)) (b.lanes j l i)) ∙
+        block-path own b.first b.levels (b.first + b.levels) lane j refl ∙
+        sym (b.lanes lane m) ∙
+        here-is
+
+    pub edge-lanes : IsBlock (case_of below) here case.k levels
+    edge-lanes j l = X j l ∙ ap (λ (x : List Kleene). block_case x case.k levels j) (on_path j l)
 
 -- the first block fixes no fact
-module _ (t : blocks.Task) (first : FirstBlock) (e : first.cases.now.facts ≡ t.problem.now.facts) where
-  none : List Kleene
-  none = replicate first.cases.now.facts Unknown
+module _ (t : blocks.Task) (first : FirstBlock) where
+  pub first-lanes : IsBlock (case_of first.cases.now) (model-case.case_of (values.task t).width first.cases.now.facts 0 0) 0 first.levels
+  first-lanes j l = first.lanes j l ∙ ap (λ (x : List Kleene). block_case x 0 first.levels j) (sym (case-first (values.task t).width first.cases.now.facts))
 
-  unfixed-first : (f : ℕ) → 0 ≤ f → f < 0 + first.levels → get_or (replicate first.cases.now.facts Unknown) f No ≡ Unknown
-  unfixed-first f h l =
-      rw (← case-first (values.task t).width first.cases.now.facts)
-      (case-unknown (values.task t).width first.cases.now.facts 0 0 f (omega arith) (omega (arith, first.levels_of.inside)))
+  pub first-numbers : 0 + 2 ^ ((values.task t).width - 0) ≤ 2 ^ (values.task t).width
+  first-numbers = omega (arith, root-span (values.task t).width)
 
-  pub first-lanes : IsBlock (case_of first.cases.now) (case_of first.cases.now 1) 0 first.levels
-  first-lanes = own-block first.cases.now (replicate first.cases.now.facts Unknown) 0 first.levels unfixed-first first.lanes
+  -- the walk from the case that fixes no fact is the walk of the task
+  first-walk :
+      first.cases.now.facts ≡ t.problem.now.facts →
+      walk_of (values.task t) (first.cases.now.facts - (0 + 0)) (0 + 0) (0 + (1 - 2 ^ 0) * 2 ^ ((values.task t).width - (0 + 0))) ≡ walked (values.task t)
+  unfolding walked walk
+  first-walk e = same-walk (values.task t) _ _ _ _ _ _ (omega (arith, e, task-facts t)) (omega arith) (omega arith)
 
-  pub first_case :
-      (b : block.Block) → b.task.now ≡ t → b.cases.now ≡ first.cases.now → b.first ≡ 0 → (whole : Case) → whole ≡ whole_case t.problem.now.facts → IsNode b whole
-  first_case b i c z whole w =
-      let k : 0 - b.first ≡ 0 = omega arith in
-      rw w
-      (record {
-        left_facts = omega (arith, e, ap (λ (x : Cases). x.facts) c);
-        begins = zero-mod (2 ^ ((limits_of b).width - 0));
-        numbers = omega (arith, root-span (limits_of b).width);
-        from = omega (arith, z);
-        within = omega arith;
-        lane_from = rw k (omega arith);
-        lane_to = rw k (omega arith);
-        lane_is =
-            ap (λ (x : Cases). case_of x 1) c ∙
-            own-case first.cases.now (replicate first.cases.now.facts Unknown) 0 first.levels unfixed-first first.lanes ∙
-            sym (case-first (values.task b.task.now).width first.cases.now.facts) ∙
-            ap (λ (n : ℕ). model-case.case_of (values.task b.task.now).width n 0 0)
-            (e ∙ ap (λ (x : blocks.Task). x.problem.now.facts) (sym i) ∙ sym (task-facts b.task.now));
-      })
-
--- the walk from the case that fixes no fact is the walk of the task
-pub first-walk : (t : blocks.Task) → walk_of (values.task t) t.problem.now.facts 0 0 ≡ walked (values.task t)
-unfolding walked walk task_of_steps
-first-walk t = refl
+  pub first-walks :
+      {L : Type 0} (puts : L → List Line → L → Type 0) → first.cases.now.facts ≡ t.problem.now.facts → (g : ℕ) (old : L) (r : Result done.Closed Stopped) (new : L) →
+      Walks puts (walk_of (values.task t) (first.cases.now.facts - (0 + 0)) (0 + 0) (0 + (1 - 2 ^ 0) * 2 ^ ((values.task t).width - (0 + 0)))) g old r new →
+      Walks puts (walked (values.task t)) g old r new
+  first-walks puts e g old r new W = subst (λ (x : Walked). Walks puts x g old r new) (first-walk e) W

@@ -1,5 +1,5 @@
 -- The lanes of a block.
-use Rattle.std.specs.Prelude.{◌≡◌, List, ℕ, ◌≤◌, ◌<◌}
+use Rattle.std.specs.Prelude.{◌≡◌, List, ℕ, suc, ◌+◌, ◌*◌, ◌%◌, ◌^◌, ◌≤◌, ◌<◌}
 use Rattle.model.specs.Kleene.{Kleene}
 use Rattle.cases.specs.Blocks.{block_case}
 
@@ -12,3 +12,15 @@ pub record LevelsOf (left r : ℕ) : Type 0 where
   pub few : r ≤ 5
   pub inside : r ≤ left
   pub some : 0 < left → 0 < r
+
+-- a lane of level e: lane 1 is of level 0, and the parts of a lane are a level below it
+pub record OnLevel (lane e : ℕ) : Type 0 where
+  pub from : 2 ^ e ≤ lane
+  pub to : lane < 2 ^ suc e
+
+-- The lane after a lane and all below it, in the order of the walk. A yes part, 2i + 1, is the last below lane i, so what comes after it
+-- comes after i; after a no part, 2i, comes the yes part beside it. So one adds 1, and halves while it can. It is 1 where none comes after.
+pub record IsAfter (lane next : ℕ) : Type 0 where
+  pub up : ℕ
+  pub is : lane + 1 ≡ next * 2 ^ up
+  pub odd : next % 2 ≡ 1

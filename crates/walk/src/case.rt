@@ -7,54 +7,17 @@ ghost use Rattle.lines.specs.Lines.{line_of};
 
 use lines::Line;
 use model::{Kind, Limits};
-use numbers::span;
 
-// A case: it fixes the first k facts to the top bits of `number`, and leaves `left` more open; in its block it has this lane.
+// A case: it fixes the first k facts to the top bits of `number`.
 #[derive(Clone, Copy)]
 pub struct Case {
     pub k: usize,
-    pub left: usize,
     pub number: u64,
-    pub lane: usize,
 }
 
 impl Case {
     ghost use Rattle.std.specs.Prelude.{◌≡◌};
-    ghost use Rattle.walk.specs.Cases.{CaseFits, PartsOf, whole_case, closed_line};
-
-    // The case that fixes no fact.
-    pub fn whole(facts: u8) -> Case
-        ensures { result ≡ whole_case facts }
-    {
-        Case {
-            k: 0,
-            left: facts as usize,
-            number: 0,
-            lane: 1,
-        }
-    }
-
-    // Its two parts, its next fact no and then yes.
-    pub fn parts(self, width: u8) -> (Case, Case)
-        requires fits { CaseFits width self }
-        requires some { 0 < self.left }
-        requires lane { self.lane < 64 }
-        ensures { PartsOf width self result }
-    {
-        let no = Case {
-            k: self.k + 1,
-            left: self.left - 1,
-            number: self.number,
-            lane: 2 * self.lane,
-        };
-        let yes = Case {
-            k: self.k + 1,
-            left: self.left - 1,
-            number: self.number + span(width as usize, self.k + 1),
-            lane: 2 * self.lane + 1,
-        };
-        (no, yes)
-    }
+    ghost use Rattle.walk.specs.Cases.{closed_line};
 
     // The line that closes it.
     #[inline(always)]

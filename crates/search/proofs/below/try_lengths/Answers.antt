@@ -1,7 +1,7 @@
 use Rattle.std.proofs.Common.{arith}
-use Rattle.std.proofs.lemmas.Result.{err_from_is_err_and}
 use Rattle.search.proofs.Beginning.{begun-root}
 use Rattle.search.proofs.Alike.{shorter-none, shorter-ended, shorter-one, shorter-all}
+use Rattle.formula.proofs.Readers.{returned}
 use Rattle.search.proofs.below.try_lengths.Goals as goal
 
 pub invariant_of-begun : goal.invariant_of-begun
@@ -12,8 +12,7 @@ loop-length-init c = shorter-none _ _ _
 
 pub returns-in_err-left : goal.returns-in_err-left
 returns-in_err-left c =
-    let p = err_from_is_err_and c.from_residual.result c.from_residual.ensures.1 in
-    rw (p.1, p.2) (shorter-ended _ _ _ _ _ c.loop-length.invariant (omega arith) _ (rw c.empty.ensures at c.in_err-left.ensures))
+    rw (returned c.from_residual.result c.from_residual.ensures.1) (shorter-ended _ _ _ _ _ c.loop-length.invariant (omega arith) _ (rw c.empty.ensures at c.in_err-left.ensures))
 
 pub loop-length-preserved : goal.loop-length-preserved
 loop-length-preserved c =

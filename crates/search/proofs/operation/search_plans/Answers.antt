@@ -1,13 +1,12 @@
-use Rattle.std.proofs.lemmas.Result.{err_from_is_err_and}
 use Rattle.search.proofs.Promise.{search-promised}
 use Rattle.search.proofs.Whole.{search-refused, search-over, search-many, search-came}
+use Rattle.formula.proofs.Readers.{returned}
 use Rattle.search.proofs.operation.search_plans.Goals as goal
 
 pub returns-in_err-found : goal.returns-in_err-found
 returns-in_err-found c =
-    let p = err_from_is_err_and c.from_residual.result c.from_residual.ensures.1 in
     let e = search-refused c.args.problem.now c.args.longest c.args.grant _ c.in_err-found.ensures.read in
-    rw (p.1, p.2) (record { answer = e; promised = search-promised _ _ _ _ e })
+    rw (returned c.from_residual.result c.from_residual.ensures.1) (record { answer = e; promised = search-promised _ _ _ _ e })
 
 pub returns-then-longest : goal.returns-then-longest
 returns-then-longest c =

@@ -1,7 +1,7 @@
-use Rattle.std.proofs.Common.{arith}
-use Rattle.std.proofs.lemmas.Result.{err_from_is_err_and}
+use Rattle.std.proofs.Common.{◌≡◌, arith}
 use Rattle.search.proofs.Beginning.{begun-next}
 use Rattle.search.proofs.Alike.{tried-none, tried-ended, tried-one, tried-all, leaf-tried}
+use Rattle.formula.proofs.Readers.{returned}
 use Rattle.search.proofs.below.Begun.+plans.Goals as goal
 
 pub try_below-returns-then-more-eq0 : goal.try_below-returns-then-more-eq0
@@ -12,8 +12,7 @@ try_below-loop-step-init t c = tried-none _ _ _ _ _ (omega arith)
 
 pub try_below-returns-in_err-rest : goal.try_below-returns-in_err-rest
 try_below-returns-in_err-rest t c =
-    let p = err_from_is_err_and c.from_residual.result c.from_residual.ensures.1 in
-    rw (p.1, p.2) (tried-ended _ _ _ _ _ _ _ c.loop-step.invariant (omega arith) _ c.in_err-rest.ensures)
+    rw (returned c.from_residual.result c.from_residual.ensures.1) (tried-ended _ _ _ _ _ _ _ c.loop-step.invariant (omega arith) _ c.in_err-rest.ensures)
 
 pub try_below-loop-step-preserved : goal.try_below-loop-step-preserved
 try_below-loop-step-preserved t c = tried-one _ _ _ _ _ _ _ c.loop-step.invariant (omega arith) _ c.in_ok-rest.ensures
@@ -21,13 +20,13 @@ try_below-loop-step-preserved t c = tried-one _ _ _ _ _ _ _ c.loop-step.invarian
 pub try_below-returns : goal.try_below-returns
 try_below-returns t c = tried-all _ _ _ _ _ _ _ c.loop-step.invariant (omega arith)
 
--- ---- try_step
+-- ---- try_obeyed
 
-pub try_step-invariant_of-next-2 : goal.try_step-invariant_of-next-2
-try_step-invariant_of-next-2 t c =
+pub try_obeyed-invariant_of-next : goal.try_obeyed-invariant_of-next
+try_obeyed-invariant_of-next t c =
     let b = c.args.self.now in
     record {
       begun =
-          begun-next b.root.now b.plan b.alive b.cases.now b.begun c.args.step c.requires.action c.if-self-eq0.false _ c.action-action.ensures.is _ c.obey.ensures.facts _ c.obey.ensures.obeys
-          _ c.extended-plan.ensures _ c.unwrap_or-going.ensures;
+          begun-next b.root.now b.plan b.alive b.cases.now b.begun c.args.step c.requires.action (λ (z : b.alive ≡ 0). omega arith) _ c.action-action.ensures.is _ c.obey.ensures.facts _ c.obey.ensures.obeys
+          _ c.extended.ensures _ c.unwrap_or-going.ensures;
     }

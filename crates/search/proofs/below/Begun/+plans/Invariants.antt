@@ -3,10 +3,13 @@ use Rattle.search.proofs.Alike.{Tried}
 use Rattle.search.proofs.below.Begun.+plans.Given as goal
 
 abbrev pub decreases-try_below : goal.decreases-try_below
-decreases-try_below l = 2 * l.more
+decreases-try_below l = 3 * l.more
 
 abbrev pub decreases-try_step : goal.decreases-try_step
-decreases-try_step l = 2 * l.more + 1
+decreases-try_step l = 3 * l.more + 2
+
+abbrev pub decreases-try_obeyed : goal.decreases-try_obeyed
+decreases-try_obeyed l = 3 * l.more + 1
 
 -- the plans with a lower step next are tried
 abbrev pub invariant-try_below-loop-step : goal.invariant-try_below-loop-step
