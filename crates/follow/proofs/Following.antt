@@ -3,7 +3,7 @@ use mathlib.Core.Path.{◌≡◌, refl, sym, ap, ap₂, ◌∙◌}
 use mathlib.Core.Bool.{Bool, true, false, cond}
 use mathlib.Core.List.{List, ◌∷◌}
 use Prim.Native.Nat.{ℕ, zero, suc, ◌+◌, ◌-◌, ◌*◌, ◌%◌, ◌^◌, ◌≤◌, ◌<◌}
-use native.Mathlib.Nat.{mul-zero, mul-add, div-le_self}
+use native.Mathlib.Nat.{mul-zero, mul-add, mul-le-mul_left}
 use native.Mathlib.Numerals.{add-one}
 use native.Mathlib.Omega.{arith}
 use lib.ListN.{length, take}
@@ -16,27 +16,26 @@ use Rattle.model.specs.Answer.{Answer, refused, answered}
 use Rattle.model.specs.Read.{Read, reject, got, and_then, ◌>>◌, done, require, answer_of, head_bytes, header}
 use Rattle.model.specs.Operations.{read_task, follow_list, cover_after}
 use Rattle.model.specs.Answers.{refusal}
-use Rattle.model.specs.Demands.{lines_in}
+use Rattle.model.specs.Guarantees.{lines_in}
 use Rattle.model.specs.declared.Refusal.{Refusal}
 use Rattle.model.specs.Case.{Task}
 use Rattle.model.specs.WellFormed.{Sensible}
 use Rattle.model.specs.Walk as model
 use Rattle.model.specs.Walk.{look_at}
-use Rattle.model.specs.CaseList.{refuse_at, ends, fault}
+use Rattle.model.specs.CaseList.{refuse_at, ends, fault, follow}
 use Rattle.model.specs.Cover.{cover_end}
 use Rattle.model.specs.ListBytes.{line_at, lines_from, case_list, list_of}
-use Rattle.model.proofs.Laws.Reading.{answer-got, then-got}
 use Rattle.model.proofs.Laws.ListCodec.{length-lines_from}
-use Rattle.model.proofs.Laws.Tasks.{cover-is}
-use Rattle.model.proofs.Laws.Covers.{cover-read, follow-tested}
-use Rattle.model.proofs.Demands.{version1-sensible}
+use Rattle.model.proofs.Laws.Tasks.{cover-is, follow-is, task-fits}
+use Rattle.model.proofs.Laws.RunningEnd.{same_answers}
+use Rattle.model.proofs.Guarantees.{version1-sensible}
 use Rattle.std.specs.Prelude.{min}
 use Rattle.std.proofs.lemmas.List.{take_min}
 use Rattle.fields.proofs.Readers.{header-got}
 use Rattle.blocks.specs.declared.task.Task as values
 use Rattle.blocks.specs.Values.{task}
 use Rattle.lines.specs.declared.reader.ListReader.{ListReader}
-use Rattle.lines.specs.Readers.{line_here}
+use Rattle.lines.specs.Readers.{LineStands, line_here}
 use Rattle.follow.specs.Follows.{line_answer, end_of_lines}
 
 -- ---- the lines one by one
@@ -94,7 +93,14 @@ module _ (F : Limits) (T : Task) (list : List ℕ) (m i x : ℕ) where
   unfolding lines_from cover_end
   no-line h = let e : m - i ≡ 0 = omega arith in rw (e, lines_from, cover_end)
 
--- the line at which a reader stands
+-- a reader that is not past the first m lines stands at one
+pub stands :
+    (r : ListReader) (F : Limits) (list : List ℕ) (m : ℕ) → r.list.now ≡ list → r.limits ≡ F → head_bytes + F.line * m ≤ length list → r.line < m → LineStands r
+stands r F list m list-is F-is inside h =
+    let up : r.line + 1 ≤ m = omega arith in
+    rw (F-is, list-is) (omega (arith, inside, mul-le-mul_left F.line up, mul-add F.line r.line 1))
+
+-- and at this line
 pub here-line :
     (t u : values.Task) (r : ListReader) (F : Limits) (list : List ℕ) (i x : ℕ) → t ≡ u → r.list.now ≡ list → r.line ≡ i → r.limits ≡ F →
     line_answer (task t) (line_here r) r.line x ≡ line_answer (task u) (here F (task u) list 0 i x) i x
@@ -178,40 +184,45 @@ module _ (problem plan : List ℕ) (T : Task) (read : read_task version1 problem
 
 -- ---- the operation
 
-list-headed : (F : Limits) (list : List ℕ) (ls : List model.Line) → list_of F list ≡ answered ls → head_bytes ≤ length list
-unfolding list_of case_list ◌>>◌
-list-headed F list ls h = then-got (answer-got (case_list F list 0) h).1 λ u p e _. (header-got list 60 _ _ p u e).0
-
--- the running value after every line tells all
-module _ (problem plan list : List ℕ) (x : Answer ℕ) (y : x ≡ cover_after version1 problem plan list (length list)) where
-  tested : follow_list version1 problem plan list ≡ Answer.◌>>=◌ x (λ e. ends (eqb e (2 ^ version1.width)) (lines_in version1 list))
-  unfolding Answer.◌>>=◌
-  tested =
-      let few : lines_in version1 list ≤ length list = omega (arith, div-le_self (length list - head_bytes) version1.line) in
-      follow-tested version1 problem plan list version1-sensible (length list) few ∙ rw (sym y)
-
-pub follow-refused :
-    (problem plan list : List ℕ) (r : Refusal) → refusal r ≡ cover_after version1 problem plan list (length list) →
-    refusal r ≡ follow_list version1 problem plan list
-unfolding Answer.◌>>=◌
-follow-refused problem plan list r y = sym (tested problem plan list (refusal r) y)
-
-module _ (problem plan list : List ℕ) (e : ℕ) (y : answered e ≡ cover_after version1 problem plan list (length list)) where
-  pub has-head : head_bytes ≤ length list
-  has-head = let (_, _, ls, read) = cover-read version1 problem plan list (length list) e (sym y) in list-headed version1 list ls read
+module _ (problem plan : List ℕ) where
+  pub follow-refused :
+      (list : List ℕ) (r : Refusal) → read_task version1 problem plan ≡ refusal r → refusal r ≡ follow_list version1 problem plan list
+  unfolding follow_list Answer.◌>>=◌
+  follow-refused list r h = rw h
 
   -- F are version 1's numbers
-  module _ (F : Limits) (F-is : F ≡ version1) (whole : ℕ) (all : whole ≡ 2 ^ (F.width - 0)) where
-    follow-ended : (t : Bool) → eqb e whole ≡ t → ends t (lines_in F list) ≡ follow_list version1 problem plan list
+  module _ (T : Task) (read : read_task version1 problem plan ≡ answered T) (list : List ℕ) (F : Limits) (F-is : F ≡ version1) where
+    follow-by : follow_list version1 problem plan list ≡ Answer.◌>>=◌ (list_of F list) (λ ls. follow T.width (look_at T) T.facts ls 0 0)
+    follow-by = follow-is version1 problem plan T read list ∙ rw F-is
+
+    pub follow-unread : (y : Refusal) → refusal y ≡ list_of F list → refusal y ≡ follow_list version1 problem plan list
     unfolding Answer.◌>>=◌
-    follow-ended t h =
-        let z : whole ≡ 2 ^ version1.width = all ∙ rw F-is in
-        sym (tested problem plan list (answered e) y ∙ rw (sym z, h, F-is))
+    follow-unread y e = sym (follow-by ∙ rw (← e))
 
-    pub follow-short : (e ≡ whole → ⊥) → refused 70 (lines_in F list) ≡ follow_list version1 problem plan list
-    unfolding ends
-    follow-short h = follow-ended false (ne_eqb e whole h)
+    -- the running value after every line tells all
+    module _ (n : ℕ) (e : answered (lines_from F list n head_bytes) ≡ list_of F list) (x : Answer ℕ) (x-is : x ≡ end_of_lines T (lines_from F list n head_bytes)) where
+      tested : follow_list version1 problem plan list ≡ Answer.◌>>=◌ x (λ d. ends (eqb d (2 ^ F.width)) n)
+      unfolding Answer.◌>>=◌
+      tested =
+          let S : Sensible F = rw F-is version1-sensible in
+          let count : length (lines_from F list n head_bytes) ≡ n = length-lines_from F S list n head_bytes in
+          let width : T.width ≡ F.width = (task-fits version1 problem plan T read).width ∙ ap (λ (G : Limits). G.width) (sym F-is) in
+          let all : follow T.width (look_at T) T.facts (lines_from F list n head_bytes) 0 0 ≡ Answer.◌>>=◌ x (λ d. ends (eqb d (2 ^ F.width)) n) =
+          same_answers T.width (look_at T) T.facts (lines_from F list n head_bytes) ∙ rw (← x-is, count, width)
+          in
+          follow-by ∙ rw (← e) all
 
-    pub follow-passes : e ≡ whole → answered (lines_in F list) ≡ follow_list version1 problem plan list
-    unfolding ends
-    follow-passes h = follow-ended true (eq-eqb e whole h)
+    module _ (n : ℕ) (e : answered (lines_from F list n head_bytes) ≡ list_of F list) where
+      pub follow-fault :
+          (y : Refusal) → refusal y ≡ end_of_lines T (lines_from F list n head_bytes) → refusal y ≡ follow_list version1 problem plan list
+      unfolding Answer.◌>>=◌
+      follow-fault y h = sym (tested n e (refusal y) h)
+
+      module _ (d : ℕ) (h : answered d ≡ end_of_lines T (lines_from F list n head_bytes)) where
+        pub follow-short : (d ≡ 2 ^ F.width → ⊥) → refused 70 n ≡ follow_list version1 problem plan list
+        unfolding Answer.◌>>=◌ ends
+        follow-short k = sym (tested n e (answered d) h ∙ rw (ne_eqb d (2 ^ F.width) k))
+
+        pub follow-passes : d ≡ 2 ^ F.width → answered n ≡ follow_list version1 problem plan list
+        unfolding Answer.◌>>=◌ ends
+        follow-passes k = sym (tested n e (answered d) h ∙ rw (eq-eqb d (2 ^ F.width) k))

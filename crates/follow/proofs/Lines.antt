@@ -1,11 +1,13 @@
 -- Following one line. Assumes nothing.
 use mathlib.Core.Path.{◌≡◌, refl, sym, ap, ap₂, ◌∙◌}
 use mathlib.Core.Bool.{Bool, true, false, not}
+use Rattle.std.specs.Prelude.{IsTrue, ◌↔◌}
+use Rattle.std.proofs.lemmas.Bool.{true≢false}
 use mathlib.Core.List.{List}
 use Prim.Native.Nat.{ℕ, zero, suc, ◌+◌, ◌-◌, ◌^◌, ◌≤◌, ◌<◌}
 use native.Mathlib.Omega.{arith}
-use lib.Dec.{eqb, ltb}
-use borrow.Author.Tests.{ltb-false, eq-eqb, ne_eqb}
+use lib.Dec.{eqb}
+use borrow.Author.Tests.{eq-eqb, ne_eqb}
 use Rattle.std.specs.Prelude.{Option, None, Some}
 use Rattle.model.specs.Kleene.{Kleene, three}
 use Rattle.model.specs.Formula.{eval}
@@ -19,6 +21,7 @@ use Rattle.model.specs.declared.marks.Kind.{Kind}
 use Rattle.model.specs.declared.marks.Kind.TheVariants.{Empty, Carries}
 use Rattle.model.specs.CaseList.{claims, first, refuse_at, fault}
 use Rattle.model.specs.Planes.{lane_bit}
+use Rattle.cases.specs.declared.case.Case.{Case}
 use Rattle.cases.specs.declared.cases.Cases.{Cases}
 use Rattle.cases.specs.Cases as lanes
 use Rattle.cases.specs.Words.{SameCase}
@@ -26,6 +29,11 @@ use Rattle.runs.specs.declared.lanes.Looks.{Looks}
 use Rattle.runs.specs.Looks.{kind_look, look_bits, LooksAt}
 use Rattle.lines.specs.Lines.{form_fault, with_fault, checked}
 use Rattle.follow.specs.Follows.{line_answer}
+
+-- ---- a test that says no
+
+pub not-so : {P : Type 0} (b : Bool) → IsTrue b ↔ P → b ≡ false → P → ⊥
+not-so b t h p = true≢false (sym (t.1 p) ∙ h)
 
 -- ---- a claim, by the kind that a visit finds
 
@@ -51,12 +59,12 @@ form-found false false true x f e h = e
 form-found false false false x f e h = absurd (omega arith)
 
 form-none :
-    (a b c : Bool) (x : ℕ) → first a 65 (first b 66 (first c 67 0)) ≡ 0 → (first a 65 (first b 66 (first c 67 x)) ≡ x) × (b ≡ false)
+    (a b c : Bool) (x : ℕ) → first a 65 (first b 66 (first c 67 0)) ≡ 0 → first a 65 (first b 66 (first c 67 x)) ≡ x
 unfolding first
 form-none true b c x e = absurd (omega arith)
 form-none false true c x e = absurd (omega arith)
 form-none false false true x e = absurd (omega arith)
-form-none false false false x e = (refl, refl)
+form-none false false false x e = refl
 
 -- what a check refused has a fault, and what it passed has none
 refused-fault : (f i m q : ℕ) (l : model.Line) → ◌≡◌ {A = Answer model.Line} (refused m q) (with_fault f i l) → (0 < f) × (◌≡◌ {A = Answer ℕ} (refused m q) (refused f i))
@@ -98,14 +106,10 @@ module _ (T : Task) (w n : ℕ) (w-is : T.width ≡ w) (n-is : T.facts ≡ n) (i
     sound : form_fault w n m ≡ 0
     sound = let (h, e) = passed-fault (form_fault w n l) i l m c in ap (form_fault w n) e ∙ h
 
-    pub k_fits : m.k ≤ n
-    unfolding form_fault
-    k_fits = ltb-false n m.k (form-none _ (ltb n m.k) _ 0 sound).1
-
     -- so its place and its claim are left
     placed : fault w (look_at T) n m x ≡ first (not (eqb m.value x)) 68 (first (not (claims m.kind (look_at T m.k m.value))) 69 0)
     unfolding form_fault fault
-    placed = (form-none _ _ _ _ sound).0
+    placed = form-none _ _ _ _ sound
 
     as-read : line_answer T m i x ≡ line_answer T l i x
     as-read = ap (λ (z : model.Line). line_answer T z i x) (passed-fault (form_fault w n l) i l m c).1
@@ -119,13 +123,19 @@ module _ (T : Task) (w n : ℕ) (w-is : T.width ≡ w) (n-is : T.facts ≡ n) (i
       unfolding first
       line-denied h = at-fault m 69 (placed ∙ rw (eq-eqb m.value x begins, h)) (omega arith) ∙ as-read
 
-      pub line-holds : claims m.kind (look_at T m.k m.value) ≡ true → (e : ℕ) → e ≡ m.value + 2 ^ (w - m.k) → answered e ≡ line_answer T l i x
+      pub line-holds : claims m.kind (look_at T m.k m.value) ≡ true → (e : ℕ) → e ≡ x + 2 ^ (w - m.k) → answered e ≡ line_answer T l i x
       unfolding first
       line-holds h e e-is =
           let none : fault w (look_at T) n m x ≡ 0 = placed ∙ rw (eq-eqb m.value x begins, h) in
-          ap answered (e-is ∙ ap (λ (z : ℕ). z + 2 ^ (w - m.k)) begins) ∙ sym (by-fault m 0 none ∙ goes-on i _) ∙ as-read
+          ap answered e-is ∙ sym (by-fault m 0 none ∙ goes-on i _) ∙ as-read
 
 -- ---- the case of a line
+
+-- cases that all went to one case, by the facts that they have then
+pub moved-lanes :
+    (c : Cases) (n : ℕ) (to : Case) → c.facts ≡ n → ((j : ℕ) → j < 64 → lanes.case_of c j ≡ lanes.values_of n to) →
+    (j : ℕ) → j < 64 → lanes.case_of c j ≡ lanes.values_of c.facts to
+moved-lanes c n to e moved j l = moved j l ∙ ap (λ (f : ℕ). lanes.values_of f to) (sym e)
 
 -- as a word it is the same case
 pub case-of-line :

@@ -1,4 +1,4 @@
--- Demand 1 of the code for lists, and W-203: from the contracts' equations and the theorems about the definitions. Assumes nothing.
+-- What the code for lists promises: from the contracts' equations and the theorems about the definitions. Assumes nothing.
 use mathlib.Core.Path.{◌≡◌, refl, sym, ◌∙◌}
 use mathlib.Core.Bool.{Bool, true, false, false≢true}
 use mathlib.Core.Logic.{◌⊎◌, inl, inr}
@@ -20,7 +20,7 @@ use Rattle.model.specs.WellFormed.{Bytes}
 use Rattle.model.proofs.Laws.Tasks.{answer-then, refusal-of}
 use Rattle.model.proofs.Laws.RunningEnd.{same-refusal, covers-to, fault-at, same_answers}
 use Rattle.model.proofs.Laws.Covers.{cover-read, cover-refusal, cover-covers, cover-kept, cover-fault-at}
-use Rattle.model.proofs.Demands.{version1-holds}
+use Rattle.model.proofs.Guarantees.{version1-holds}
 use Rattle.blocks.proofs.Promise.{not-refused}
 use Rattle.follow.specs.Promise.{EndsElsewhere, FollowRefusedFor, FollowPromised, EndKept, CoverPromised}
 
@@ -71,11 +71,11 @@ module _ (problem plan : List ℕ) where
   follow-promised list b (refused n q) e = (
     follow-refusal list n q (sym e),
     λ T h lines p.
-        not-refused (((version1-holds.demand3 problem plan T h).passes_exactly list b (length lines)).1 (lines, p, refl)) (sym e),
+        not-refused (((version1-holds.certificates problem plan T h).passes_exactly list b (length lines)).1 (lines, p, refl)) (sym e),
   )
   follow-promised list b (answered m) e =
       let (T, h) = followed-task list m (sym e) in
-      let (lines, p, count) = ((version1-holds.demand3 problem plan T h).passes_exactly list b m).0 (sym e) in
+      let (lines, p, count) = ((version1-holds.certificates problem plan T h).passes_exactly list b m).0 (sym e) in
       (T, h, lines, p, count)
 
   -- the end after the first i lines

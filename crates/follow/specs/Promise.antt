@@ -7,7 +7,7 @@ use Rattle.model.specs.Walk.{Line, look_at}
 use Rattle.model.specs.Cover.{CoversTo, cover_end, FaultAt}
 use Rattle.model.specs.ListBytes.{list_of}
 use Rattle.model.specs.Operations.{read_task, cover_after}
-use Rattle.model.specs.Demands.{Passing}
+use Rattle.model.specs.Guarantees.{Passing}
 
 -- no line is at fault, and what they cover together does not end where the width does: the number is 70, and the place the line count
 pub record EndsElsewhere (T : Task) (lines : List Line) (n q : ℕ) : Type 0 where
@@ -27,7 +27,7 @@ FollowRefusedFor problem plan list n q =
     ((lines : List Line) × (list_of version1 list ≡ answered lines) ×
     (FaultAt T.width (look_at T) T.facts lines n q ⊎ EndsElsewhere T lines n q))))
 
--- Demand 1 of the code: a list passes exactly if it is `Passing`. It is an `ensures` of `follow_list`, so that every element is a byte by
+-- All input, of the code: a list passes exactly if it is `Passing`. It is an `ensures` of `follow_list`, so that every element is a byte by
 -- the slice's type, and by no hypothesis. A refusal has the number and the place of what it is of.
 abbrev pub FollowPromised : List ℕ → List ℕ → List ℕ → Answer ℕ → Type 0
 FollowPromised problem plan list (refused n q) =
@@ -37,7 +37,7 @@ FollowPromised problem plan list (answered m) =
     (T : Task) × (read_task version1 problem plan ≡ answered T) ×
     (lines : List Line) × Passing version1 T list lines × (m ≡ length lines)
 
--- W-203 of the code. `cover_after` answers `cover_after` for every count of lines: after the first i of them it has a value, and that is the
+-- The running value, of the code: `cover_after` answers `cover_after` for every count of lines: after the first i of them it has a value, and that is the
 -- end of what they cover together
 pub record EndKept (problem plan list : List ℕ) (T : Task) (lines : List Line) (i : ℕ) : Type 0 where
   pub end : ℕ

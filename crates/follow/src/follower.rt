@@ -1,26 +1,27 @@
-// A follower of case lists: it goes from line to line, and knows where the lines so far end together.
+// A follower of case lists: it goes from line to line, and knows what the lines so far cover together.
 ghost use Rattle.std.proofs.Props.{props};
 ghost use Rattle.std.specs.Prelude.{ℕ, ◌≡◌, ◌<◌, ◌≤◌};
 ghost use Rattle.cases.specs.Cases.{case_of, values_of};
+ghost use Rattle.follow.specs.Covered.{EndFits};
 
+use crate::covered::Covered;
 use blocks::Task;
 use cases::{Case, Cases, word_of};
 use lines::ListReader;
 use model::{Fault, Refusal};
-use numbers::end_of;
 use runs::look;
 use step::Conditions;
 
 // The case of the last line stands in every lane of `cases`: from one line to the next only the facts in which their cases differ are
-// touched. The lines so far end together at `end`.
+// touched.
 #[derive(Drop)]
 pub struct Follower<'a> {
     task: &'a Task<'a>,
     cases: Cases,
-    pub case: Case,
-    pub end: u64,
+    case: Case,
+    pub covered: Covered,
     conditions: Conditions,
-    ghost narrow: { task.now.problem.now.limits.width < 64 },
+    ghost end_fits: { EndFits task.now.problem.now.limits.width },
     ghost facts: { cases.facts ≡ task.now.problem.now.facts },
     ghost fixed: { case.fixed ≤ cases.facts },
     ghost lanes: { (j : ℕ) → j < 64 → case_of cases j ≡ values_of cases.facts case } by { Prim.hlevel props },
@@ -28,20 +29,20 @@ pub struct Follower<'a> {
 
 impl<'a> Follower<'a> {
     ghost use Rattle.blocks.specs.Values.{task as task_of};
-    ghost use Rattle.lines.specs.Readers.{line_here};
+    ghost use Rattle.lines.specs.Readers.{LineStands, line_here};
     ghost use Rattle.follow.specs.Follows.{followed, line_answer};
 
     // Before the first line it stands at the case that fixes no fact, and nothing is covered.
     pub fn new(task: &'a Task<'a>) -> Follower<'a>
-        requires { task.now.problem.now.limits.width < 64 }
+        requires { EndFits task.now.problem.now.limits.width }
         ensures task { result.task.now ≡ task.entry.now }
-        ensures end { result.end ≡ 0 }
+        ensures covered { result.covered ≡ 0 }
     {
         Follower {
             task,
-            cases: Cases::none_fixed(task.problem.facts),
+            cases: Cases::first_case(task.problem.facts),
             case: Case { fixed: 0, word: 0 },
-            end: 0,
+            covered: Covered::nothing(),
             conditions: Conditions::new(),
         }
     }
@@ -50,19 +51,20 @@ impl<'a> Follower<'a> {
     // what it claims is not so.
     #[inline(always)]
     pub fn follow(&mut self, reader: ListReader) -> Result<(), Refusal>
-        requires { reader.limits ≡ self.old.task.now.problem.now.limits }
+        requires limits { reader.limits ≡ self.old.task.now.problem.now.limits }
+        requires stands { LineStands reader }
         ensures task { self.new.task.now ≡ self.old.task.now }
-        ensures line { followed result self.new.end ≡ line_answer (task_of self.old.task.now) (line_here reader.entry) reader.entry.line self.old.end }
+        ensures line { followed result self.new.covered ≡ line_answer (task_of self.old.task.now) (line_here reader.entry) reader.entry.line self.old.covered }
     {
         let line = reader.check_here(self.cases.facts)?;
         let place = reader.line as u64;
-        if line.value != self.end {
+        if !self.covered.ends_at(line.value) {
             return Err(Fault::LinePlace.at(place));
         }
-        let width = reader.limits.width as usize;
+        let width = reader.limits.width;
         let case = Case {
             fixed: line.k as usize,
-            word: word_of(width, line.value),
+            word: word_of(width as usize, line.value),
         };
         self.cases.set_case(self.case, case);
         self.case = case;
@@ -70,7 +72,7 @@ impl<'a> Follower<'a> {
         if looks.kind(0) != Some(line.kind) {
             return Err(Fault::LineClaim.at(place));
         }
-        self.end = end_of(line.value, width, case.fixed);
+        self.covered = self.covered.with(line, width);
         Ok(())
     }
 }

@@ -1,6 +1,7 @@
 // Following a case list, line by line.
 #![tactic(auto)]
 
+mod covered;
 mod follower;
 pub mod operations;
 

@@ -7,15 +7,16 @@ ghost use Rattle.model.specs.ListBytes.{lines_from, list_of};
 ghost use Rattle.model.specs.Operations.{follow_list, cover_after};
 ghost use Rattle.model.specs.Answers.{plain_answer};
 ghost use Rattle.blocks.specs.Values.{task as task_of};
+ghost use Rattle.follow.specs.Covered.{EndFits};
 ghost use Rattle.follow.specs.Follows.{lines_counted, end_of_lines};
 ghost use Rattle.follow.specs.Promise.{FollowPromised, CoverPromised};
 
+use crate::covered::Covered;
 use crate::follower::Follower;
 use blocks::{Problem, Task};
 use fields::check_header;
 use lines::ListReader;
 use model::{Block, Fault, Limits, Refusal};
-use numbers::span;
 
 // How many lines a list block has: refused if its header is wrong, or if its last line is not whole.
 fn count_lines(list: &[u8], limits: Limits) -> Result<usize, Refusal>
@@ -32,18 +33,20 @@ fn count_lines(list: &[u8], limits: Limits) -> Result<usize, Refusal>
     Ok(body / limits.line)
 }
 
-// Follows the first so many lines, one after the other: where they end together.
-fn follow_lines(task: &Task, list: &[u8], limits: Limits, count: usize) -> Result<u64, Refusal>
+// Follows the first so many lines, one after the other: what they cover together.
+fn follow_lines(task: &Task, list: &[u8], limits: Limits, count: usize) -> Result<Covered, Refusal>
     requires limits { limits ≡ task.now.problem.now.limits }
-    requires narrow { limits.width < 64 }
+    requires fits { EndFits limits.width }
     requires inside { head_bytes + limits.line * count ≤ length list.now }
     ensures { plain_answer result ≡ end_of_lines (task_of task.now) (lines_from limits list.now count head_bytes) }
 {
     let mut follower = Follower::new(task);
-    for line in 0..count {
-        follower.follow(ListReader::at(list, line, limits))?;
+    let mut reader = ListReader::new(list, limits);
+    while reader.line < count {
+        follower.follow(reader)?;
+        reader = reader.next_line();
     }
-    Ok(follower.end)
+    Ok(follower.covered)
 }
 
 // Where the cover ends after the first so many lines of a list, or after all where it has fewer: the refusals of problem and plan, those of
@@ -57,7 +60,8 @@ pub fn cover_after(problem: &[u8], plan: &[u8], list: &[u8], lines: usize) -> Re
     // the problem's limits are these, and here the compiler knows them: a line's bytes are a constant in the loop
     let limits = Limits::version1();
     let count = count_lines(list, limits)?;
-    follow_lines(&task, list, limits, lines.min(count))
+    let covered = follow_lines(&task, list, limits, lines.min(count))?;
+    Ok(covered.end())
 }
 
 // Follow a list: the refusals of problem and plan, 60 to 70, or the line count of a list that passes. After the last line the running value
@@ -66,13 +70,14 @@ pub fn follow_list(problem: &[u8], plan: &[u8], list: &[u8]) -> Result<usize, Re
     ensures answer { plain_answer result ≡ follow_list version1 problem.now plan.now list.now }
     ensures promised { FollowPromised problem.now plan.now list.now (plain_answer result) }
 {
-    // a list has fewer lines than bytes
-    let end = cover_after(problem, plan, list, list.len())?;
+    let found = Problem::read(problem)?;
+    let task = found.plan(plan)?;
+    // as in `cover_after`, these are known to the compiler
     let limits = Limits::version1();
-    let lines = (list.len() - Limits::HEAD_BYTES) / limits.line;
-    let whole = span(limits.width as usize, 0);
-    if end != whole {
-        return Err(Fault::ListEnds.at(lines as u64));
+    let count = count_lines(list, limits)?;
+    let covered = follow_lines(&task, list, limits, count)?;
+    if !covered.is_whole(limits.width) {
+        return Err(Fault::ListEnds.at(count as u64));
     }
-    Ok(lines)
+    Ok(count)
 }

@@ -44,6 +44,7 @@ impl RawLine {
         requires few { facts ≤ limits.now.facts }
         ensures line { line_read result ≡ checked limits.now.width facts number (raw_line self) }
         ensures value { IfOk result (λ l. l.value ≡ self.value) }
+        ensures within { IfOk result (λ l. l.k ≤ facts) }
     {
         let place = number as u64;
         let Ok(kind) = Kind::try_from(self.kind) else {

@@ -17,25 +17,42 @@ pub fn check_line(list: &[u8], line: usize, facts: u8, limits: &Limits) -> Resul
     requires few { facts ≤ limits.now.facts }
     ensures line { line_read result ≡ checked limits.now.width facts line (line_at limits.now list.now (head_bytes + limits.now.line * line)) }
     ensures fits { IfOk result (λ l. l.value < 2 ^ limits.now.width) }
+    ensures within { IfOk result (λ l. l.k ≤ facts) }
 {
     RawLine::read(list, line, limits).check_form(line, facts, limits)
 }
 
-// A list, by the numbers of a version, and the number of the line that the reader stands at.
+// A list, by the numbers of a version, and the number of the line that the reader stands at: the lines before it are whole.
 #[derive(Clone, Copy)]
 pub struct ListReader<'a> {
     pub list: &'a [u8],
     pub line: usize,
     pub limits: Limits,
     pub ghost sensible: { Sensible limits },
-    pub ghost inside: { head_bytes + limits.line * line + limits.line ≤ length list.now },
+    pub ghost inside: { head_bytes + limits.line * line ≤ length list.now },
 }
 
 impl<'a> ListReader<'a> {
     ghost use Rattle.lines.specs.Lines.{raw_line};
-    ghost use Rattle.lines.specs.Readers.{line_here};
+    ghost use Rattle.lines.specs.Readers.{LineStands, line_here};
 
-    // The reader that stands at a line.
+    // The reader that stands at line 0, whether or not the list has one.
+    #[inline(always)]
+    pub fn new(list: &'a [u8], limits: Limits) -> ListReader<'a>
+        requires sensible { Sensible limits }
+        requires headed { head_bytes ≤ length list.now }
+        ensures list { result.list ≡ list.entry }
+        ensures line { result.line ≡ 0 }
+        ensures limits { result.limits ≡ limits }
+    {
+        ListReader {
+            list,
+            line: 0,
+            limits,
+        }
+    }
+
+    // The reader that stands at a line of the list.
     #[inline(always)]
     pub fn at(list: &'a [u8], line: usize, limits: Limits) -> ListReader<'a>
         requires sensible { Sensible limits }
@@ -43,36 +60,44 @@ impl<'a> ListReader<'a> {
         ensures list { result.list ≡ list.entry }
         ensures line { result.line ≡ line }
         ensures limits { result.limits ≡ limits }
+        ensures stands { LineStands result }
     {
         ListReader { list, line, limits }
     }
 
-    // It goes on to the next line.
+    // It goes on past the line that it stands at.
     #[inline(always)]
     pub fn next_line(self) -> ListReader<'a>
-        requires { head_bytes + self.limits.line * (self.line + 1) + self.limits.line ≤ length self.list.now }
+        requires { LineStands self }
         ensures list { result.list ≡ self.entry.list }
         ensures line { result.line ≡ self.entry.line + 1 }
         ensures limits { result.limits ≡ self.entry.limits }
     {
-        ListReader::at(self.list, self.line + 1, self.limits)
+        ListReader {
+            list: self.list,
+            line: self.line + 1,
+            limits: self.limits,
+        }
     }
 
     // The line that it stands at, as it stands.
     #[inline(always)]
     pub fn read(&self) -> RawLine
+        requires { LineStands self.now }
         ensures line { raw_line result ≡ line_here self.now }
         ensures fits { result.value < 2 ^ self.now.limits.width }
     {
         RawLine::read(self.list, self.line, &self.limits)
     }
 
-    // The line that it stands at, over so many facts, once `check_form` has checked it.
+    // The line that it stands at, over so many facts, once `check_line` has checked its form.
     #[inline(always)]
     pub fn check_here(&self, facts: u8) -> Result<Line, Refusal>
-        requires { facts ≤ self.now.limits.facts }
+        requires stands { LineStands self.now }
+        requires few { facts ≤ self.now.limits.facts }
         ensures line { line_read result ≡ checked self.now.limits.width facts self.now.line (line_here self.now) }
         ensures fits { IfOk result (λ l. l.value < 2 ^ self.now.limits.width) }
+        ensures within { IfOk result (λ l. l.k ≤ facts) }
     {
         check_line(self.list, self.line, facts, &self.limits)
     }

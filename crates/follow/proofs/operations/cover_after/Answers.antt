@@ -26,9 +26,17 @@ returns-in_err-count c =
     let e = cover-unread _ _ (task t) read c.args.list.now c.args.lines _ c.version1-limits.ensures _ c.in_err-count.ensures.counted in
     rw (p.1, p.2) (record { answer = e; promised = cover-promised _ _ _ _ _ e })
 
+pub returns-in_err-covered : goal.returns-in_err-covered
+returns-in_err-covered c =
+    let p = err_from_is_err_and c.from_residual-in_err-covered.result c.from_residual-in_err-covered.ensures.1 in
+    let t = c.in_ok-task.task in
+    let read = read_task-from _ _ c.args.plan.now c.in_ok-found.ensures.read c.in_ok-found.ensures.limits c.in_ok-task.ensures.read in
+    let e = cover-lines _ _ (task t) read c.args.list.now c.args.lines _ c.version1-limits.ensures _ c.in_ok-count.ensures.counted _ c.min.ensures _ c.in_err-covered.ensures in
+    rw (p.1, p.2) (record { answer = e; promised = cover-promised _ _ _ _ _ e })
+
 pub returns : goal.returns
 returns c =
     let t = c.in_ok-task.task in
     let read = read_task-from _ _ c.args.plan.now c.in_ok-found.ensures.read c.in_ok-found.ensures.limits c.in_ok-task.ensures.read in
-    let e = cover-lines _ _ (task t) read c.args.list.now c.args.lines _ c.version1-limits.ensures _ c.in_ok-count.ensures.counted _ c.min.ensures _ c.follow_lines.ensures in
-    record { answer = e; promised = cover-promised _ _ _ _ _ e }
+    let e = cover-lines _ _ (task t) read c.args.list.now c.args.lines _ c.version1-limits.ensures _ c.in_ok-count.ensures.counted _ c.min.ensures _ c.in_ok-covered.ensures in
+    rw c.end.ensures (record { answer = e; promised = cover-promised _ _ _ _ _ e })

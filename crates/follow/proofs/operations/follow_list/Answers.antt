@@ -1,25 +1,48 @@
-use Rattle.std.proofs.Common.{arith}
 use Rattle.std.proofs.lemmas.Result.{err_from_is_err_and}
+use Rattle.blocks.specs.Values.{task}
 use Rattle.blocks.proofs.Promise.{of-slice}
-use Rattle.follow.proofs.Following.{has-head, follow-refused, follow-short, follow-passes}
+use Rattle.blocks.proofs.Tasks.{read_task-refused, read_task-from}
+use Rattle.follow.proofs.Following.{follow-refused, follow-unread, follow-fault, follow-short, follow-passes}
+use Rattle.follow.proofs.Lines.{not-so}
 use Rattle.follow.proofs.Promise.{follow-promised}
 use Rattle.follow.proofs.operations.follow_list.Goals as goal
 
-pub returns-in_err-end : goal.returns-in_err-end
-returns-in_err-end c =
+pub returns-in_err-found : goal.returns-in_err-found
+returns-in_err-found c =
     let p = err_from_is_err_and c.from_residual.result c.from_residual.ensures.1 in
-    let e = follow-refused _ _ _ _ c.in_err-end.ensures.answer in
+    let e = follow-refused _ _ c.args.list.now _ (read_task-refused _ _ c.args.plan.now _ c.in_err-found.ensures.read) in
     rw (p.1, p.2) (record { answer = e; promised = follow-promised _ _ _ (of-slice c.args.list.now c.type_inv.list) _ e })
 
-pub overflow_sub-lines : goal.overflow_sub-lines
-overflow_sub-lines c = has-head _ _ _ _ c.in_ok-end.ensures.answer
+pub returns-in_err-task : goal.returns-in_err-task
+returns-in_err-task c =
+    let p = err_from_is_err_and c.from_residual-in_err-task.result c.from_residual-in_err-task.ensures.1 in
+    let read = read_task-from _ _ c.args.plan.now c.in_ok-found.ensures.read c.in_ok-found.ensures.limits c.in_err-task.ensures.read in
+    let e = follow-refused _ _ c.args.list.now _ read in
+    rw (p.1, p.2) (record { answer = e; promised = follow-promised _ _ _ (of-slice c.args.list.now c.type_inv.list) _ e })
 
-pub returns-then-end-whole : goal.returns-then-end-whole
-returns-then-end-whole c =
-    let e = follow-short _ _ _ _ c.in_ok-end.ensures.answer _ c.version1-limits.ensures _ c.span-whole.ensures (omega arith) in
+pub returns-in_err-count : goal.returns-in_err-count
+returns-in_err-count c =
+    let p = err_from_is_err_and c.from_residual-in_err-count.result c.from_residual-in_err-count.ensures.1 in
+    let read = read_task-from _ _ c.args.plan.now c.in_ok-found.ensures.read c.in_ok-found.ensures.limits c.in_ok-task.ensures.read in
+    let e = follow-unread _ _ (task c.in_ok-task.task) read c.args.list.now _ c.version1-limits.ensures _ c.in_err-count.ensures.counted in
+    rw (p.1, p.2) (record { answer = e; promised = follow-promised _ _ _ (of-slice c.args.list.now c.type_inv.list) _ e })
+
+pub returns-in_err-covered : goal.returns-in_err-covered
+returns-in_err-covered c =
+    let p = err_from_is_err_and c.from_residual-in_err-covered.result c.from_residual-in_err-covered.ensures.1 in
+    let read = read_task-from _ _ c.args.plan.now c.in_ok-found.ensures.read c.in_ok-found.ensures.limits c.in_ok-task.ensures.read in
+    let e = follow-fault _ _ (task c.in_ok-task.task) read c.args.list.now _ c.version1-limits.ensures _ c.in_ok-count.ensures.counted _ c.in_err-covered.ensures in
+    rw (p.1, p.2) (record { answer = e; promised = follow-promised _ _ _ (of-slice c.args.list.now c.type_inv.list) _ e })
+
+pub returns-then-not-is_whole : goal.returns-then-not-is_whole
+returns-then-not-is_whole c =
+    let read = read_task-from _ _ c.args.plan.now c.in_ok-found.ensures.read c.in_ok-found.ensures.limits c.in_ok-task.ensures.read in
+    let e = follow-short _ _ (task c.in_ok-task.task) read c.args.list.now _ c.version1-limits.ensures _ c.in_ok-count.ensures.counted _ c.in_ok-covered.ensures (not-so c.is_whole.result c.is_whole.ensures c.if-not-is_whole.true) in
     rw c.at.ensures (record { answer = e; promised = follow-promised _ _ _ (of-slice c.args.list.now c.type_inv.list) _ e })
 
 pub returns : goal.returns
 returns c =
-    let e = follow-passes _ _ _ _ c.in_ok-end.ensures.answer _ c.version1-limits.ensures _ c.span-whole.ensures (omega arith) in
+    let read = read_task-from _ _ c.args.plan.now c.in_ok-found.ensures.read c.in_ok-found.ensures.limits c.in_ok-task.ensures.read in
+    let whole = c.is_whole.ensures.0 c.if-not-is_whole.false in
+    let e = follow-passes _ _ (task c.in_ok-task.task) read c.args.list.now _ c.version1-limits.ensures _ c.in_ok-count.ensures.counted _ c.in_ok-covered.ensures whole in
     record { answer = e; promised = follow-promised _ _ _ (of-slice c.args.list.now c.type_inv.list) _ e }
