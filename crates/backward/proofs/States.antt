@@ -4,10 +4,13 @@ use mathlib.Core.Bool.{Bool, true, false, not, ◌&&◌}
 use mathlib.Core.List.{List, [], ◌∷◌, map}
 use Prim.Native.Nat.{ℕ, zero, suc, ◌≤◌, ◌<◌}
 use native.Mathlib.Omega.{arith}
+use mir.Val.{bool_byte}
 use lib.ListN.{length, get_or, drop, length-map, get_or-map}
 use lib.Seq.{drop-cons, ext_get_or}
 use Rattle.model.specs.Kleene.{No, both, denied, is_yes, known, two, three}
-use Rattle.model.specs.Formula.{fact, denial, eval}
+use Rattle.model.specs.Formula.{fact, denial, eval, value_of}
+use Rattle.model.specs.FormulaBytes.{literal_of}
+use Rattle.model.proofs.Laws.Planes.{literal-fact}
 use Rattle.model.specs.Action.{Action, condition_of, every, sets, clears, exclusive, applicable, step}
 use Rattle.model.specs.Relevance.{states}
 use Rattle.model.specs.ProblemBytes.{action_at}
@@ -90,6 +93,15 @@ case-length c j = length-tabulate c.facts _
 pub shown-length : (c : Cases) (st : List Bool) → Shows c st → length st ≡ c.facts
 shown-length c st h = sym (length-map st known) ∙ ap length (sym h) ∙ case-length c 0
 
+-- a literal's value, where it is a fact
+pub shown-value : (c : Cases) (st : List Bool) (f : ℕ) → Shows c st → f < 64 → is_yes (value_of three (case_of c 0) (literal_of f)) ≡ get_or st f false
+shown-value c st f h l = rw (literal-fact f l, h, get_or-map known st f false) (yes-exact (get_or st f false))
+
 pub flag-known : (b : Bool) → eqb (flag b) 1 ≡ b
 flag-known true = refl
 flag-known false = refl
+
+-- a truth value's byte
+pub byte-flag : (b : Bool) → bool_byte b ≡ flag b
+byte-flag true = refl
+byte-flag false = refl

@@ -1,6 +1,6 @@
--- From the state after an action to the one before it: the facts of its effects are read from the row, one after another, and the others are
--- what they were. Assumes nothing.
-use mathlib.Core.Path.{◌≡◌, refl, sym, ◌∙◌}
+-- Between the state before an action and the one after it: the facts of its effects are put into the row, or read from it, one after another,
+-- and the others are what they were. Assumes nothing.
+use mathlib.Core.Path.{◌≡◌, refl, sym, ap, ◌∙◌}
 use mathlib.Core.Bool.{Bool, true, false, ◌&&◌, ◌||◌, not}
 use mathlib.Core.List.{List, [], ◌∷◌, map}
 use Prim.Native.Nat.{ℕ, ◌+◌, ◌<◌}
@@ -11,11 +11,11 @@ use lib.Seq.{get_or-set_same, get_or-set_other, ext_get_or}
 use lib.Dec.{eqb}
 use borrow.Author.Tests.{ne_eqb}
 use Rattle.std.proofs.lemmas.List.{map-set}
-use Rattle.model.specs.Kleene.{known, two}
-use Rattle.model.specs.Formula.{Literal, fact, denial, any, none, eval}
+use Rattle.model.specs.Kleene.{is_yes, known, two, three}
+use Rattle.model.specs.Formula.{Literal, fact, denial, any, none, eval, value_of}
 use Rattle.model.specs.Action.{Effect, Action, same_literal, next, step}
 use Rattle.model.specs.Case.{flag}
-use Rattle.model.specs.FormulaBytes.{literal_byte}
+use Rattle.model.specs.FormulaBytes.{literal_byte, literal_of}
 use Rattle.model.specs.Planes.{lane_bit}
 use Rattle.model.specs.Relevance.{fact_of, has_entry}
 use Rattle.model.proofs.Laws.Planes.{ones, bit-ones, bit-zero}
@@ -26,8 +26,8 @@ use Rattle.fields.specs.ActionBytes.{Rising}
 use Rattle.cases.specs.Lanes.{value_in}
 use Rattle.cases.specs.declared.cases.Cases.{Cases}
 use Rattle.cases.specs.Cases.{case_of}
-use Rattle.backward.specs.Rows.{Shows, AgreeElsewhere, Undoes}
-use Rattle.backward.proofs.States.{flag-known}
+use Rattle.backward.specs.Rows.{Shows, AgreeElsewhere, Redoes, Undoes}
+use Rattle.backward.proofs.States.{flag-known, shown-value}
 
 -- ---- what an action has no effect for it leaves
 
@@ -41,14 +41,7 @@ step-elsewhere n a st g l s c =
     get_d_tabulate n (next two a st) g false l ∙
     rw (without-entry (fact g) a.effects s (any none), without-entry (denial g) a.effects c (any none)) (untouched (get_or st g false))
 
--- ---- the effects one by one
-
--- a word with a row's value in every lane
-pub lane-yes : (b : ℕ) → b ≡ 1 → value_in (lane_bit 0 ones) (lane_bit 0 ones) ≡ known (eqb b 1)
-lane-yes b e = rw (bit-ones 0 (omega arith), e) refl
-
-pub lane-no : (b : ℕ) → (b ≡ 1 → ⊥) → value_in (lane_bit 0 0) (lane_bit 0 0) ≡ known (eqb b 1)
-lane-no b n = rw (bit-zero 0, ne_eqb b 1 n) refl
+-- ---- the effects one by one: from the row of the state before the action to that of the one after it
 
 declared-fact : (facts : ℕ) (m : Literal) → Declared facts m → fact_of m < facts
 declared-fact facts (fact f) d = d
@@ -58,6 +51,66 @@ declared-fact facts (denial f) d = d
 apart : (m : Literal) (f g : ℕ) → fact_of m ≡ f → (g ≡ f → ⊥) → (same_literal (fact g) m ≡ false) × (same_literal (denial g) m ≡ false)
 apart (fact h) f g e n = (ne_eqb g h (λ i. n (i ∙ e)), refl)
 apart (denial h) f g e n = (refl, ne_eqb g h (λ i. n (i ∙ e)))
+
+module _ (es : List Effect) (c : Cases) (before : List ℕ) where
+  pub record Redoing (left : List Effect) (row : List ℕ) : Type 0 where
+    pub size : length row ≡ c.facts
+    pub least : ℕ
+    pub rising : Rising c.facts least left
+    pub is :
+        (st st' : List Bool) → length st ≡ c.facts → length st' ≡ c.facts → before ≡ map flag st → AgreeElsewhere es c.facts st st' → Shows c st' →
+        (now' : List Bool) × (length now' ≡ c.facts) × (row ≡ map flag now') × AgreeElsewhere left c.facts now' st'
+
+  pub redoing-begins : (left : List Effect) → left ≡ es → Rising c.facts 0 es → length before ≡ c.facts → Redoing left before
+  redoing-begins left e ok size =
+      record { size = size; least = 0; rising = rw e ok; is = λ st st' z z' r a h. rw e (st, z, r, a) }
+
+  -- the fact of the first effect that is left
+  pub redoing-fact : (left rest : List Effect) (x : Effect) → left ≡ x ∷ rest → (row : List ℕ) (f : ℕ) → fact_of x.literal ≡ f → Redoing left row → f < c.facts
+  redoing-fact left rest x e row f of R = rw (← of) (declared-fact c.facts x.literal (rw e at R.rising).0)
+
+  pub redoing-next :
+      (left rest : List Effect) (x : Effect) → left ≡ x ∷ rest → (row : List ℕ) (f : ℕ) → fact_of x.literal ≡ f → f < 64 →
+      (b : Bool) → b ≡ is_yes (value_of three (case_of c 0) (literal_of f)) → Redoing left row → Redoing rest (set row f (flag b))
+  unfolding has_entry
+  redoing-next left rest x e row f of m b is-b R =
+      let l : f < c.facts = redoing-fact left rest x e row f of R in
+      record {
+        size = length-set row f (flag b) ∙ R.size;
+        least = literal_byte x.literal + 1;
+        rising = (rw e at R.rising).2;
+        is =
+            λ st st' z z' r a h.
+            let (now', size, held, agree) = R.is st st' z z' r a h in
+            let b-is : b ≡ get_or st' f false = is-b ∙ shown-value c st' f h m in (
+              set now' f b,
+              length-set now' f b ∙ size,
+              rw held (sym (map-set flag now' f b)),
+              λ g n s t.
+                  elim (ℕ_discrete g f) [
+                    | yes i ↦ rw i (sym b-is ∙ sym (get_or-set_same now' f b false (omega (arith, size))))
+                    | no d ↦
+                        let (p, q) = apart x.literal f g of d in
+                        agree g n (rw e (rw (p, s) refl)) (rw e (rw (q, t) refl)) ∙ sym (get_or-set_other now' f g b false d)
+                  ],
+            );
+      }
+
+  pub redoing-ends : (left : List Effect) → left ≡ [] → (row : List ℕ) → Redoing left row → Redoes es c before row
+  unfolding has_entry
+  redoing-ends left e row R st st' z z' r a h =
+      let (now', size, held, agree) = R.is st st' z z' r a h in
+      let same : now' ≡ st' = ext_get_or false now' st' (size ∙ sym z') (λ g l. sym (agree g (omega (arith, size)) (rw e refl) (rw e refl))) in
+      held ∙ ap (map flag) same
+
+-- ---- and back
+
+-- a word with a row's value in every lane
+pub lane-yes : (b : ℕ) → b ≡ 1 → value_in (lane_bit 0 ones) (lane_bit 0 ones) ≡ known (eqb b 1)
+lane-yes b e = rw (bit-ones 0 (omega arith), e) refl
+
+pub lane-no : (b : ℕ) → (b ≡ 1 → ⊥) → value_in (lane_bit 0 0) (lane_bit 0 0) ≡ known (eqb b 1)
+lane-no b n = rw (bit-zero 0, ne_eqb b 1 n) refl
 
 module _ (es : List Effect) (c : Cases) (row : List ℕ) where
   pub record Undoing (left : List Effect) (d : Cases) : Type 0 where

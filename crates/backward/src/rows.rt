@@ -3,12 +3,14 @@ ghost use Rattle.std.specs.Prelude.{◌≡◌, suc, ◌*◌, ◌≤◌, List, Bo
 ghost use Rattle.model.specs.Case.{flag};
 ghost use Rattle.fields.specs.Actions.{effects as effects_of};
 ghost use Rattle.blocks.specs.Values.{task as task_of};
-ghost use Rattle.backward.specs.Rows.{Shows, Undoes, PutsRun};
+ghost use Rattle.cases.specs.Cases.{case_of};
+ghost use Rattle.backward.specs.Rows.{Shows, Redoes, Undoes, PutsRun, TellsReached};
 
 use blocks::Task;
-use cases::Cases;
+use cases::{Cases, evaluate};
 use fields::Effects;
 use formula::Literal;
+use model::Problem;
 use step::{Conditions, obey};
 
 // The state in lane 0 becomes the row.
@@ -21,27 +23,51 @@ fn put_row(cases: &Cases, row: &mut [u8])
     }
 }
 
-// The run of the state that the cases have: its states become rows, one after another, and the last is left in the cases.
-pub fn put_run(task: &Task, cases: &mut Cases, work: &mut [u8])
+// From the row of the state before an action to that of the one after it, which lane 0 has: only facts that one of its effects sets or clears
+// may differ.
+fn put_changes(effects: Effects, cases: &Cases, row: &mut [u8])
+    requires facts { effects.facts ≡ cases.now.facts }
+    requires row { length row.old ≡ cases.now.facts }
+    ensures { Redoes (effects_of effects.entry) cases.now row.old row.new }
+{
+    // To read an effect takes as long as to write some four facts.
+    if effects.count > cases.facts / 4 {
+        return put_row(cases, row);
+    }
+    for effect in effects {
+        let fact = effect.literal.fact();
+        row[fact as usize] = cases.value(Literal::of(fact)).is_yes(0) as u8;
+    }
+}
+
+// Whether the run of the state that the cases have reaches the goal: its states become rows, one after another, and the last is left in the
+// cases.
+pub fn put_run(task: &Task, cases: &mut Cases, work: &mut [u8]) -> bool
     requires facts { cases.old.facts ≡ task.now.problem.now.facts }
     requires room { suc (length task.now.steps.now) * cases.old.facts ≤ length work.old }
     ensures facts { cases.new.facts ≡ cases.old.facts }
     ensures puts { PutsRun (task_of task.now) cases.old work.old cases.new work.new }
+    ensures tells { TellsReached (task_of task.now) (case_of cases.old 0) result }
 {
     let facts = cases.facts as usize;
     let mut conditions = Conditions::new();
+    // The row of the state in the cases, which each step changes little.
+    let mut row = [0u8; Problem::SLOTS];
+    put_row(cases, &mut row[..facts]);
     let mut at = 0;
     for i in 0..task.steps.len() {
         let next = at + facts;
-        put_row(cases, &mut work[at..next]);
-        // A run that is reached goes on.
-        let Ok(_) = obey(task.action(i), cases, &mut conditions, 1) else {
-            return;
+        work[at..next].copy_from_slice(&row[..facts]);
+        let action = task.action(i);
+        let Ok(_) = obey(action, cases, &mut conditions, 1) else {
+            return false;
         };
+        put_changes(action.effects, cases, &mut row[..facts]);
         at = next;
     }
     let end = at + facts;
-    put_row(cases, &mut work[at..end]);
+    work[at..end].copy_from_slice(&row[..facts]);
+    evaluate(task.problem.goal, cases).is_yes(0)
 }
 
 // From the state after an action to the one before it, which stands in the row, as lane 0 has them: only facts that one of its effects sets

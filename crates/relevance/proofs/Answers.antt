@@ -1,14 +1,15 @@
 -- What is refused, and what is answered of a task that was read. Assumes nothing.
-use mathlib.Core.Path.{◌≡◌, refl, sym, ap, ap₂, ◌∙◌}
+use mathlib.Core.Path.{◌≡◌, refl, sym, ap, ap₂, subst, ◌∙◌}
 use mathlib.Core.Bool.{Bool, true, false, cond}
 use mathlib.Core.List.{List, ◌++◌}
 use Prim.Native.Nat.{ℕ, suc, ◌+◌, ◌*◌, ◌≤◌}
 use native.Mathlib.Nat.{mul-le-mul_left, mul-le-mul_right, le_trans}
 use native.Mathlib.Omega.{arith}
-use lib.ListN.{length, drop}
-use lib.Seq.{sets-eq}
+use lib.ListN.{length, take, drop}
+use lib.Seq.{sets-eq, take_at}
 use lib.Dec.{ltb}
 use Rattle.std.specs.Prelude.{Result, Ok, Err}
+use Rattle.model.specs.declared.Limits.{Limits}
 use Rattle.model.specs.declared.Refusal.{Refusal}
 use Rattle.model.specs.Faults.{fault_number}
 use Rattle.model.specs.Limits.{version1, max_steps}
@@ -35,26 +36,7 @@ use Rattle.backward.specs.Rows.{Shows, WithinTask, PutsRun, TracesBack}
 use Rattle.backward.proofs.Writing.{rows_in}
 use Rattle.runs.specs.States.{HasState, StateOf}
 use Rattle.runs.proofs.States.{case-known, state-run}
-use Rattle.relevance.specs.Tracing.{ChecksRun, ChecksRoom, TracesTask}
-
--- ---- the run of a state, written down and gone through backward
-
-module _ (T : Task) (n≤w : T.facts ≤ T.width) (c d : Cases) (before after : List ℕ) (room : suc (length T.plan) * T.facts ≤ length before)
-    (P : PutsRun T c before d after) (set : FactSet) (B : TracesBack T d after set)
-    (r : ℕ) (N : (m : List Bool) → length m ≤ T.width → HasFacts set m → r ≡ number_of T.width m) where
-  pub traces-task : TracesTask T c before r after
-  unfolding relevant_to run_rows run_of
-  traces-task within s shown reaches =
-      let st = state_of T.width T.facts s in
-      let size = start-length T n≤w s in
-      let (written, last) = P st size shown reaches in
-      let has = B within st size (rows_in T.facts T.plan st size before after room written) last in
-      let z = rows-length T.facts T.plan st size in
-      let k : 0 + length (rows (states T.facts T.plan st)) ≡ work_bytes T = omega (arith, z) in (
-        N (relevant T.facts T.goal T.plan st) (omega (arith, relevant-length T.facts T.goal T.plan st, n≤w)) has,
-        written ∙ sets-eq (rows (states T.facts T.plan st)) before 0 (omega (arith, z, room)) ∙
-            ap (λ (x : ℕ). rows (states T.facts T.plan st) ++ drop x before) k,
-      )
+use Rattle.relevance.specs.Tracing.{ChecksRun, ChecksRoom, TracesRows}
 
 -- ---- the operation
 
@@ -97,6 +79,39 @@ is-reached Run.reached e = refl
 is-reached Run.missed e = cc
 is-reached (Run.blocked p) e = cc
 
+-- ---- what a run that is reached is answered with
+
+-- the number of the set
+pub traces-rows :
+    (T : Task) → T.facts ≤ T.width → (c : Cases) (rows : List ℕ) (set : FactSet) → TracesBack T c rows set →
+    (r : ℕ) → ((m : List Bool) → length m ≤ T.width → HasFacts set m → r ≡ number_of T.width m) → TracesRows T c rows r
+traces-rows T n≤w c rows set B r N within st size held last =
+    N (relevant T.facts T.goal T.plan st) (omega (arith, relevant-length T.facts T.goal T.plan st, n≤w)) (B within st size held last)
+
+-- the set of facts that the run of the state in lane 0 rests on, and the work area after it, if the run is reached
+abbrev TracesTask : Task → Cases → List ℕ → ℕ → List ℕ → Type 0
+TracesTask T c before r after =
+    (s : ℕ) → Shows c (state_of T.width T.facts s) → run_of T s ≡ Run.reached → (r ≡ relevant_to T s) × (after ≡ run_rows T s ++ drop (work_bytes T) before)
+
+-- the run of a state, written down, copied and gone through backward
+module _ (T : Task) (n≤w : T.facts ≤ T.width) (within : WithinTask T) (c d : Cases) (blank rows' : List ℕ) (fits : work_bytes T ≤ length blank)
+    (P : PutsRun T c blank d rows') (r : ℕ) (B : TracesRows T d rows' r) (before part : List ℕ) (need : ℕ)
+    (need-is : need ≡ work_bytes T) (copied : part ≡ take need rows') where
+  pub traces-task : TracesTask T c before r (part ++ drop need before)
+  unfolding relevant_to run_rows run_of
+  traces-task s shown reaches =
+      let st = state_of T.width T.facts s in
+      let size = start-length T n≤w s in
+      let (written, last) = P st size shown reaches in
+      let run' = rows (states T.facts T.plan st) in
+      let z : length run' ≡ work_bytes T = rows-length T.facts T.plan st size in
+      let held : take need rows' ≡ run' = rw (need-is, written ∙ sets-eq run' blank 0 (omega (arith, z, fits))) (take_at run' _ (work_bytes T) z) in (
+        B within st size (rows_in T.facts T.plan st size blank rows' fits written) last,
+        rw (copied ∙ held, need-is) refl,
+      )
+
+-- ---- the answer of a task that was read
+
 module _ (problem plan : List ℕ) (T : Task) (read : read_task version1 problem plan ≡ answered T) (s : ℕ) (before : List ℕ) where
   abbrev room : ℕ
   room = length before
@@ -131,10 +146,10 @@ module _ (problem plan : List ℕ) (T : Task) (read : read_task version1 problem
         pub relevant-short : (y : Refusal) → ChecksRoom need room (Err y) → Leaves problem plan s before (refusal y) before
         relevant-short y C = leaves-refused problem plan s before (fault_number y.fault) y.place (tests-room ∙ too-short (ltb room need) (fault_number y.fault) y.place C (answered T))
 
-        pub relevant-found : (v : Unit {0}) → ChecksRoom need room (Ok v) → (m : ℕ) (after : List ℕ) → WithinTask T → TracesTask T c before m after → Leaves problem plan s before (answered m) after
+        pub relevant-found : (v : Unit {0}) → ChecksRoom need room (Ok v) → (m : ℕ) (after : List ℕ) → TracesTask T c before m after → Leaves problem plan s before (answered m) after
         unfolding relevant_facts
-        relevant-found v C m after within X =
-            let (i, k) = X within s shows reaches in
+        relevant-found v C m after X =
+            let (i, k) = X s shows reaches in
             rw (tests-room ∙ has-room (ltb room need) C (answered T)) (ap answered i, k)
 
 -- ---- a task of a problem, and the bytes that its rows need
@@ -148,11 +163,12 @@ module _ (t : tasks.Task) (p : problems.Problem) (e : t.problem.now ≡ p) where
       let k : length t.steps.now + 1 ≡ suc (length (task t).plan) = omega (arith, plan-length t) in
       ap₂ (λ (x y : ℕ). x * y) k facts-is
 
-  pub need-small : length (task t).plan ≤ max_steps → (length t.steps.now + 1) * p.facts ≤ 257 * 64
-  need-small l =
+  -- the rows of a run of version 1
+  pub need-small : p.limits ≡ version1 → length (task t).plan ≤ max_steps → (length t.steps.now + 1) * p.facts ≤ 12336
+  need-small v l =
       let a : length t.steps.now + 1 ≤ 257 = omega (arith, plan-length t) in
-      let b : p.facts ≤ 64 = omega (arith, p.few_facts, p.sensible.facts) in
-      le_trans (mul-le-mul_right p.facts a) (mul-le-mul_left 257 b)
+      let few : p.facts ≤ 48 = subst (λ (F : Limits). p.facts ≤ F.facts) v p.few_facts in
+      le_trans (mul-le-mul_right p.facts a) (mul-le-mul_left 257 few)
 
   pub has-rows : (room : ℕ) → ChecksRoom ((length t.steps.now + 1) * p.facts) room (Ok tt) → suc (length t.steps.now) * p.facts ≤ room
   has-rows room C =

@@ -12,7 +12,7 @@ use Rattle.model.specs.Relevance.{work_bytes}
 use Rattle.model.specs.Operations.{Written, read_task, run_state, reached_task, relevant_facts}
 use Rattle.model.proofs.Laws.Tasks.{run_no_state}
 use Rattle.model.proofs.Laws.Tracing.{Traced, no_state, unreached, short, found, traced}
-use Rattle.model.proofs.Demands.{version1-holds}
+use Rattle.model.proofs.Guarantees.{version1-holds}
 use Rattle.relevance.specs.Promise.{RelevantPromised}
 use Rattle.relevance.proofs.Answers.{Leaves}
 

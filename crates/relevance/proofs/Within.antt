@@ -20,7 +20,7 @@ use Rattle.model.specs.WellFormed.{Bytes, Each, Formed, FormedAll, EffectsOk, Ac
 use Rattle.model.specs.Operations.{task_of, read_task}
 use Rattle.model.proofs.Laws.Truth.{or_cases}
 use Rattle.model.proofs.Laws.Tasks.{answer-then}
-use Rattle.model.proofs.Demands.{version1-holds}
+use Rattle.model.proofs.Guarantees.{version1-holds}
 use Rattle.blocks.proofs.Tasks.{step-action}
 use Rattle.backward.specs.Rows.{WithinAction, WithinTask}
 
@@ -91,6 +91,6 @@ read-within problem plan b d T h =
     answer-then h λ p e h₁.
     answer-then h₁ λ steps k h₂.
     let t : task_of version1 p steps ≡ T = cc in
-    let ok = (version1-holds.demand1.problem_sound problem b p e).0 in
-    let fine = (version1-holds.demand1.plan_sound plan d (length p.actions) steps k).0 in
+    let ok = (version1-holds.all_input.problem_sound problem b p e).0 in
+    let fine = (version1-holds.all_input.plan_sound plan d (length p.actions) steps k).0 in
     subst (λ (x : Task). WithinTask x × (length x.plan ≤ max_steps)) t (task-within p steps ok fine, task-short p steps ok fine)

@@ -27,14 +27,14 @@ pub record Rests (problem plan : List ℕ) (s : ℕ) (T : Task) (m : ℕ) (befor
   pub is_state : IsState T m
   -- a declared fact's bit in it is whether the fact matters before the run
   pub each_bit : (f : ℕ) → f < T.facts → bit T.width m f ≡ is_relevant T s f
-  -- "any other state which agrees on that set is also reached"
+  -- from any state that has the same values of these facts the goal is reached too
   pub reached_too : (t : ℕ) → IsState T t → AgreeOn T m s t → run_state version1 problem plan t ≡ answered reached
   -- the first rows hold the states of the run, and the rest is unchanged
   pub fits : work_bytes T ≤ length before
   pub holds : take (work_bytes T) after ≡ run_rows T s
   pub rest : drop (work_bytes T) after ≡ drop (work_bytes T) before
 
--- "A refused call changes no byte."
+-- a refused call leaves the work area as it was
 abbrev pub RelevantPromised : List ℕ → List ℕ → ℕ → List ℕ → Answer ℕ → List ℕ → Type 0
 RelevantPromised problem plan s before (refused n q) after = (after ≡ before) × RefusedFor problem plan s (length before) n q
 RelevantPromised problem plan s before (answered m) after = (T : Task) × Rests problem plan s T m before after

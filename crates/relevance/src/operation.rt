@@ -5,26 +5,31 @@ ghost use Rattle.model.specs.Operations.{relevant_facts};
 ghost use Rattle.model.specs.Answers.{plain_answer};
 ghost use Rattle.blocks.specs.Values.{task as task_of};
 ghost use Rattle.cases.specs.Cases.{case_of};
-ghost use Rattle.relevance.specs.Tracing.{ChecksRun, ChecksRoom, TracesTask};
+ghost use Rattle.backward.specs.Rows.{PutsRun};
+ghost use Rattle.relevance.specs.Tracing.{ChecksRun, ChecksRoom, TracesRows};
 ghost use Rattle.relevance.specs.Promise.{RelevantPromised};
 
 use backward::{put_run, trace_back};
 use blocks::{Problem, Task};
 use cases::Cases;
-use model::{Fault, Outcome, Refusal};
-use runs::{run_of_case, state_cases};
-use step::Conditions;
+use model::{Fault, Plan, Problem as Bounds, Refusal};
+use runs::state_cases;
 
-// Refuses the run of the state that the cases have, unless it reaches the goal.
-fn check_run(task: &Task, cases: &Cases) -> Result<(), Refusal>
-    requires { cases.now.facts ≡ task.now.problem.now.facts }
-    ensures { ChecksRun (task_of task.now) (case_of cases.now 0) result }
+// The rows of the longest run, of as many facts as there may be.
+const MOST_ROWS: usize = (Plan::MAX_STEPS + 1) * Bounds::MAX_FACTS as usize;
+
+// Refuses the run of the state that the cases have, unless it reaches the goal: then the rows have it, and the cases its last state.
+fn check_run(task: &Task, cases: &mut Cases, rows: &mut [u8]) -> Result<(), Refusal>
+    requires facts { cases.old.facts ≡ task.now.problem.now.facts }
+    requires room { suc (length task.now.steps.now) * cases.old.facts ≤ length rows.old }
+    ensures facts { cases.new.facts ≡ cases.old.facts }
+    ensures puts { PutsRun (task_of task.now) cases.old rows.old cases.new rows.new }
+    ensures checks { ChecksRun (task_of task.now) (case_of cases.old 0) result }
 {
-    let mut conditions = Conditions::new();
-    match run_of_case(task, cases, &mut conditions) {
-        Outcome::Reached => Ok(()),
-        Outcome::Missed | Outcome::Blocked(_) => Err(Fault::RunNotReached.at(0)),
+    if !put_run(task, cases, rows) {
+        return Err(Fault::RunNotReached.at(0));
     }
+    Ok(())
 }
 
 // Refuses less room than a run's rows need.
@@ -37,14 +42,13 @@ fn check_room(need: usize, room: usize) -> Result<(), Refusal>
     Ok(())
 }
 
-// The run of the state that the cases have, which is reached, written down and gone through backward.
-fn trace_task(task: &Task, cases: &mut Cases, work: &mut [u8]) -> u64
+// The number of the set of facts that matter before the run whose states the rows have, and whose last one the cases have.
+fn trace_rows(task: &Task, cases: &mut Cases, rows: &[u8]) -> u64
     requires facts { cases.old.facts ≡ task.now.problem.now.facts }
-    requires room { suc (length task.now.steps.now) * cases.old.facts ≤ length work.old }
-    ensures { TracesTask (task_of task.now) cases.old work.old result work.new }
+    requires room { suc (length task.now.steps.now) * cases.old.facts ≤ length rows.now }
+    ensures { TracesRows (task_of task.now) cases.old rows.now result }
 {
-    put_run(task, cases, work);
-    let relevant = trace_back(task, cases, work);
+    let relevant = trace_back(task, cases, rows);
     relevant.number_of(task.problem.limits.width)
 }
 
@@ -63,8 +67,11 @@ pub fn relevant_facts(
     let found = Problem::read(problem)?;
     let task = found.plan(plan)?;
     let mut cases = state_cases(&task, state)?;
-    check_run(&task, &cases)?;
+    // The work area may not change before the last refusal is ruled out, so the run is written down apart.
+    let mut rows = [0u8; MOST_ROWS];
+    check_run(&task, &mut cases, &mut rows)?;
     let need = (task.steps.len() + 1) * found.facts as usize;
     check_room(need, work.len())?;
-    Ok(trace_task(&task, &mut cases, work))
+    work[..need].copy_from_slice(&rows[..need]);
+    Ok(trace_rows(&task, &mut cases, &rows))
 }

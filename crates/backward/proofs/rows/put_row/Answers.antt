@@ -1,13 +1,8 @@
-use Rattle.std.proofs.Common.{◌≡◌, refl, ap, ◌∙◌, ◌<◌, Bool, true, false, arith}
+use Rattle.std.proofs.Common.{ap, ◌∙◌, ◌<◌, arith}
 use Rattle.model.specs.Kleene.{is_yes}
-use Rattle.model.specs.Case.{flag}
+use Rattle.backward.proofs.States.{byte-flag}
 use Rattle.backward.proofs.Writing.{putting-next, putting-ends}
-use mir.Val.{bool_byte}
 use Rattle.backward.proofs.rows.put_row.Goals as goal
-
-byte-flag : (b : Bool) → bool_byte b ≡ flag b
-byte-flag true = refl
-byte-flag false = refl
 
 pub loop-f-preserved : goal.loop-f-preserved
 loop-f-preserved c =

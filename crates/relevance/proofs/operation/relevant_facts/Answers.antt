@@ -1,12 +1,16 @@
-use Rattle.std.proofs.Common.{arith}
+use Rattle.std.proofs.Common.{◌≡◌, sym, ap, ◌∙◌, ℕ, List, ◌+◌, ◌*◌, ◌≤◌, suc, length, take, arith}
+use lib.ListN.{length-take}
 use Rattle.std.proofs.lemmas.Result.{err_from_is_err_and}
 use Rattle.blocks.specs.Values.{task}
 use Rattle.blocks.proofs.Promise.{of-slice}
-use Rattle.blocks.proofs.Tasks.{read_task-refused, read_task-from}
-use Rattle.relevance.proofs.Answers.{relevant-refused, relevant-no-state, relevant-unrun, relevant-short, relevant-found, need-is, need-small}
+use Rattle.blocks.proofs.Tasks.{read_task-refused, read_task-from, facts-fit}
+use Rattle.blocks.specs.declared.problem.Problem as problems
+use Rattle.model.specs.Relevance.{work_bytes}
+use Rattle.relevance.proofs.Answers.{relevant-refused, relevant-no-state, relevant-unrun, relevant-short, relevant-found, traces-task, need-is, need-small, has-rows}
 use Rattle.relevance.proofs.Promise.{relevant-promised}
 use Rattle.relevance.proofs.Within.{read-within}
 use Rattle.relevance.proofs.operation.relevant_facts.Goals as goal
+use Rattle.relevance.proofs.operation.relevant_facts.Goals.{In_ok-cases}
 
 pub returns-in_err-found : goal.returns-in_err-found
 returns-in_err-found c =
@@ -37,15 +41,22 @@ returns-in_err-check_run c =
     let t = c.in_ok-task.task in
     let k = c.in_ok-task.ensures.problem in
     let e = read_task-from _ _ c.args.plan.now c.in_ok-found.ensures.read c.in_ok-found.ensures.limits c.in_ok-task.ensures.read in
-    let l = relevant-unrun _ _ (task t) e c.args.state c.args.work.now _ c.in_ok-cases.ensures.state _ c.in_err-check_run.ensures in
+    let l = relevant-unrun _ _ (task t) e c.args.state c.args.work.now _ c.in_ok-cases.ensures.state _ c.in_err-check_run.ensures.checks in
     rw (p.1, p.2) (record { answer = l.0; buffer = l.1; promised = relevant-promised _ _ _ _ l })
 
-pub overflow_mul-need : goal.overflow_mul-need
-overflow_mul-need c =
+-- the rows of the run fit apart
+small : (c : In_ok-cases) → (length c.in_ok-task.task.steps.now + 1) * c.in_ok-found.found.facts ≤ 12336
+small c =
     let t = c.in_ok-task.task in
     let e = read_task-from _ _ c.args.plan.now c.in_ok-found.ensures.read c.in_ok-found.ensures.limits c.in_ok-task.ensures.read in
     let w = read-within _ _ (of-slice c.args.problem.now c.type_inv.problem) (of-slice c.args.plan.now c.type_inv.plan) _ e in
-    omega (arith, need-small t _ c.in_ok-task.ensures.problem w.1)
+    need-small t _ c.in_ok-task.ensures.problem c.in_ok-found.ensures.limits w.1
+
+pub overflow_mul-need : goal.overflow_mul-need
+overflow_mul-need c = omega (arith, small (goal.at.overflow_mul-need c).In_ok-cases)
+
+pub slice_bounds-rows-end : goal.slice_bounds-rows-end
+slice_bounds-rows-end c = omega (arith, small (goal.at.slice_bounds-rows-end c).In_ok-cases)
 
 pub returns-in_err-check_room : goal.returns-in_err-check_room
 returns-in_err-check_room c =
@@ -54,10 +65,46 @@ returns-in_err-check_room c =
     let k = c.in_ok-task.ensures.problem in
     let e = read_task-from _ _ c.args.plan.now c.in_ok-found.ensures.read c.in_ok-found.ensures.limits c.in_ok-task.ensures.read in
     let l =
-    relevant-short _ _ (task t) e c.args.state c.args.work.now _ c.in_ok-cases.ensures.state _ c.in_ok-check_run.ensures _
+    relevant-short _ _ (task t) e c.args.state c.args.work.now _ c.in_ok-cases.ensures.state _ c.in_ok-check_run.ensures.checks _
     (need-is t _ k) _ c.in_err-check_room.ensures
     in
     rw (p.1, p.2) (record { answer = l.0; buffer = l.1; promised = relevant-promised _ _ _ _ l })
+
+-- and of as many facts as the cases have
+facts-is : (c : In_ok-cases) → c.in_ok-cases.cases.facts ≡ c.in_ok-found.found.facts
+facts-is c = c.in_ok-cases.ensures.facts ∙ ap (λ (p : problems.Problem). p.facts) c.in_ok-task.ensures.problem
+
+fits : (c : In_ok-cases) → suc (length c.in_ok-task.task.steps.now) * c.in_ok-cases.cases.facts ≤ 12336
+fits c =
+    let k : suc (length c.in_ok-task.task.steps.now) ≡ length c.in_ok-task.task.steps.now + 1 = omega arith in
+    rw (k, facts-is c) (small c)
+
+pub check_run-requires-clause-room : goal.check_run-requires-clause-room
+check_run-requires-clause-room c = fits (goal.at.check_run-requires-clause-room c).In_ok-cases
+
+-- the part of the rows that is copied
+part :
+    (c : In_ok-cases) (rows : List ℕ) → length rows ≡ 12336 →
+    length (take ((length c.in_ok-task.task.steps.now + 1) * c.in_ok-found.found.facts) rows) ≡ (length c.in_ok-task.task.steps.now + 1) * c.in_ok-found.found.facts
+part c rows e =
+    let need = (length c.in_ok-task.task.steps.now + 1) * c.in_ok-found.found.facts in
+    omega (arith, length-take need rows, e, small c)
+
+pub slice_bounds-copy_from_slice-end-3 : goal.slice_bounds-copy_from_slice-end-3
+slice_bounds-copy_from_slice-end-3 c = sym (part (goal.at.slice_bounds-copy_from_slice-end-3 c).In_ok-cases _ c.check_run.auto.rows)
+
+pub copy_from_slice-requires : goal.copy_from_slice-requires
+copy_from_slice-requires c =
+    let t = c.in_ok-task.task in
+    let need = (length t.steps.now + 1) * c.in_ok-found.found.facts in
+    let k : suc (length t.steps.now) ≡ length t.steps.now + 1 = omega arith in
+    let room = has-rows t _ c.in_ok-task.ensures.problem _ c.in_ok-check_room.ensures in
+    omega (arith, length-take need c.args.work.now, rw k at room) ∙ sym (part (goal.at.copy_from_slice-requires c).In_ok-cases _ c.check_run.auto.rows)
+
+pub trace_rows-requires-clause-room : goal.trace_rows-requires-clause-room
+trace_rows-requires-clause-room c =
+    let l = fits (goal.at.trace_rows-requires-clause-room c).In_ok-cases in
+    rw (c.check_run.ensures.facts) (omega (arith, c.check_run.auto.rows, l))
 
 pub returns : goal.returns
 returns c =
@@ -65,8 +112,10 @@ returns c =
     let k = c.in_ok-task.ensures.problem in
     let e = read_task-from _ _ c.args.plan.now c.in_ok-found.ensures.read c.in_ok-found.ensures.limits c.in_ok-task.ensures.read in
     let w = read-within _ _ (of-slice c.args.problem.now c.type_inv.problem) (of-slice c.args.plan.now c.type_inv.plan) _ e in
+    let room : work_bytes (task t) ≤ 12336 = rw (← need-is t _ k) (small (goal.at.returns c).In_ok-cases) in
     let l =
-    relevant-found _ _ (task t) e c.args.state c.args.work.now _ c.in_ok-cases.ensures.state _ c.in_ok-check_run.ensures _
-    (need-is t _ k) _ c.in_ok-check_room.ensures _ _ w.0 c.trace_task.ensures
+    relevant-found _ _ (task t) e c.args.state c.args.work.now _ c.in_ok-cases.ensures.state _ c.in_ok-check_run.ensures.checks _
+    (need-is t _ k) _ c.in_ok-check_room.ensures _ _
+    (traces-task (task t) (facts-fit t) w.0 c.in_ok-cases.cases c.check_run.new.cases _ c.check_run.new.rows room c.check_run.ensures.puts _ c.trace_rows.ensures _ _ _ (need-is t _ k) c.copy_from_slice.ensures.after)
     in
     record { answer = l.0; buffer = l.1; promised = relevant-promised _ _ _ _ l }
