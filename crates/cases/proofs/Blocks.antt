@@ -1,15 +1,10 @@
 -- The lanes of a block: the parts of a lane are that lane with its next fact fixed, and the code's words show them. Assumes nothing.
-use mathlib.Core.Path.{◌≡◌, refl, sym, ap, ◌∙◌}
-use mathlib.Core.Bool.{Bool, true, cond, ◌&&◌}
-use mathlib.Core.List.{List, [], ◌∷◌}
-use Prim.Native.Nat.{ℕ, zero, suc, ◌+◌, ◌*◌, ◌-◌, ◌^◌, ◌≤◌, ◌<◌}
-use native.Mathlib.Omega.{arith}
+use Rattle.std.proofs.Common.{◌≡◌, refl, sym, ap, ◌∙◌, Bool, true, cond, ◌&&◌, List, [], ◌∷◌, ℕ, zero, suc, ◌+◌, ◌*◌, ◌-◌, ◌^◌, ◌≤◌, ◌<◌, arith, length, get_or, set, length-set, get_or-set_same, get_or-set_other, set-set, eqb, eqb-true, eq-eqb, ne_eqb}
 use native.Mathlib.Decide.{ℕ_discrete}
-use lib.ListN.{length, get_or, set, length-set}
-use lib.Seq.{get_or-set_same, get_or-set_other, set-get_or, set-set, set_comm}
-use lib.Dec.{eqb}
-use borrow.Author.Tests.{eqb-true, eq-eqb, ne_eqb}
+use lib.Seq.{set-get_or, set_comm}
 use Rattle.model.specs.Kleene.{Kleene, No, Unknown, Yes, known}
+use Rattle.model.specs.Action.{every}
+use Rattle.model.proofs.Laws.Conflicts.{every-at}
 use Rattle.model.specs.Planes.{lane_bit, some_bit, sure_bit, InLanes}
 use Rattle.model.proofs.Laws.Truth.{and-true}
 use Rattle.cases.specs.Facts.{fact_of, with_facts}
@@ -17,18 +12,6 @@ use Rattle.cases.specs.Blocks.{path_of, level_value, block_case}
 use Rattle.cases.proofs.Facts.{Outside, with_facts-is}
 
 -- ---- tests that are computed at every level and lane
-
--- a test at every number below n
-unfoldable every : ℕ → (ℕ → Bool) → Bool
-every zero f = true
-every (suc n) f = f n && every n f
-
-every-at : (n : ℕ) (f : ℕ → Bool) → every n f ≡ true → (i : ℕ) → i < n → f i ≡ true
-unfolding every
-every-at zero f t i h = absurd (omega arith)
-every-at (suc n) f t i h =
-    let (a, b) = and-true (f n) (every n f) t in
-    elim (ℕ_discrete i n) [ yes e ↦ rw e a | no d ↦ every-at n f b i (omega arith) ]
 
 abbrev pub some_words : List ℕ
 some_words = 0xffff0000ff00f0cb ∷ 0xff00ff00f0f0ccaf ∷ 0xf0f0f0f0ccccaaff ∷ 0xccccccccaaaaffff ∷ 0xaaaaaaaaffffffff ∷ []

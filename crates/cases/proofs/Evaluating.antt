@@ -1,13 +1,10 @@
 -- Evaluating in 64 lanes: what one turn of a loop over members makes of the lanes. Assumes nothing.
-use mathlib.Core.Path.{◌≡◌, refl, sym, ap, ◌∙◌}
-use mathlib.Core.Bool.{Bool, true, false, false≢true}
-use mathlib.Core.List.{List}
-use Prim.Native.Nat.{ℕ, zero, suc, ◌+◌, ◌-◌, ◌≤◌, ◌<◌}
-use native.Mathlib.Omega.{arith}
+use Rattle.std.proofs.Common.{◌≡◌, refl, sym, ap, ◌∙◌, Bool, true, false, List, ℕ, zero, suc, ◌+◌, ◌-◌, ◌≤◌, ◌<◌, arith}
+use mathlib.Core.Bool.{false≢true}
 use Rattle.model.specs.Kleene.{Kleene, No, Unknown, Yes, both, either, three}
 use Rattle.model.specs.Formula.{Literal, Formula, Formulas, lit, all, any, none, more, value_of, eval}
 use Rattle.model.specs.FormulaBytes.{Group, conjunction, disjunction, grouped, member_count}
-use Rattle.model.proofs.Laws.Agreement.{by_row}
+use Rattle.model.proofs.Laws.Agreement.{by_row, by-table}
 use Rattle.formula.specs.Decoding.{first, after}
 use Rattle.formula.specs.Views.{formulas, group, after_group}
 use Rattle.formula.specs.declared.formulas.Members.{Members}
@@ -37,16 +34,12 @@ same-members m g few e =
 both-assoc : (x y z : Kleene) → both x (both y z) ≡ both (both x y) z
 both-assoc No y z = refl
 both-assoc Yes y z = refl
-both-assoc Unknown No z = refl
-both-assoc Unknown Unknown z = by_row (λ z. both Unknown (both Unknown z)) (λ z. both Unknown z) refl z
-both-assoc Unknown Yes z = refl
+both-assoc Unknown y z = by-table (λ y z. both Unknown (both y z)) (λ y z. both (both Unknown y) z) refl y z
 
 either-assoc : (x y z : Kleene) → either x (either y z) ≡ either (either x y) z
 either-assoc No y z = refl
 either-assoc Yes y z = refl
-either-assoc Unknown No z = refl
-either-assoc Unknown Unknown z = by_row (λ z. either Unknown (either Unknown z)) (λ z. either Unknown z) refl z
-either-assoc Unknown Yes z = refl
+either-assoc Unknown y z = by-table (λ y z. either Unknown (either y z)) (λ y z. either (either Unknown y) z) refl y z
 
 both-no : (x y z : Kleene) → both x y ≡ No → (y ≡ No → z ≡ No) → both x z ≡ No
 both-no No y z e h = refl
@@ -185,18 +178,6 @@ Has r y = (j : ℕ) → j < 64 → met_at r j ≡ y j
 onto-has : (c : Cases) (g : Group) (x : ℕ → Kleene) (n : ℕ) (ms : Formulas) {y : ℕ → Kleene} (r : Met) → Onto c g x n ms y → Has r y → Onto c g x n ms (met_at r)
 onto-has c g x n ms r O h j l = h j l ∙ O j l
 
-pub going-stops :
-    {c : Cases} {g : Group} {x : ℕ → Kleene} {n : ℕ} {ms : Formulas} {left : ℕ} {y : ℕ → Kleene} {now : Formulas} (whole : Bool) →
-    Going c g x n ms left y now → JoinsFirst c g x (n - left) ms whole y now
-going-stops whole G = record { onto = G.onto; rest = λ w. G.rest }
-
-pub going-ends :
-    {c : Cases} {g : Group} {x : ℕ → Kleene} {n : ℕ} {ms : Formulas} {left : ℕ} {y : ℕ → Kleene} {now : Formulas} (whole : Bool) →
-    Going c g x n ms left y now → left ≤ 0 → JoinsFirst c g x n ms whole y now
-going-ends {c} {g} {x} {n} {ms} {left} whole G l =
-    let z : n - left ≡ n = omega arith in
-    record { onto = rw z at G.onto; rest = λ w. rw z at G.rest }
-
 -- what was met is what was joined
 pub joins-met :
     {c : Cases} {g : Group} {x : ℕ → Kleene} {n : ℕ} {ms : Formulas} {whole : Bool} {y : ℕ → Kleene} {now : Formulas} (r : Met) →
@@ -262,11 +243,6 @@ after-after zero m ms = rw (zero-more m) refl
 after-after (suc k) zero none = rw (suc-more k 0) refl
 after-after (suc k) (suc m) none = rw (suc-more k (suc m)) refl
 after-after (suc k) m (more a ms) = rw (suc-more k m) (after-after k m ms)
-
-pub group-joined :
-    (c : Cases) (m : Members) {x : ℕ → Kleene} (whole : Bool) (r : Met) → ((j : ℕ) → j < 64 → x j ≡ unit_value (group_of m.group)) → Joins c m x whole r →
-    GroupValue c m whole r
-group-joined c m whole r u K = record { value = onto-unit c (group_of m.group) m.count (formulas m.formulas) u K.onto; rest = K.rest }
 
 pub literals-left :
     {c : Cases} {m : Members} {x : ℕ → Kleene} {v : Value} {left : Members} → JoinsBefore c m x v left → sizes (formulas left.formulas) ≤ sizes (formulas m.formulas)

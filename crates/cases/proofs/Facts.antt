@@ -1,15 +1,7 @@
 -- Facts that change, one after the other. Assumes nothing.
-use mathlib.Core.Path.{◌≡◌, refl, sym, ap, ◌∙◌}
-use mathlib.Core.Bool.{cond}
-use mathlib.Core.List.{List}
-use Prim.Native.Nat.{ℕ, suc, ◌+◌, ◌-◌, ◌/◌, ◌^◌, ◌≤◌, ◌<◌, max}
-use native.Mathlib.Omega.{arith}
+use Rattle.std.proofs.Common.{◌≡◌, refl, sym, ap, ◌∙◌, cond, List, ℕ, suc, ◌+◌, ◌-◌, ◌/◌, ◌^◌, ◌≤◌, ◌<◌, max, arith, length, get_or, set, replicate, length-set, ext_get_or, get_or-set_same, get_or-set_other, shr-shr, eqb, ltb, lt-ltb, le-ltb}
 use native.Mathlib.Decide.{dec_le, dec_lt, ℕ_discrete}
-use lib.ListN.{length, get_or, set, replicate, length-set, length-replicate, get_or-replicate, get_or-eq_default}
-use lib.Seq.{ext_get_or, get_or-set_same, get_or-set_other}
-use lib.Pow.{shr-shr}
-use lib.Dec.{eqb, ltb}
-use borrow.Author.Tests.{lt-ltb, le-ltb}
+use lib.ListN.{length-replicate, get_or-replicate, get_or-eq_default}
 use Rattle.model.specs.Kleene.{Kleene, No, Unknown, known}
 use Rattle.model.specs.Case.{bit, case_of}
 use Rattle.model.specs.Planes.{lane_bit}

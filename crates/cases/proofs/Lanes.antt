@@ -1,17 +1,16 @@
 -- The cases of a table are those that its words hold. Assumes nothing.
-use Rattle.std.proofs.Common.{bit_and, bit_or, bit_xor, ◌≡◌, refl, true, ◌∙◌, ℕ, zero, suc, ◌+◌, ◌≤◌, ◌<◌, List, [], ◌∷◌, length, get_or, set, eqb, length-set, get_or-set_other, get_or-set_same, arith, ap}
-use borrow.Author.Tests.{lt-ltb}
+use Rattle.std.proofs.Common.{bit_and, bit_or, bit_xor, ◌≡◌, refl, sym, true, ◌∙◌, ℕ, zero, suc, ◌+◌, ◌≤◌, ◌<◌, List, length, get_or, set, eqb, length-set, get_or-set_other, get_or-set_same, arith, ap, ext_get_or, lt-ltb}
 use Rattle.model.specs.Limits.{max_facts}
 use Rattle.model.specs.Kleene.{Kleene, No, Unknown, Yes, both, either, denied, is_yes, known, three}
 use Rattle.model.specs.Formula.{Literal, fact, denial, value_of}
 use Rattle.model.specs.FormulaBytes.{is_literal, literal_of, literal_byte}
 use Rattle.model.specs.WellFormed.{Declared}
+use Rattle.model.proofs.Laws.Agreement.{by_row}
 use Rattle.model.proofs.Laws.FormulaCodec.{literal-got}
 use Rattle.model.specs.Action.{tabulate}
-use Rattle.model.specs.Planes.{lane_bit, some_bit, sure_bit, InLane, InLanes, Table}
-use Rattle.model.specs.Planes.{ones}
+use Rattle.model.specs.Planes.{lane_bit, some_bit, sure_bit, InLane, InLanes, Table, ones}
 use Rattle.model.proofs.Laws.Planes.{bit-small, bit-zero, bit-ones, all-no, all_yes, all-unknown, lane-both, lane-either, lane-denied, literal-fact, table-fact, table_same}
-use Rattle.model.proofs.Laws.Tabulate.{length-tabulate, tabulate-below}
+use Rattle.model.proofs.Laws.Tabulate.{length-tabulate, get_d_tabulate, tabulate-below}
 use Rattle.cases.specs.Words.{SetsLiteral}
 use Rattle.cases.specs.Lanes.{value_in, case_in}
 use Rattle.cases.specs.Cases.{with_literal}
@@ -27,10 +26,9 @@ consistent-in Unknown h = rw (h.is_some, h.is_sure) (omega arith)
 consistent-in Yes h = rw (h.is_some, h.is_sure) (omega arith)
 
 tabulate-all : (n : ℕ) (v : List Kleene) → length v ≡ n → tabulate n (λ f. get_or v f No) ≡ v
-tabulate-all zero [] e = refl
-tabulate-all zero (x ∷ v) e = absurd (omega arith)
-tabulate-all (suc n) [] e = absurd (omega arith)
-tabulate-all (suc n) (x ∷ v) e = ap (λ (w : List Kleene). x ∷ w) (tabulate-all n v (omega arith))
+tabulate-all n v e =
+    let size = length-tabulate n (λ f. get_or v f No) in
+    ext_get_or No _ v (size ∙ sym e) (λ g l. get_d_tabulate n _ g No (omega (arith, size)))
 
 -- every lane's case has so many facts
 abbrev pub Sized : ℕ → (ℕ → List Kleene) → Type 0
@@ -69,9 +67,7 @@ abbrev pub put : Literal → (ℕ → Kleene) → (ℕ → List Kleene) → ℕ 
 put m t case j = with_literal m (t j) (case j)
 
 denied-twice : (t : Kleene) → denied (denied t) ≡ t
-denied-twice No = refl
-denied-twice Unknown = refl
-denied-twice Yes = refl
+denied-twice t = by_row (λ t. denied (denied t)) (λ t. t) refl t
 
 module _ (facts : ℕ) (few : facts ≤ max_facts) (case : ℕ → List Kleene) (sized : Sized facts case) (t : ℕ → Kleene) where
   put-sized : (m : Literal) → Sized facts (put m t case)

@@ -1,13 +1,9 @@
 -- A table in which every fact is no, and numbers as words. Assumes nothing.
-use mathlib.Core.Path.{◌≡◌, refl, ◌∙◌}
-use mathlib.Core.List.{List, [], ◌++◌}
-use Prim.Native.Nat.{ℕ, suc, ◌+◌, ◌*◌, ◌-◌, ◌^◌, ◌≤◌, ◌<◌}
+use Rattle.std.proofs.Common.{◌≡◌, refl, ◌∙◌, List, [], ◌++◌, ℕ, suc, ◌+◌, ◌*◌, ◌-◌, ◌^◌, ◌≤◌, ◌<◌, arith, get_or, replicate, pow_pos}
 use native.Mathlib.Nat.{mul-div-mul_right}
-use native.Mathlib.Omega.{arith}
 use native.Mathlib.Decide.{dec_lt}
-use lib.ListN.{get_or, replicate, get_or-append, get_or-replicate, length-replicate, get_or-eq_default}
+use lib.ListN.{get_or-append, get_or-replicate, length-replicate, get_or-eq_default}
 use Rattle.std.proofs.lemmas.List.{get_or-append_right}
-use lib.Pow.{pow_pos}
 use Rattle.model.specs.Kleene.{Kleene, No, Yes, three}
 use Rattle.model.specs.Formula.{value_of}
 use Rattle.model.specs.FormulaBytes.{literal_of}

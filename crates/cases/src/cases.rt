@@ -34,19 +34,19 @@ impl Cases {
     ghost use Rattle.cases.specs.Cases.{case_of, value_at, with_literal, values_of, Makes};
 
     // Every lane has the case that fixes no fact.
-    pub fn none_fixed(facts: u8) -> Cases
+    pub fn first_case(facts: u8) -> Cases
         requires { facts ≤ max_facts }
         ensures facts { result.facts ≡ facts }
         ensures cases { (j : ℕ) → j < 64 → case_of result j ≡ replicate facts Unknown }
     {
-        let mut cases = Cases::all_no(facts);
+        let mut cases = Cases::empty_state(facts);
         cases.free_facts(0, facts as usize);
         cases
     }
 
     // Every lane has the state in which no fact is true.
     #[inline(always)]
-    fn all_no(facts: u8) -> Cases
+    pub fn empty_state(facts: u8) -> Cases
         requires { facts ≤ max_facts }
         ensures facts { result.facts ≡ facts }
         ensures cases { (j : ℕ) → j < 64 → case_of result j ≡ replicate facts No }
@@ -63,7 +63,7 @@ impl Cases {
         ensures facts { result.facts ≡ facts }
         ensures cases { (j : ℕ) → j < 64 → case_of result j ≡ case_numbered 64 facts facts word }
     {
-        let mut cases = Cases::all_no(facts);
+        let mut cases = Cases::empty_state(facts);
         cases.fix_bits(0, facts as usize, word);
         cases
     }

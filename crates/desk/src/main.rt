@@ -2,7 +2,8 @@
 
 #![tactic(auto)]
 
-ghost use Rattle.std.specs.Prelude.{◌≤◌, length, IfSome, IfOk};
+ghost use Rattle.std.specs.Prelude.{◌≤◌, ◌<◌, length, take, IfSome, IfOk};
+ghost use Rattle.std.specs.Io.KnownBytes.{Consumes, IsAtEnd};
 
 use model::{Plan, Problem};
 use page::write_page;
@@ -20,9 +21,11 @@ const PLAN_ROOM: usize = Plan::MAX_BYTES + 1;
 // The bytes of a path, and one after them.
 const PATH_ROOM: usize = 4096;
 
-// Reads until the file ends or buf is full: how many bytes came.
+// Reads until the file ends or buf is full: how many bytes came, which begin buf.
 fn read_file<R: Read>(file: &mut R, buf: &mut [u8]) -> io::Result<usize>
-    ensures { IfOk result (λ n. n ≤ length buf.new) }
+    ensures within { IfOk result (λ n. n ≤ length buf.new) }
+    ensures bytes { IfOk result (λ n. Consumes (R.remaining file.old) (R.remaining file.new) (take n buf.new)) }
+    ensures end { IfOk result (λ n. n < length buf.new → IsAtEnd (R.remaining file.new)) }
 {
     let mut done: usize = 0;
     while done < buf.len() {

@@ -1,6 +1,5 @@
 -- The bytes of a formula and of an action hold it. Assumes nothing.
-use Rattle.std.proofs.Common.{◌≡◌, refl, ap, ◌∙◌, ℕ, ◌+◌, ◌-◌, ◌≤◌, List, [], ◌∷◌, add-zero, length, get_or, drop, arith, true, drop-drop, get_or-drop, length-drop}
-use borrow.Author.Tests.{le-leb, eq-eqb}
+use Rattle.std.proofs.Common.{◌≡◌, refl, ap, ◌∙◌, ℕ, ◌+◌, ◌-◌, ◌≤◌, List, [], ◌∷◌, add-zero, length, get_or, drop, arith, true, drop-drop, get_or-drop, length-drop, le-leb, eq-eqb}
 use Rattle.model.specs.Limits.{max_effects}
 use Rattle.model.specs.Formula.{Formula}
 use Rattle.model.specs.Action.{Effect, Action}

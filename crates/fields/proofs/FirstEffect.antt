@@ -1,7 +1,5 @@
 -- What sound effects begin with. Assumes nothing.
-use Rattle.std.proofs.Common.{◌≡◌, refl, ap, ℕ, zero, suc, ◌+◌, ◌-◌, ◌≤◌, ◌<◌, List, ◌∷◌, length, get_or, drop, arith, sub-one, true}
-use Rattle.std.proofs.lemmas.List.{length-drop}
-use borrow.Author.Tests.{leb-true, le-leb}
+use Rattle.std.proofs.Common.{◌≡◌, refl, ap, ℕ, zero, suc, ◌+◌, ◌-◌, ◌≤◌, ◌<◌, List, ◌∷◌, length, get_or, drop, arith, sub-one, true, length-drop, leb-true, le-leb}
 use Rattle.model.specs.FormulaBytes.{is_literal, literal_of}
 use Rattle.model.proofs.Laws.FormulaCodec.{literal-got}
 use Rattle.model.proofs.Laws.Truth.{and-true, and_both}

@@ -1,17 +1,10 @@
 -- What comes after a reader, what a header that was read says, an effect, and effects one by one. Assumes nothing.
-use mathlib.Core.Path.{◌≡◌, sym, ◌∙◌, ap}
-use mathlib.Core.List.{List}
-use Prim.Native.Nat.{ℕ, ◌≤◌, suc, ◌+◌, ◌-◌, ◌<◌}
-use lib.ListN.{length, get_or}
-use borrow.Author.Tests.{leb-true, lt-ltb, le-leb}
+use Rattle.std.proofs.Common.{◌≡◌, sym, ◌∙◌, ap, List, ℕ, ◌≤◌, suc, ◌+◌, ◌-◌, ◌<◌, length, get_or, leb-true, lt-ltb, le-leb, Result, Ok, Err, true, arith}
 use Rattle.model.specs.Read.{Read, reject, got, Reader, and_then, ◌>>◌, head_bytes, header, ◌>>=◌, done, position, require, byte}
 use Rattle.model.specs.declared.Refusal.{Refusal}
 use Rattle.model.proofs.Laws.Reading.{got-inj, needed}
 use Rattle.formula.specs.Readings.{rejected, position_read, forgotten}
-use Rattle.std.specs.Prelude.{Result, Ok, Err}
 use Rattle.formula.proofs.Readers.{next-got, next-refused, then_next}
-use mathlib.Core.Bool.{true}
-use native.Mathlib.Omega.{arith}
 use native.Mathlib.Decide.{dec_lt}
 use Rattle.model.specs.Limits.{max_facts}
 use Rattle.model.specs.Formula.{Formula}

@@ -1,9 +1,7 @@
 -- What sound bytes begin with. Assumes nothing.
-use Rattle.std.proofs.Common.{◌≡◌, refl, ℕ, ◌-◌, ◌≤◌, ◌<◌, List, [], ◌∷◌, length, get_or, take, drop, arith, true}
+use Rattle.std.proofs.Common.{◌≡◌, refl, ℕ, ◌-◌, ◌≤◌, ◌<◌, List, [], ◌∷◌, length, get_or, take, drop, arith, true, length-drop, leb-true, lt-ltb, le-ltb}
 use Rattle.std.proofs.Math.Seq.{take_all}
-use Rattle.std.proofs.lemmas.List.{length-drop}
 use mathlib.Core.Bool.{false≢true}
-use borrow.Author.Tests.{leb-true, lt-ltb, le-ltb}
 use Rattle.model.specs.Formula.{Formulas, lit, none, more}
 use Rattle.model.specs.FormulaBytes.{literal_of, member_count}
 use Rattle.model.proofs.Laws.Truth.{and-true}

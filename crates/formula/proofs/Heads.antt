@@ -1,12 +1,5 @@
 -- What a formula begins with: the cases of `head` under the tests that lead to them. Assumes nothing.
-use mathlib.Core.Path.{◌≡◌, refl}
-use mathlib.Core.Bool.{Bool, true, false}
-use mathlib.Core.List.{List}
-use Prim.Native.Nat.{ℕ, ◌+◌, ◌<◌, ◌≤◌}
-use native.Mathlib.Omega.{arith}
-use lib.ListN.{get_or}
-use lib.Dec.{eqb, ltb}
-use borrow.Author.Tests.{lt-ltb, le-ltb, ne_eqb}
+use Rattle.std.proofs.Common.{◌≡◌, refl, Bool, true, false, List, ℕ, ◌+◌, ◌<◌, ◌≤◌, arith, get_or, eqb, ltb, lt-ltb, le-ltb, ne_eqb, Option, None, Some, Ok, Err}
 use Rattle.model.specs.Faults.{fault_number, refusal_at}
 use Rattle.model.specs.Marks.{group_of}
 use Rattle.model.specs.Read.{reject, Reader, and_then, done, position, require, byte, ◌>>=◌, ◌>>◌}
@@ -18,18 +11,9 @@ use Rattle.model.specs.declared.fault.Fault.TheVariants.{Member, Depth, FormulaE
 use Rattle.model.specs.declared.marks.Group.{Group}
 use Rattle.model.specs.declared.marks.Group.TheVariants.{All, Any}
 use Rattle.formula.specs.Heads.{parent_mark, Headed}
-use Rattle.std.specs.Prelude.{Option, None, Some, Ok, Err}
 use Rattle.formula.specs.declared.read.Head.TheVariants as heads
 
 -- the mark of the group g is none of the parent's
-new-mark : (g : Group) (parent : Option Group) → (Some g ≡ parent → ⊥) → eqb (mark (group_of g)) (parent_mark parent) ≡ false
-new-mark All None n = refl
-new-mark All (Some All) n = absurd (n refl)
-new-mark All (Some Any) n = refl
-new-mark Any None n = refl
-new-mark Any (Some All) n = refl
-new-mark Any (Some Any) n = absurd (n refl)
-
 new-kind : (g : Group) (parent : Option Group) → (Some g ≡ parent → ⊥) → mark (group_of g) ≡ parent_mark parent → ⊥
 new-kind All None n e = omega arith
 new-kind All (Some All) n e = n refl
@@ -37,6 +21,9 @@ new-kind All (Some Any) n e = omega arith
 new-kind Any None n e = omega arith
 new-kind Any (Some All) n e = omega arith
 new-kind Any (Some Any) n e = n refl
+
+new-mark : (g : Group) (parent : Option Group) → (Some g ≡ parent → ⊥) → eqb (mark (group_of g)) (parent_mark parent) ≡ false
+new-mark g parent n = ne_eqb _ _ (new-kind g parent n)
 
 module _ (s : List ℕ) (end facts left p : ℕ) where
   -- a group's head, its mark passed

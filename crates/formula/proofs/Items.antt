@@ -1,8 +1,5 @@
 -- One formula by its head, and the members of a group one after the other. Assumes nothing.
-use mathlib.Core.Path.{◌≡◌, refl, sym, ◌∙◌}
-use mathlib.Core.List.{List}
-use Prim.Native.Nat.{ℕ, zero, suc, ◌+◌, ◌-◌, ◌<◌, ◌≤◌}
-use native.Mathlib.Omega.{arith}
+use Rattle.std.proofs.Common.{◌≡◌, refl, sym, ◌∙◌, List, ℕ, zero, suc, ◌+◌, ◌-◌, ◌<◌, ◌≤◌, arith, Result, Ok, Err}
 use Rattle.model.specs.Formula.{more}
 use Rattle.model.specs.Read.{Read, got, and_then, done, ◌>>=◌}
 use Rattle.model.specs.FormulaBytes.{mark, grouped, members, whole, item}
@@ -11,7 +8,6 @@ use Rattle.model.specs.declared.Refusal.{Refusal}
 use Rattle.model.specs.declared.marks.Group.{Group}
 use Rattle.formula.specs.Heads.{Headed}
 use Rattle.formula.specs.Readings.{forgotten, position_read, rejected}
-use Rattle.std.specs.Prelude.{Result, Ok, Err}
 use Rattle.formula.specs.declared.read.Head.TheVariants as heads
 use Rattle.formula.proofs.Readers.{then_next, onto, then-onto}
 

@@ -1,9 +1,7 @@
 -- The literals of formulas, from their bytes: marks and counts are passed over. Assumes nothing.
-use Rattle.std.proofs.Common.{◌≡◌, refl, sym, ap, ◌∙◌, Bool, true, false, ℕ, zero, suc, ◌-◌, ◌%◌, ◌≤◌, ◌<◌, List, [], ◌∷◌, ◌++◌, length, append_assoc, eqb, cond, arith}
-use mathlib.Core.List.{append-nil}
+use Rattle.std.proofs.Common.{◌≡◌, refl, sym, ap, ◌∙◌, Bool, true, false, ℕ, zero, suc, ◌-◌, ◌%◌, ◌≤◌, ◌<◌, List, [], ◌∷◌, ◌++◌, length, append_assoc, eqb, cond, arith, append-nil, ltb, leb, ltb-true, ltb-false, le-leb, ne_eqb, eqb-true}
 use Rattle.std.proofs.lemmas.Bool.{eqb-false}
-use lib.Dec.{ltb, leb}
-use borrow.Author.Tests.{ltb-true, ltb-false, lt-leb, le-leb, ne_eqb, eqb-true}
+use borrow.Author.Tests.{lt-leb}
 use Rattle.model.specs.Formula.{Literal, Formula, Formulas, fact, denial, lit, none, more}
 use Rattle.model.specs.FormulaBytes.{Group, conjunction, disjunction, grouped, is_literal, literal_of, member_count}
 use Rattle.formula.specs.Decoding.{decode, first, after, gathered}

@@ -1,14 +1,6 @@
 -- The length field, and the whole formula after it, case by case. Assumes nothing.
-use mathlib.Core.Path.{◌≡◌, refl, sym}
-use mathlib.Core.Bool.{Bool, true, false, ◌&&◌}
-use mathlib.Core.List.{List}
-use Prim.Native.Nat.{ℕ, suc, ◌+◌, ◌*◌, ◌<◌, ◌≤◌}
-use native.Mathlib.Numerals.{add-one}
-use native.Mathlib.Omega.{arith}
-use lib.ListN.{length, get_or, take, drop}
-use lib.Seq.{drop-cons}
-use lib.Dec.{leb}
-use borrow.Author.Tests.{lt-ltb, le-ltb, le-leb, lt-leb, leb-true, leb-false}
+use Rattle.std.proofs.Common.{◌≡◌, refl, sym, Bool, true, false, ◌&&◌, List, ℕ, suc, ◌+◌, ◌*◌, ◌<◌, ◌≤◌, add-one, arith, length, get_or, take, drop, drop-cons, leb, lt-ltb, le-ltb, le-leb, leb-true, leb-false, Ok, Err}
+use borrow.Author.Tests.{lt-leb}
 use Rattle.model.specs.Limits.{max_formula_bytes, max_depth}
 use Rattle.model.specs.Read.{reject, got, Reader, and_then, done, position, require, big_endian_from, big_endian, byte, ◌>>=◌, ◌>>◌}
 use Rattle.model.specs.FormulaBytes.{item, stated, formula}
@@ -16,7 +8,6 @@ use Rattle.model.specs.Faults.{fault_number, refusal_at}
 use Rattle.model.specs.declared.Refusal.{Refusal}
 use Rattle.model.specs.declared.fault.Fault.{Fault}
 use Rattle.formula.specs.Readings.{forgotten, rejected, stated_formula, EndStated}
-use Rattle.std.specs.Prelude.{Ok, Err}
 use Rattle.formula.proofs.Readers.{then_next, onto, then-onto}
 
 two_bytes : (s : List ℕ) (p : ℕ) → p + 1 < length s → get_or s p 0 * 256 + get_or s (p + 1) 0 ≡ big_endian (take 2 (drop p s))

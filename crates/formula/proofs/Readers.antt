@@ -1,7 +1,6 @@
 -- What is known of a reader by the next position that it gives, or its refusal. Assumes nothing.
-use mathlib.Core.Path.{◌≡◌, refl}
-use Prim.Native.Nat.{ℕ}
-use native.Mathlib.Omega.{arith}
+use Rattle.std.proofs.Common.{◌≡◌, refl, ap, ◌∙◌, ℕ, Result, Err, IsErrAnd, arith}
+use Rattle.std.proofs.lemmas.Result.{err_from_is_err_and}
 use Rattle.model.specs.Read.{Read, reject, got, Reader, and_then}
 use Rattle.formula.specs.Readings.{forgotten}
 
@@ -37,3 +36,7 @@ module _ {A : Type 0} where
   unfolding forgotten
   next-refused (reject m j) n k h = cc
   next-refused (got a q) n k h = let z : ◌≡◌ {A = ℕ} 0 1 = cc in absurd (omega arith)
+
+-- what the exit of a `?` returns
+pub returned : {T E : Type 0} {e : E} (r : Result T E) → IsErrAnd r (λ y. y ≡ e) → r ≡ Err e
+returned r h = let p = err_from_is_err_and r h in p.1 ∙ ap Err p.2

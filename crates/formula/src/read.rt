@@ -67,7 +67,8 @@ impl<'a> Stated<'a> {
         if left == 0 {
             return Err(Fault::Depth.at_byte(at));
         }
-        if self.end - at < 2 {
+        let short = self.end - at < 2;
+        if short {
             return Err(cut);
         }
         Ok(Head::Group(group, self.block[at + 1]))

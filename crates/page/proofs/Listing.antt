@@ -1,10 +1,5 @@
 -- The lines of a list block, one by one. Assumes nothing.
-use mathlib.Core.Path.{◌≡◌, refl, sym, ap, ◌∙◌}
-use mathlib.Core.List.{List, ◌++◌, append_assoc, append-nil}
-use Prim.Native.Nat.{ℕ, zero, suc, ◌+◌, ◌*◌}
-use native.Mathlib.Nat.{mul-zero, mul-suc}
-use native.Mathlib.Numerals.{add-one}
-use native.Mathlib.Omega.{arith}
+use Rattle.std.proofs.Common.{◌≡◌, refl, sym, ap, ◌∙◌, List, ◌++◌, append_assoc, append-nil, ℕ, zero, suc, ◌+◌, ◌*◌, mul-zero, mul-suc, add-one, arith}
 use Rattle.model.specs.declared.Limits.{Limits}
 use Rattle.model.specs.ListBytes.{line_at, lines_from}
 use Rattle.model.specs.DeskText.{line_text, lines_text}

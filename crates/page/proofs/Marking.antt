@@ -1,16 +1,9 @@
 -- A value's marks, fact by fact. Assumes nothing.
-use mathlib.Core.Path.{◌≡◌, ap, refl}
-use mathlib.Core.Bool.{Bool, true, false, cond}
-use mathlib.Core.List.{List, [], ◌∷◌, ◌++◌}
-use Prim.Native.Nat.{ℕ, zero, suc, ◌+◌, ◌-◌, ◌/◌, ◌%◌, ◌^◌, ◌<◌}
-use native.Mathlib.Numerals.{add-one}
-use native.Mathlib.Omega.{arith}
-use lib.Dec.{ltb}
-use borrow.Author.Tests.{lt-ltb, ne_eqb}
-use Rattle.std.specs.Prelude.{Result, Ok, Err, IsOk, MatchResult}
+use Rattle.std.proofs.Common.{◌≡◌, sym, refl, Bool, true, false, cond, [], ◌∷◌, ◌++◌, ℕ, zero, suc, ◌+◌, ◌-◌, ◌/◌, ◌%◌, ◌^◌, ◌<◌, add-one, arith, ltb, lt-ltb, ne_eqb, Result, Ok, Err, IsOk, MatchResult}
 use Rattle.std.specs.Str.{IsAscii, IsUtf8}
 use Rattle.std.proofs.lemmas.Str.{IsUtf8-from_ascii}
 use Rattle.model.specs.Action.{tabulate}
+use Rattle.model.proofs.Laws.Tabulate.{tabulate-last}
 use Rattle.model.specs.Case.{bit}
 use Rattle.model.specs.DeskText.{mark, marks}
 
@@ -31,10 +24,6 @@ module _ (w k v i : ℕ) where
     by true false = omega arith
     by false b = omega arith
 
-tabulate-last : (n : ℕ) (f : ℕ → ℕ) → tabulate n f ++ (f n ∷ []) ≡ tabulate (suc n) f
-tabulate-last zero f = refl
-tabulate-last (suc n) f = ap (λ (t : List ℕ). f zero ∷ t) (tabulate-last n (λ i. f (suc i)))
-
 tabulate-ascii : (n : ℕ) (f : ℕ → ℕ) → ((i : ℕ) → f i < 128) → IsAscii (tabulate n f)
 tabulate-ascii zero f h i = omega arith
 tabulate-ascii (suc n) f h zero = h zero
@@ -44,7 +33,7 @@ module _ (w k v : ℕ) where
   -- one more mark
   pub marks-more : (n : ℕ) → marks w n k v ++ (mark w k v n ∷ []) ≡ marks w (n + 1) k v
   unfolding marks
-  marks-more n = rw add-one (tabulate-last n (mark w k v))
+  marks-more n = rw add-one (sym (tabulate-last n (mark w k v)))
 
   pub marks-text : (n : ℕ) → IsUtf8 (marks w n k v)
   unfolding marks

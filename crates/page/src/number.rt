@@ -13,7 +13,8 @@ impl fmt::Display for Decimal {
 
     fn fmt<W: fmt::Write>(&self, f: &mut fmt::Formatter<W>) -> fmt::Result {
         let n = self.0;
-        if n < 10 {
+        let is_digit = n < 10;
+        if is_digit {
             return f.write_char((b'0' + n as u8) as char);
         }
         Decimal(n / 10).fmt(f)?;

@@ -1,6 +1,5 @@
-use Rattle.std.proofs.Common.{arith}
+use Rattle.std.proofs.Common.{arith, ◌∙◌}
 use borrow.Author.Tests.{not-true}
-use Rattle.std.proofs.Common.{◌∙◌}
 use Rattle.model.proofs.Laws.Truth.{and-true}
 use Rattle.formula.proofs.Sizes.{members-fewer}
 use Rattle.cases.proofs.Evaluating.{going-begins, going-more, going-decided, joins-met, left-fewer, literal-first, group-first, literals-left, literals-then}

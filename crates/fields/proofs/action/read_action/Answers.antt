@@ -1,16 +1,14 @@
 use Rattle.std.proofs.Common.{◌∙◌, sym}
-use Rattle.std.proofs.lemmas.Result.{err_from_is_err_and}
 use Rattle.model.specs.Read.{◌>>=◌, and_then, done}
 use Rattle.model.specs.ProblemBytes.{action}
-use Rattle.formula.proofs.Readers.{next-got, then_next}
+use Rattle.formula.proofs.Readers.{next-got, then_next, returned}
 use Rattle.fields.proofs.Readers.{stays-refused}
 use Rattle.fields.proofs.action.read_action.Goals as goal
 
 pub returns-in_err-next : goal.returns-in_err-next
 unfolding action ◌>>=◌
 returns-in_err-next c =
-    let p = err_from_is_err_and c.from_residual.result c.from_residual.ensures.1 in
-    rw (p.1, p.2) (stays-refused _ _ c.in_err-next.ensures)
+    rw (returned c.from_residual.result c.from_residual.ensures.1) (stays-refused _ _ c.in_err-next.ensures)
 
 pub returns : goal.returns
 unfolding action ◌>>=◌ and_then done

@@ -1,15 +1,14 @@
 use Rattle.std.proofs.Common.{◌≡◌, ◌-◌, ◌+◌, ◌∙◌, sym, arith}
-use Rattle.std.proofs.lemmas.Result.{err_from_is_err_and}
 use Rattle.model.specs.Read.{done}
 use Rattle.model.specs.ProblemBytes.{effects}
 use Rattle.formula.specs.Readings.{forgotten}
 use Rattle.fields.proofs.Readers.{effects-refused, effects-next}
+use Rattle.formula.proofs.Readers.{returned}
 use Rattle.fields.proofs.action.read_effects.Goals as goal
 
 pub returns-in_err-next : goal.returns-in_err-next
 returns-in_err-next c =
-    let p = err_from_is_err_and c.from_residual.result c.from_residual.ensures.1 in
-    rw (p.1, p.2) (effects-refused _ _ _ _ _ (omega arith) c.in_err-next.ensures ∙ c.loop.invariant)
+    rw (returned c.from_residual.result c.from_residual.ensures.1) (effects-refused _ _ _ _ _ (omega arith) c.in_err-next.ensures ∙ c.loop.invariant)
 
 pub loop-preserved : goal.loop-preserved
 loop-preserved c =

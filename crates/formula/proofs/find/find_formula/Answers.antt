@@ -1,6 +1,5 @@
 use Rattle.std.proofs.Common.{refl, arith, sym}
-use Rattle.std.proofs.lemmas.Result.{err_from_is_err_and}
-use Rattle.formula.proofs.Readers.{next-refused}
+use Rattle.formula.proofs.Readers.{next-refused, returned}
 use Rattle.formula.proofs.Encoding.{Cut, cut}
 use Rattle.formula.proofs.find.find_formula.Goals as goal
 use Rattle.formula.proofs.find.find_formula.Goals.{In_ok-next}
@@ -10,8 +9,7 @@ found c = cut _ _ _ _ c.requires (λ i. omega (arith, c.type_inv.s i)) c.in_ok-n
 
 pub returns-in_err-next : goal.returns-in_err-next
 returns-in_err-next c =
-    let p = err_from_is_err_and c.from_residual.result c.from_residual.ensures.1 in
-    rw (p.1, p.2) (sym (next-refused _ _ _ c.in_err-next.ensures))
+    rw (returned c.from_residual.result c.from_residual.ensures.1) (sym (next-refused _ _ _ c.in_err-next.ensures))
 
 pub overflow_add-at : goal.overflow_add-at
 overflow_add-at c = let f = found (goal.at.overflow_add-at c).In_ok-next in omega (arith, f.begins, f.ends)

@@ -8,5 +8,5 @@ pub returns-clause-cases : goal.returns-clause-cases
 returns-clause-cases c =
     let a = c.args in
     λ j l.
-    c.fix_bits.ensures.cases j l ∙ ap (with_facts 0 a.facts (bits_of a.word)) (c.all_no-cases.ensures.cases j l) ∙
+    c.fix_bits.ensures.cases j l ∙ ap (with_facts 0 a.facts (bits_of a.word)) (c.empty_state-cases.ensures.cases j l) ∙
     state-fixed a.facts _ (length-replicate _ _) a.word

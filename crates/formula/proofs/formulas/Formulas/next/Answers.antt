@@ -1,5 +1,4 @@
-use Rattle.std.proofs.Common.{◌≡◌, ◌∙◌, sym, get_or}
-use borrow.Author.Tests.{eq-eqb, ne_eqb}
+use Rattle.std.proofs.Common.{◌≡◌, ◌∙◌, sym, get_or, eq-eqb, ne_eqb}
 use Rattle.formula.proofs.Decoding.{some-byte, leaf, branch}
 use Rattle.formula.specs.Decoding.{marked}
 use Rattle.model.specs.Marks.{group_of}

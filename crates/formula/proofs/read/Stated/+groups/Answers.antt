@@ -1,22 +1,19 @@
-use Rattle.std.proofs.Common.{◌+◌, refl, ◌∙◌, arith}
-use Rattle.std.specs.Prelude.{Ok, Err}
-use Rattle.std.proofs.lemmas.Result.{err_from_is_err_and}
+use Rattle.std.proofs.Common.{◌+◌, refl, ◌∙◌, arith, Ok, Err}
 use Rattle.formula.proofs.Items.{item-refused, item-literal, group-read, row_ends, row-goes, row-stops}
+use Rattle.formula.proofs.Readers.{returned}
 use Rattle.formula.proofs.read.Stated.+groups.Goals as goal
 use Rattle.formula.proofs.read.Stated.+groups.Goals.{read_all-in-Literal, read_all-in-Group-Any-default+in_ok-next-in-Group-Any-default, read_any-in-Literal, read_any-in-Group-All-default+in_ok-next-in-Group-All-default}
 
 pub read_all-returns-in_err-head_at : goal.read_all-returns-in_err-head_at
 read_all-returns-in_err-head_at t c =
-    let p = err_from_is_err_and c.from_residual.result c.from_residual.ensures.1 in
     let h = item-refused _ _ _ _ _ _ _ c.in_err-head_at.ensures in
-    rw (p.1, p.2) (row-stops _ _ _ _ _ _ _ _ _ c.loop-test.true c.loop.invariant (Err c.in_err-head_at.field-0.0) h _ refl)
+    rw (returned c.from_residual.result c.from_residual.ensures.1) (row-stops _ _ _ _ _ _ _ _ _ c.loop-test.true c.loop.invariant (Err c.in_err-head_at.field-0.0) h _ refl)
 
 -- the first member is a group, which is refused
 pub read_all-returns-in_err-next-in-Group-Any-default : goal.read_all-returns-in_err-next-in-Group-Any-default
 read_all-returns-in_err-next-in-Group-Any-default t c =
-    let p = err_from_is_err_and c.from_residual-in_err-next-in-Group-Any-default.result c.from_residual-in_err-next-in-Group-Any-default.ensures.1 in
     let h = group-read _ _ _ _ _ _ _ _ (rw (c.in-Group-Any-default.is, c.in-Group-Any-default.field-0-is) at c.in_ok-head_at.ensures) _ c.read_any.ensures in
-    rw (p.1, p.2) (row-stops _ _ _ _ _ _ _ _ _ c.loop-test.true c.loop.invariant _ h _ c.in_err-next-in-Group-Any-default.was)
+    rw (returned c.from_residual-in_err-next-in-Group-Any-default.result c.from_residual-in_err-next-in-Group-Any-default.ensures.1) (row-stops _ _ _ _ _ _ _ _ _ c.loop-test.true c.loop.invariant _ h _ c.in_err-next-in-Group-Any-default.was)
 
 -- it was read: a literal, or a group
 pub read_all-loop-preserved : goal.read_all-loop-preserved
@@ -34,16 +31,14 @@ read_all-returns t c = row_ends _ _ _ _ _ _ _ (omega arith) ∙ c.loop.invariant
 
 pub read_any-returns-in_err-head_at : goal.read_any-returns-in_err-head_at
 read_any-returns-in_err-head_at t c =
-    let p = err_from_is_err_and c.from_residual.result c.from_residual.ensures.1 in
     let h = item-refused _ _ _ _ _ _ _ c.in_err-head_at.ensures in
-    rw (p.1, p.2) (row-stops _ _ _ _ _ _ _ _ _ c.loop-test.true c.loop.invariant (Err c.in_err-head_at.field-0.0) h _ refl)
+    rw (returned c.from_residual.result c.from_residual.ensures.1) (row-stops _ _ _ _ _ _ _ _ _ c.loop-test.true c.loop.invariant (Err c.in_err-head_at.field-0.0) h _ refl)
 
 -- the first member is a group, which is refused
 pub read_any-returns-in_err-next-in-Group-All-default : goal.read_any-returns-in_err-next-in-Group-All-default
 read_any-returns-in_err-next-in-Group-All-default t c =
-    let p = err_from_is_err_and c.from_residual-in_err-next-in-Group-All-default.result c.from_residual-in_err-next-in-Group-All-default.ensures.1 in
     let h = group-read _ _ _ _ _ _ _ _ (rw (c.in-Group-All-default.is, c.in-Group-All-default.field-0-is) at c.in_ok-head_at.ensures) _ c.read_all.ensures in
-    rw (p.1, p.2) (row-stops _ _ _ _ _ _ _ _ _ c.loop-test.true c.loop.invariant _ h _ c.in_err-next-in-Group-All-default.was)
+    rw (returned c.from_residual-in_err-next-in-Group-All-default.result c.from_residual-in_err-next-in-Group-All-default.ensures.1) (row-stops _ _ _ _ _ _ _ _ _ c.loop-test.true c.loop.invariant _ h _ c.in_err-next-in-Group-All-default.was)
 
 -- it was read: a literal, or a group
 pub read_any-loop-preserved : goal.read_any-loop-preserved

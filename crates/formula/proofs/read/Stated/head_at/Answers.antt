@@ -23,8 +23,8 @@ returns-then-left-eq0 c =
     head-deep _ _ _ _ _ _ c.if-self-at.false c.is_literal.ensures c.if-is_literal.false _ c.in-Ok.ensures (λ e. search rules)
     c.at_byte-then-left-eq0.ensures c.if-left-eq0.true
 
-pub returns-then-self-at-lt2 : goal.returns-then-self-at-lt2
-returns-then-self-at-lt2 c =
+pub returns-then-short : goal.returns-then-short
+returns-then-short c =
     head-cut _ _ _ _ _ _ c.if-self-at.false c.is_literal.ensures c.if-is_literal.false _ c.in-Ok.ensures (λ e. search rules)
     c.at_byte-cut.ensures (omega arith) (omega arith)
 

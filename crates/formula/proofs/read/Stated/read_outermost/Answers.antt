@@ -1,12 +1,11 @@
 -- a formula by its head
-use Rattle.std.proofs.lemmas.Result.{err_from_is_err_and}
 use Rattle.formula.proofs.Items.{item-refused, item-literal, group-read}
+use Rattle.formula.proofs.Readers.{returned}
 use Rattle.formula.proofs.read.Stated.read_outermost.Goals as goal
 
 pub returns-in_err-head_at : goal.returns-in_err-head_at
 returns-in_err-head_at c =
-    let p = err_from_is_err_and c.from_residual.result c.from_residual.ensures.1 in
-    rw (p.1, p.2) (item-refused _ _ _ _ _ _ _ c.in_err-head_at.ensures)
+    rw (returned c.from_residual.result c.from_residual.ensures.1) (item-refused _ _ _ _ _ _ _ c.in_err-head_at.ensures)
 
 pub returns-in-Literal : goal.returns-in-Literal
 returns-in-Literal c = item-literal _ _ _ _ _ _ (rw c.in-Literal.is at c.in_ok-head_at.ensures)

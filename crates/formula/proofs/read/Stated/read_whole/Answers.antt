@@ -1,15 +1,14 @@
 -- what is left of the stated bytes is refused
 use borrow.Author.Tests.{lt-leb, le-leb}
-use Rattle.std.proofs.lemmas.Result.{err_from_is_err_and}
 use Rattle.model.specs.Read.{require}
 use Rattle.formula.specs.Readings.{forgotten}
 use Rattle.formula.proofs.Lengths.{after_refused, after_read}
+use Rattle.formula.proofs.Readers.{returned}
 use Rattle.formula.proofs.read.Stated.read_whole.Goals as goal
 
 pub returns-in_err-next : goal.returns-in_err-next
 returns-in_err-next c =
-    let p = err_from_is_err_and c.from_residual.result c.from_residual.ensures.1 in
-    rw (p.1, p.2) (after_refused _ _ _ _ _ c.in_err-next.ensures)
+    rw (returned c.from_residual.result c.from_residual.ensures.1) (after_refused _ _ _ _ _ c.in_err-next.ensures)
 
 pub returns-then-next-self : goal.returns-then-next-self
 unfolding forgotten require

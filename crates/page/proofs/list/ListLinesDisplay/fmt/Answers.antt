@@ -1,4 +1,4 @@
-use Rattle.std.proofs.Common.{rules, ap, ap₂, ◌∙◌, ◌++◌, List, ℕ}
+use Rattle.std.proofs.Common.{◌≡◌, rules, arith, ap, ap₂, ◌∙◌, ◌++◌, List, ℕ}
 use Rattle.std.proofs.Output.{has_written_of_eq, has_written_append}
 use Rattle.model.specs.ListBytes.{lines_from}
 use Rattle.model.specs.DeskText.{line_text, lines_text}
@@ -21,3 +21,8 @@ loop-number-preserved g c p =
     (ap₂ (λ (f : Facts) (l : Line). line_text f.limits f.count l) c.line.ensures.facts c.line.ensures.line) ∙
     lines-more F n c.args.self.now.list.now c.loop-number.number head_bytes)
     (has_written_append _ _ _ _ _ _ (c.loop-number.invariant p) (c.write.ensures.writes (c.loop-number.invariant p).plain (search rules)))
+
+pub returns-clause-writes : goal.returns-clause-writes
+returns-clause-writes g c p ok =
+    let all : c.loop-number.number ≡ c.args.self.now.count = omega arith in
+    rw all at (c.loop-number.invariant p)

@@ -3,7 +3,7 @@ use Rattle.std.proofs.lemmas.List.{length-replicate}
 use Rattle.model.specs.Kleene.{No}
 use Rattle.cases.proofs.Lanes.{case-in, cases-hold}
 use Rattle.cases.proofs.Tables.{no-facts}
-use Rattle.cases.proofs.cases.Cases.all_no.Goals as goal
+use Rattle.cases.proofs.cases.Cases.empty_state.Goals as goal
 
 pub invariant_of-result : goal.invariant_of-result
 invariant_of-result c =
