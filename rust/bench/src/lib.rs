@@ -1,14 +1,20 @@
 //! What the library costs: beside the same in plain Rust, over growing input, and
 //! beside SAT solvers. `rust/bench/run` runs all of it.
 
+pub mod figure;
 pub mod follow;
 pub mod growth;
 pub mod judge;
+pub mod judges;
+pub mod lengths;
 pub mod machine;
+mod pace;
 pub mod page;
 pub mod plain;
+pub mod plots;
 pub mod problems;
 pub mod ratios;
+pub mod read;
 pub mod relevance;
 pub mod sat;
 pub mod search;

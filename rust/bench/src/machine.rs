@@ -16,14 +16,21 @@ pub fn head(root: &Path) -> io::Result<String> {
     let commit = said("git", &["log", "-1", "--format=%h of %cs"], root)?;
     Ok(format!(
         "# Benchmarks\n\n\
-         Written by `rust/bench/run`; every figure is of one run of it.\n\n\
+         Written by `rust/bench/run`, as are the plots; every figure is of one run of it.\n\n\
          - Machine: {cpu}, {cores} cores, {memory}, Linux {}\n\
          - Compilers: {kit}, which compiles at -O2; {rustc}, at opt-level 3\n\
          - Commit: {commit}\n\n\
-         A time is the median of {} samples of {} ms, or of one call where that is longer, unless a table says otherwise.\n",
+         A time is the least of {} samples of {} ms; of a call that takes longer, of fewer samples of one call, {} at least. What is set side by\n\
+         side ran in one process, the samples in turn, but for the SAT solvers. A virtual machine's pace changes: for seconds on end a loop on\n\
+         registers alone can take half as long again, and so does all else. So such a loop is timed around each sample, and sampling goes on,\n\
+         for up to twice as long, until so many were taken at full pace.\n\n\
+         Each table was measured twice, one time after the other, and a figure is the lesser of two times that agree within a tenth. Where they\n\
+         did not, it was measured a third time; where no two of the three agree, the table has the least and the most. What stands in more than\n\
+         one table was measured once for all of them.\n",
         kernel.trim(),
         crate::timing::SAMPLES,
         crate::timing::SAMPLE.as_millis(),
+        crate::timing::FEWEST_SAMPLES,
     ))
 }
 

@@ -1,4 +1,20 @@
-//! Tables and figures as text.
+//! A part of the page: tables and figures as text, and plots.
+
+use crate::plots::Plot;
+
+/// What a section has for the page.
+pub struct Part {
+    pub text: String,
+    pub plots: Vec<Plot>,
+}
+
+impl Part {
+    /// A part without plots.
+    pub fn text(text: String) -> Part {
+        let plots = Vec::new();
+        Part { text, plots }
+    }
+}
 
 /// A table in Markdown; the first column is text, the others are figures.
 pub struct Table {
@@ -60,6 +76,11 @@ pub fn nanoseconds(seconds: f64) -> String {
     } else {
         whole(ns.round() as u64)
     }
+}
+
+/// Megabytes a second of this many bytes in one time.
+pub fn speed(bytes: usize, seconds: f64) -> String {
+    whole((bytes as f64 / seconds / 1e6).round() as u64)
 }
 
 /// A time in seconds, in the unit that leaves two or three digits before the

@@ -43,14 +43,7 @@ impl Measured {
 }
 
 pub fn all() -> Vec<Measured> {
-    let mut all = Vec::new();
-    for channels in [8, 12, 16] {
-        all.push(Measured::new(
-            format!("sorting {channels}"),
-            sorting::problem(channels),
-            sorting::plan(channels),
-        ));
-    }
+    let mut all = Vec::from([8, 12, 16].map(sorting));
     all.extend([8, 16].map(grid));
     for (carriages, aisles) in [(4, 3), (4, 4), (5, 4), (6, 4)] {
         all.push(store(carriages, aisles));
@@ -83,6 +76,11 @@ fn trivial() -> Measured {
         actions: Vec::new(),
     };
     Measured::new("one fact", tree, Vec::new())
+}
+
+pub fn sorting(channels: u8) -> Measured {
+    let name = format!("sorting {channels}");
+    Measured::new(name, sorting::problem(channels), sorting::plan(channels))
 }
 
 pub fn grid(side: u8) -> Measured {

@@ -7,7 +7,9 @@ use conformance::families::store::Store;
 use conformance::version::{MOST_STEPS, VERSION_1};
 use larkhammock::{raw, LONGEST_WORK};
 
-use crate::page::{nanoseconds, Table};
+use crate::figure::{agreed, Figure};
+use crate::judges::Judges;
+use crate::page::{nanoseconds, Part, Table};
 use crate::plain::relevance::relevant_facts;
 use crate::problems::{self, Measured};
 use crate::ratios::Ratios;
@@ -46,8 +48,8 @@ fn over_and_over(carriages: u8, aisles: u8) -> Measured {
     Measured::new(name, store.problem(), steps)
 }
 
-/// The best times of the library and of plain Rust, which must agree.
-fn best_times(measured: &Measured, state: u64) -> [f64; 2] {
+/// The times of the library and of plain Rust, which must agree.
+fn measure(measured: &Measured, state: u64) -> [f64; 2] {
     let Measured { problem, plan, .. } = measured;
     let work = RefCell::new([0; LONGEST_WORK]);
     let ours = |inputs: &[&[u8]]| {
@@ -68,10 +70,10 @@ fn best_times(measured: &Measured, state: u64) -> [f64; 2] {
     let plain = |inputs: &[&[u8]]| {
         let _ = black_box(plain(inputs));
     };
-    times(&inputs, [&ours, &plain]).map(|call| call.best)
+    times(&inputs, [&ours, &plain])
 }
 
-pub fn section() -> String {
+pub fn section(_: &mut Judges) -> Part {
     let mut ratios = Ratios::new("ours / plain");
     let mut table = Table::new(&[
         "problem",
@@ -83,28 +85,28 @@ pub fn section() -> String {
         "plain, a step",
         ratios.name,
     ]);
-    for (measured, state) in runs() {
-        let [ours, plain] = best_times(&measured, state);
-        let steps = measured.steps.len() as f64;
+    let runs = runs();
+    let figures = agreed(&runs, |(measured, state)| measure(measured, *state));
+    for ((measured, _), [ours, plain]) in runs.iter().zip(figures) {
+        let step = |figure: Figure| figure.each(measured.steps.len() as f64).show(nanoseconds);
         table.row(&[
             measured.name.clone(),
             measured.tree.facts.to_string(),
             measured.steps.len().to_string(),
-            nanoseconds(ours),
-            nanoseconds(plain),
-            nanoseconds(ours / steps),
-            nanoseconds(plain / steps),
-            ratios.cell(&measured.name, ours / plain),
+            ours.show(nanoseconds),
+            plain.show(nanoseconds),
+            step(ours),
+            step(plain),
+            ratios.cell(&measured.name, ours, plain),
         ]);
     }
-    format!("{ABOUT}{}{}", table.finish(), ratios.summary())
+    Part::text(format!("{ABOUT}{}{}", table.finish(), ratios.summary()))
 }
 
 const ABOUT: &str = "
 ## Relevant facts, beside plain Rust
 
-Nanoseconds a call and a step of telling which start facts a reached run rests on (W-204), reading and the states of the run included:
+Nanoseconds a call and a step of telling which start facts a reached run rests on, reading and the states of the run included:
 `larkhammock_relevant_facts` of the proved archive (ours), and one written for speed in Rust (`rust/bench/src/plain/relevance.rs`), which
 refuses alike, gives the same answers and fills the work area alike, with a word a state, a word a set, and each action taken apart once.
-Both run in one process, their samples in turn; the best of them counts.
 ";

@@ -1,6 +1,5 @@
-//! The counterexample encoding of document 004, section 6: a satisfying
-//! assignment is a start state from which the plan fails (Lemma 4). A step fails
-//! also where a fact has both conditions true.
+//! The counterexample encoding: a satisfying assignment is a start state from which
+//! the plan fails. A step fails also where a fact has both conditions true.
 
 use conformance::model::{Action, Formula, Kind, Literal, Problem};
 
@@ -29,7 +28,7 @@ pub fn encode(problem: &Problem, steps: &[u8]) -> Encoded {
     let start: Vec<Lit> = (0..problem.facts).map(|_| cnf.variable()).collect();
     let initial = cnf.formula(&problem.initial, &start);
     cnf.clauses.push(vec![initial]);
-    // "either the final state is not a goal state or one of the action is not applicable"
+    // Either the final state is not a goal state, or some action is not applicable.
     let mut fails = Vec::new();
     let mut state = start.clone();
     for step in steps {
@@ -111,7 +110,8 @@ impl Cnf {
         both.filter(|conflict| *conflict != -TRUE).collect()
     }
 
-    /// Equation 2. A fact that the action does not name keeps its variable.
+    /// A fact is true after the action where it is told so, or was true and is not
+    /// told otherwise. One that the action does not name keeps its variable.
     fn after(&mut self, conditions: &[[Lit; 2]], state: &[Lit]) -> Vec<Lit> {
         let pairs = state.iter().zip(conditions);
         pairs

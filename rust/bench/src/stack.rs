@@ -10,7 +10,8 @@ use conformance::model::{Action, Effect, Formula, Problem};
 use conformance::version::VERSION_1;
 use larkhammock::{raw, write_list, LONGEST_LIST};
 
-use crate::page::{whole, Table};
+use crate::judges::Judges;
+use crate::page::{whole, Part, Table};
 
 /// The functions of the C interface, without what their names have in common.
 const OPERATIONS: [&str; 8] = [
@@ -133,12 +134,12 @@ pub fn measured() -> Vec<(&'static str, u64)> {
     OPERATIONS.map(|name| (name, measure.stack(name))).to_vec()
 }
 
-pub fn section() -> String {
+pub fn section(_: &mut Judges) -> Part {
     let mut table = Table::new(&["call", "bytes of stack"]);
     for (operation, bytes) in measured() {
         table.row(&[operation.to_string(), whole(bytes)]);
     }
-    format!("{HEAD}{}", table.finish())
+    Part::text(format!("{HEAD}{}", table.finish()))
 }
 
 const HEAD: &str = "

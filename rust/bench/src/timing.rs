@@ -2,57 +2,63 @@
 
 use std::time::{Duration, Instant};
 
-/// How long a sample lasts at least, and how many are taken.
+use crate::pace;
+
+/// How long a sample lasts at least, how many are taken of a call, and how many of
+/// one that is so long that they would take longer than this.
 pub const SAMPLE: Duration = Duration::from_millis(10);
 pub const SAMPLES: usize = 32;
+pub const FEWEST_SAMPLES: usize = 5;
+const PATIENCE: Duration = Duration::from_secs(2);
+
+/// So many times as many samples are taken at most until enough are at full pace.
+const TRIES: usize = 2;
 
 /// What is timed: a call on inputs. Its answer goes through `black_box`.
 pub type Call<'a> = &'a dyn Fn(&[&[u8]]);
 
-/// The times of one call, in seconds.
-#[derive(Clone, Copy)]
-pub struct Times {
-    /// The least: the one with the least of everything else in it.
-    pub best: f64,
-    /// What a call takes as a rule.
-    pub median: f64,
-}
-
-/// The times of each of the calls: their samples are taken in turn, so that all
-/// see the machine alike. Where the inputs stand by chance, to the byte, can cost
-/// a third, so each sample has them elsewhere.
-pub fn times<const N: usize>(inputs: &[&[u8]], calls: [Call; N]) -> [Times; N] {
-    let counts = calls.map(|call| fill(call, inputs));
-    let mut taken = [const { Vec::new() }; N];
-    for round in 0..SAMPLES {
+/// The times of each of the calls, in seconds: of all samples the least, which has the
+/// least of everything else in it. The samples are taken in turn, so that all calls see
+/// the machine alike, until so many were taken at its full pace. Where the inputs stand by
+/// chance, to the byte, can cost a third, so each sample has them elsewhere.
+pub fn times<const N: usize>(inputs: &[&[u8]], calls: [Call; N]) -> [f64; N] {
+    let filled = calls.map(|call| fill(call, inputs));
+    let longest = filled.iter().map(|(_, time)| *time).max();
+    let wanted = samples(longest.unwrap_or(SAMPLE));
+    let mut least = [f64::INFINITY; N];
+    let mut counted = 0;
+    for round in 0..TRIES * wanted {
         let room = Room::new(inputs, round);
+        let before = pace::is_full();
         for i in 0..N {
-            let time = sample(calls[i], &room.inputs(), counts[i]);
-            taken[i].push(time.as_secs_f64() / f64::from(counts[i]));
+            let (count, _) = filled[i];
+            let time = sample(calls[i], &room.inputs(), count);
+            least[i] = least[i].min(time.as_secs_f64() / f64::from(count));
+        }
+        counted += usize::from(before && pace::is_full());
+        if counted == wanted {
+            break;
         }
     }
-    taken.map(|mut times| {
-        times.sort_by(f64::total_cmp);
-        Times {
-            best: times[0],
-            median: times[SAMPLES / 2],
-        }
-    })
+    least
 }
 
-/// What a call takes as a rule, in seconds.
-pub fn median(inputs: &[&[u8]], call: Call) -> f64 {
-    let [times] = times(inputs, [call]);
-    times.median
+/// The samples that are taken where one lasts so long.
+fn samples(sample: Duration) -> usize {
+    let affordable = PATIENCE.as_nanos() / sample.as_nanos();
+    (affordable as usize).clamp(FEWEST_SAMPLES, SAMPLES)
 }
 
-/// Calls that fill a sample.
-fn fill(call: Call, inputs: &[&[u8]]) -> u32 {
+/// Calls that fill a sample, and how long they take.
+fn fill(call: Call, inputs: &[&[u8]]) -> (u32, Duration) {
     let mut count = 1;
-    while sample(call, inputs, count) < SAMPLE {
+    loop {
+        let time = sample(call, inputs, count);
+        if time >= SAMPLE {
+            return (count, time);
+        }
         count *= 2;
     }
-    count
 }
 
 fn sample(call: Call, inputs: &[&[u8]], count: u32) -> Duration {
@@ -87,5 +93,16 @@ impl Room {
     fn inputs(&self) -> Vec<&[u8]> {
         let part = |(begin, end): &(usize, usize)| &self.bytes[*begin..*end];
         self.ends.iter().map(part).collect()
+    }
+}
+
+#[cfg(test)]
+mod tests {
+    use super::*;
+
+    #[test]
+    fn a_long_call_has_fewer_samples() {
+        let of_ms = |ms| samples(Duration::from_millis(ms));
+        assert_eq!([10, 62, 100, 1_600].map(of_ms), [32, 32, 20, 5]);
     }
 }

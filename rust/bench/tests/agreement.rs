@@ -1,17 +1,20 @@
 //! What is measured beside the library says what the library says.
 
 use std::collections::{BTreeMap, BTreeSet};
+use std::iter;
 
+use bench::follow;
+use bench::judges::library;
 use bench::plain;
 use bench::plain::search::{Plan, Search};
-use bench::problems;
+use bench::problems::{self, Measured};
 use bench::sat::{self, Cnf, Lit};
 use conformance::answer::{words, Answer};
 use conformance::gen::{damaged_case, sound_case, Rng};
 use conformance::harness::Case;
 use conformance::oracle;
 use conformance::version::VERSION_1;
-use larkhammock::{raw, Outcome, Part, Verdict};
+use larkhammock::{raw, write_list, Outcome, Part, LONGEST_LIST};
 
 type Judge = fn(&[u8], &[u8], u64) -> plain::Verdict;
 
@@ -20,37 +23,6 @@ const JUDGES: [(&str, Judge); 2] = [
     ("scalar", plain::scalar::judge),
     ("planes", plain::planes::judge),
 ];
-
-/// The library's verdict in the words of the others.
-fn library(problem: &[u8], plan: &[u8], grant: u64) -> plain::Verdict {
-    match larkhammock::judge(problem, plan, grant) {
-        Err(refusal) => plain::Verdict::Refused {
-            number: refusal.number as u8,
-            place: refusal.place as usize,
-        },
-        Ok(Verdict::Right { lines, visits }) => plain::Verdict::Right { lines, visits },
-        Ok(Verdict::Undecided { visits }) => plain::Verdict::Undecided { visits },
-        Ok(Verdict::Wrong {
-            state,
-            outcome,
-            visits,
-        }) => plain::Verdict::Wrong {
-            state,
-            outcome: match outcome {
-                Outcome::Reached => plain::Outcome::Reached,
-                Outcome::Missed => plain::Outcome::Missed,
-                Outcome::Blocked { step, part } => plain::Outcome::Blocked {
-                    step: step as usize,
-                    part: match part {
-                        Part::Member(member) => plain::Part::Member(member as usize),
-                        Part::Fact(fact) => plain::Part::Fact(fact as usize),
-                    },
-                },
-            },
-            visits,
-        },
-    }
-}
 
 /// Holds each judge in plain Rust to the library; the part that their verdict
 /// names, where it tells of a block.
@@ -89,6 +61,26 @@ fn plain_judges_judge_and_refuse_alike() {
         for part in [plain::Part::Member(number), plain::Part::Fact(number)] {
             assert!(parts.contains(&part), "{part:?} in {parts:?}");
         }
+    }
+}
+
+/// The reading in plain Rust reads and refuses what the library's does.
+#[test]
+fn plain_reading_reads_and_refuses_alike() {
+    let mut rng = Rng::new(0xbe81);
+    let mut met = BTreeSet::new();
+    for round in 0..20_000 {
+        let problem = damaged_case(&mut rng, &VERSION_1).problem;
+        let told = raw::read_problem(&problem).word;
+        let answer = match plain::read::read_problem(&problem) {
+            Ok((facts, actions)) => words(&[1, facts.into(), actions.into()]),
+            Err(refusal) => refused(refusal),
+        };
+        assert_eq!(answer, told, "round {round}");
+        met.insert(refusal_number(&told));
+    }
+    for number in iter::once(0).chain(11..26) {
+        assert!(met.contains(&number), "{number} in {met:?}");
     }
 }
 
@@ -215,8 +207,7 @@ fn holds(cnf: &Cnf, start: &[Lit], facts: &[bool]) -> bool {
     }
 }
 
-/// Lemma 4: the satisfying assignments are the counterexamples, a conflict
-/// included.
+/// The satisfying assignments are the counterexamples, a conflict included.
 #[test]
 fn satisfying_assignments_are_counterexamples() {
     let mut rng = Rng::new(0x5a7);
@@ -246,4 +237,86 @@ fn satisfying_assignments_are_counterexamples() {
     }
     let least = some.min(none).min(conflicts);
     assert!(least > 100, "{some} {none} {conflicts}");
+}
+
+type Follow = fn(&[u8], &[u8], &[u8]) -> Result<usize, plain::Refusal>;
+
+/// The followers in plain Rust.
+const FOLLOWERS: [(&str, Follow); 2] = [
+    ("a look a line", plain::follow::follow_list),
+    ("a look at 64 lines", plain::follow::follow_list_by_64),
+];
+
+/// Holds each follower in plain Rust to the library, and is the answer.
+fn follow_alike(problem: &[u8], plan: &[u8], list: &[u8], what: &str) -> Answer {
+    let told = raw::follow_list(problem, plan, list).word;
+    for (name, follow) in FOLLOWERS {
+        let answer = match follow(problem, plan, list) {
+            Ok(lines) => words(&[1, lines as u64]),
+            Err(refusal) => refused(refusal),
+        };
+        assert_eq!(answer, told, "{name}, {what}");
+    }
+    told
+}
+
+/// Sound lists, short ones, and lists of which some lines or bytes are others.
+#[test]
+fn plain_followers_follow_and_refuse_alike() {
+    let mut rng = Rng::new(0xbe7f);
+    let mut met = BTreeMap::new();
+    for round in 0..20_000 {
+        let case = mostly_sound_case(&mut rng, round);
+        let Case {
+            problem,
+            plan,
+            list,
+            ..
+        } = &case;
+        let what = format!("round {round}");
+        let told = follow_alike(problem, plan, list, &what);
+        *met.entry(refusal_number(&told)).or_insert(0) += 1;
+    }
+    for number in [0, 61, 62, 63, 64, 65, 66, 67, 68, 69, 70] {
+        assert!(met[&number] > 10, "{number} in {met:?}");
+    }
+}
+
+/// Lists of several looks at 64 lines, each with one byte another, whose first fault
+/// can be any that a line can have.
+#[test]
+fn plain_followers_follow_long_lists_alike() {
+    let mut rng = Rng::new(0xbe80);
+    let mut met = BTreeSet::new();
+    for measured in [problems::store(4, 3), problems::grid(8)] {
+        let Measured { problem, plan, .. } = &measured;
+        let mut list = vec![0; LONGEST_LIST];
+        let length = write_list(problem, plan, u64::MAX, &mut list).expect("the plan is right");
+        list.truncate(length);
+        assert!(length > 3 * 64 * 8, "{}: {length}", measured.name);
+        for round in 0..4_000 {
+            let mut other = list.clone();
+            let at = rng.below(length);
+            other[at] ^= 1 << rng.below(8);
+            let what = format!("{}, round {round}", measured.name);
+            let told = follow_alike(problem, plan, &other, &what);
+            met.insert(refusal_number(&told));
+        }
+    }
+    for number in 65..70 {
+        assert!(met.contains(&number), "{number} in {met:?}");
+    }
+}
+
+/// The longest list, and one byte more.
+#[test]
+fn plain_followers_follow_as_long_lists() {
+    let Measured { problem, plan, .. } = follow::empty_plan();
+    for (lines, more, number) in [(8_191, 0, 0), (8_190, 0, 70), (8_191, 1, 60)] {
+        let mut list = follow::first(lines);
+        list.resize(list.len() + more, 0);
+        let what = format!("{lines} lines and {more} bytes");
+        let told = follow_alike(&problem, &plan, &list, &what);
+        assert_eq!(refusal_number(&told), number, "{what}");
+    }
 }

@@ -1,10 +1,11 @@
 //! What is measured, as one would write it by hand in Rust: the judge twice, a
 //! case at a time, and 63 cases at a time on bit planes; the relevant facts of a
-//! run; and the search among short plans. All have the same reading and the
-//! library's answers, and share nothing with it.
+//! run; the search among short plans; and following a list. All have the same
+//! reading and the library's answers, and share nothing with it.
 
+pub mod follow;
 pub mod planes;
-mod read;
+pub mod read;
 pub mod relevance;
 pub mod scalar;
 pub mod search;

@@ -3,6 +3,9 @@
 pub const ALL: u8 = 0x80;
 pub const ANY: u8 = 0x81;
 
+/// What a fact's byte and that of its denial differ in.
+pub const DENIAL: u8 = 64;
+
 #[derive(Clone, Copy, Debug, PartialEq, Eq)]
 pub struct Refusal {
     pub number: u8,
@@ -11,6 +14,12 @@ pub struct Refusal {
 
 pub fn refuse<T>(number: u8, place: usize) -> Result<T, Refusal> {
     Err(Refusal { number, place })
+}
+
+/// The numbers of facts and of actions.
+pub fn read_problem(problem: &[u8]) -> Result<(u8, u8), Refusal> {
+    let task = Task::of_problem(problem)?;
+    Ok((task.facts, task.count))
 }
 
 /// A problem that was read, and the steps of its plan. A part is where its
@@ -70,7 +79,7 @@ impl<'a> Task<'a> {
 }
 
 /// The first four faults of a block: too long, too short, version, length.
-fn header(block: &[u8], most: usize, number: u8) -> Result<(), Refusal> {
+pub fn header(block: &[u8], most: usize, number: u8) -> Result<(), Refusal> {
     if block.len() > most {
         return refuse(number, most);
     }
@@ -112,8 +121,10 @@ impl Reader<'_> {
         Ok(byte)
     }
 
+    /// Whether it is a literal of a declared fact: with the bit of a denial away it is
+    /// the fact, and a group's mark is more than any.
     fn declared(&self, byte: u8) -> bool {
-        byte & 0x3f < self.facts && byte < ALL
+        byte & !DENIAL < self.facts
     }
 
     /// Passes an action; the answer is where it began.
@@ -146,25 +157,54 @@ impl Reader<'_> {
         if end > self.bytes.len() {
             return refuse(14, self.bytes.len());
         }
-        self.member(end, 0, 8)?;
+        let formula = &self.bytes[self.at..end];
+        if self.is_plain(formula) {
+            self.at = end;
+            return Ok(begin);
+        }
+        self.members(1, end, 0, 8)?;
         if self.at < end {
             return refuse(21, self.at);
         }
         Ok(begin)
     }
 
-    /// Passes one member, which stands in a group of the kind `outer` and may
-    /// hold groups so many deep.
-    fn member(&mut self, end: usize, outer: u8, deep: u8) -> Result<(), Refusal> {
+    /// Whether a formula is a literal, or a group of literals alone: most are, and are
+    /// passed at once.
+    fn is_plain(&self, formula: &[u8]) -> bool {
+        match formula {
+            [literal] => self.declared(*literal),
+            [ALL | ANY, count, members @ ..] => {
+                usize::from(*count) == members.len() && members.iter().all(|m| self.declared(*m))
+            }
+            _ => false,
+        }
+    }
+
+    /// Passes so many members of a group of the kind `outer`, which may hold groups so
+    /// many deep. A literal takes no call.
+    fn members(&mut self, count: u8, end: usize, outer: u8, deep: u8) -> Result<(), Refusal> {
+        let mut left = usize::from(count);
+        loop {
+            let rest = self.bytes[self.at..end].iter().take(left);
+            let literals = rest.take_while(|byte| self.declared(**byte)).count();
+            self.at += literals;
+            left -= literals;
+            if left == 0 {
+                return Ok(());
+            }
+            self.group(end, outer, deep)?;
+            left -= 1;
+        }
+    }
+
+    /// Passes a member that is no literal.
+    fn group(&mut self, end: usize, outer: u8, deep: u8) -> Result<(), Refusal> {
         if self.at == end {
             return refuse(20, end);
         }
-        let byte = self.bytes[self.at];
-        if self.declared(byte) {
-            self.at += 1;
-            return Ok(());
-        }
-        if (byte != ALL && byte != ANY) || byte == outer {
+        let kind = self.bytes[self.at];
+        if (kind != ALL && kind != ANY) || kind == outer {
             return refuse(18, self.at);
         }
         if deep == 0 {
@@ -173,11 +213,8 @@ impl Reader<'_> {
         if self.at + 1 == end {
             return refuse(20, end);
         }
-        let members = self.bytes[self.at + 1];
+        let count = self.bytes[self.at + 1];
         self.at += 2;
-        for _ in 0..members {
-            self.member(end, byte, deep - 1)?;
-        }
-        Ok(())
+        self.members(count, end, kind, deep - 1)
     }
 }

@@ -4,15 +4,12 @@
 use std::ops::Range;
 use std::slice::Iter;
 
-use super::read::{Refusal, Task, ALL, ANY};
+use super::read::{Refusal, Task, ALL, ANY, DENIAL};
 
 type Facts = u64;
 
 /// The bits of a state's number, of which the top one is fact 0.
 const WIDTH: u32 = 48;
-
-/// What a fact's byte and that of its denial differ in.
-const DENIAL: u8 = 64;
 
 const MOST_ACTIONS: usize = 64;
 const MOST_STEPS: usize = 256;

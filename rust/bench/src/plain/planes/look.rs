@@ -1,9 +1,9 @@
 //! A look at the case in each lane.
 
 use super::formula::{split, unmet, value};
-use super::table::{Planes, Table, DENIAL};
+use super::table::{Planes, Table};
 use super::Lanes;
-use crate::plain::read::Task;
+use crate::plain::read::{Task, DENIAL};
 use crate::plain::{Outcome, Part};
 
 /// The effects that an action has at most.
@@ -45,8 +45,32 @@ impl<'a> Look<'a> {
 
     /// The lanes whose case is closed: it is empty, or it carries.
     pub fn closed(&mut self, case: &mut Table) -> Lanes {
+        let (empty, carries) = self.kinds(case);
+        empty | carries
+    }
+
+    /// The lanes whose case is empty, and those whose case carries.
+    pub fn kinds(&mut self, case: &mut Table) -> (Lanes, Lanes) {
         let starts = value(formula(self.task, self.task.initial), case).some;
-        !starts | self.run(case, starts).unwrap_or(0)
+        (!starts, self.run(case, starts).unwrap_or(0))
+    }
+
+    /// Whether the case in every lane holds no start state.
+    pub fn is_empty(&self, case: &Table) -> bool {
+        value(formula(self.task, self.task.initial), case).some == 0
+    }
+
+    /// Whether the case in every lane is not empty, and the plan carries it.
+    pub fn carries(&mut self, case: &Table) -> bool {
+        if self.is_empty(case) {
+            return false;
+        }
+        let carried = match self.steps {
+            // Nothing writes to the case, and a copy of it is 2 KiB.
+            [] => value(formula(self.task, self.task.goal), case).sure,
+            _ => self.run(&mut case.clone(), !0).unwrap_or(0),
+        };
+        carried != 0
     }
 
     /// How the plan ends from a state.

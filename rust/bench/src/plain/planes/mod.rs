@@ -10,14 +10,15 @@ mod walk;
 use super::read::Task;
 use super::Verdict;
 
-pub use look::Room;
+pub use look::{Look, Room};
+pub use table::{Planes, Table};
 pub use walk::is_right;
 
 /// The bits of a state's number, of which the top one is fact 0.
-const WIDTH: u32 = 48;
+pub const WIDTH: u32 = 48;
 
 /// A lane a bit.
-type Lanes = u64;
+pub type Lanes = u64;
 
 pub fn judge(problem: &[u8], plan: &[u8], grant: u64) -> Verdict {
     match Task::read(problem, plan) {
