@@ -1,7 +1,7 @@
 //! What the library is held to.
 //!
-//! [`oracle`] answers every operation in the plainest way that document 01
-//! allows: it parses into a tree, enumerates states and keeps every case.
+//! [`oracle`] answers every operation in the plainest way that the
+//! specification allows: it parses into a tree, enumerates states and keeps every case.
 //! [`gen`] makes problems, plans and lists from fixed seeds, and [`harness`]
 //! compares a library's whole answers and buffers with the oracle's. [`desk`] is
 //! what the desk program prints. [`families`] are problems of any size with right

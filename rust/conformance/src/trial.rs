@@ -1,4 +1,4 @@
-//! Problem P of document 01, by its bytes, and what the desk program prints.
+//! The trial problem, by its bytes, and what the desk program prints.
 
 use crate::encode;
 use crate::harness::Case;

@@ -1,5 +1,5 @@
-//! The numbers of documents 01 and 02, written from them and taken from nowhere
-//! else: a mistake of the library's must not be one here too.
+//! The numbers of the specification, written from it and taken from nowhere else:
+//! a mistake of the library's must not be one here too.
 
 /// The bytes of a block before its body: the version and the body's length.
 pub const HEADER: usize = 5;

@@ -105,8 +105,8 @@ impl Reads {
 }
 
 #[test]
-fn the_print_of_document_01() {
-    let folder = folder("document-01");
+fn the_page_of_the_trial_problem() {
+    let folder = folder("trial");
     let problem = file(&folder, "problem", &trial::problem());
     let plan = file(&folder, "plan", &encode::plan(&[0, 1]));
     prints("P", &[problem, plan], trial::PRINT.as_bytes());

@@ -1,4 +1,4 @@
-//! Demand 3: what is written passes, what passes proves the plan right, and
+//! Certificates: what is written passes, what passes proves the plan right, and
 //! nothing shorter passes.
 
 mod support;

@@ -154,7 +154,7 @@ fn asking(action: &Action) -> Action {
     }
 }
 
-/// W-202 is as good as a precondition under the rule of document 01: the same cases
+/// That no fact is set and cleared at once is as good as a precondition: the same cases
 /// are closed, and the first false member of that precondition names the fact.
 #[test]
 fn no_conflict_is_a_precondition() {

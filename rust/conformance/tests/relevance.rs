@@ -1,4 +1,4 @@
-//! Document 02, W-204: which start facts a reached run rests on.
+//! Which start facts a reached run rests on.
 
 #[path = "cases/relevant.rs"]
 mod relevant;

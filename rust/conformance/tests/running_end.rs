@@ -1,4 +1,4 @@
-//! Document 02, W-203: the end of the cover is a running value.
+//! The end of the cover is a running value.
 
 mod support;
 mod timing;

@@ -1,4 +1,4 @@
-//! Document 02, W-205: every short plan, in order.
+//! Every short plan, in order.
 
 #[path = "cases/searched.rs"]
 mod searched;

@@ -83,7 +83,7 @@ fn agrees(name: &str, problem: &[u8], plan: &[u8]) {
 }
 
 #[test]
-fn the_print_of_document_01() {
+fn the_page_of_the_trial_problem() {
     let text = printed(&trial::problem(), &trial::with_plan(&[0, 1]).plan);
     assert_eq!(String::from_utf8_lossy(&text), trial::PRINT);
 }

@@ -1,4 +1,4 @@
-//! Every trial case of document 01, on its bytes.
+//! Every case of the trial problem, on its bytes.
 
 mod support;
 
@@ -205,7 +205,7 @@ fn any_state_can_be_run() {
     }
 }
 
-/// Where document 01 let the set condition win, the action blocks (W-202).
+/// An action that sets and clears a fact at once blocks: neither condition wins.
 #[test]
 fn to_set_and_clear_a_fact_blocks_at_step_0_fact_2() {
     let mut problem = p_tree();
@@ -227,7 +227,7 @@ fn to_set_and_clear_a_fact_blocks_at_step_0_fact_2() {
     }
 }
 
-/// W-205: of the plans up to two steps, 0, 1 is the fifth and the first right one.
+/// Of the plans up to two steps, 0, 1 is the fifth and the first right one.
 #[test]
 fn both_actions_are_found_by_a_search() {
     let search = |longest, shared_grant, named: &[u64]| {

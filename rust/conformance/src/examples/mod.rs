@@ -150,7 +150,7 @@ const INDEX: &str = "\
 
 Problems and plans for the desk program, `./larkhammock PROBLEM PLAN`:
 
-- [trial](trial/README.md): the problem of document 01
+- [trial](trial/README.md): the smallest problem that needs two steps
 - [store](store/README.md): carriages brought home after a stoppage
 - [small-store](small-store/README.md): two of them, and a search for the plan
 - [sorting](sorting/README.md): a sorting network of 8 channels

@@ -1,4 +1,4 @@
-//! P of document 01.
+//! The trial problem.
 
 use super::{Example, Trial};
 use crate::encode;
@@ -53,8 +53,7 @@ pub fn example() -> Example {
 const ABOUT: &str = "\
 # Trial
 
-The trial problem of document 01, there named P: at least one of two actions
-would do, and nobody knows which.
+At least one of two actions would do, and nobody knows which.
 
 Facts:
 

@@ -105,7 +105,7 @@ fn after(action: &Action, before: &[Value]) -> Option<Vec<Value>> {
     if !told.iter().all(|c| c.set.and(c.clear).is_no()) {
         return None;
     }
-    // Equation 2.
+    // True where it is set, and where it was true and is not cleared.
     let facts = before.iter().zip(told);
     let values = facts.map(|(value, c)| c.set.or(value.and(c.clear.denied())));
     Some(values.collect())

@@ -1,4 +1,4 @@
-//! The brute-force checker, written from documents 01 and 02 alone.
+//! The brute-force checker, written from the specification alone.
 //!
 //! It has no limit on its time or memory other than its callers' good sense:
 //! the walk is as long as the grant lets it be.

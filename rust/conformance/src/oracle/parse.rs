@@ -1,4 +1,4 @@
-//! Blocks to trees, each fault looked for in document 01's order.
+//! Blocks to trees, each fault looked for in the specification's order.
 
 use super::Refusal;
 use crate::model::{Action, Effect, Formula, Kind, Line, Literal, Problem};

@@ -1,4 +1,4 @@
-//! Document 02, W-204: which start facts a reached run rests on.
+//! Which start facts a reached run rests on.
 
 use std::collections::BTreeSet;
 
@@ -25,7 +25,7 @@ pub fn conditions(action: &Action, fact: u8) -> [Option<&Formula>; 2] {
     })
 }
 
-/// "After the last step the facts named in the goal matter."
+/// After the last step, the goal's facts matter.
 pub fn relevant(task: &Task, states: &[Vec<bool>]) -> Facts {
     let goal = named(&task.problem.goal);
     // The last state is before no step, and falls away.
@@ -33,9 +33,9 @@ pub fn relevant(task: &Task, states: &[Vec<bool>]) -> Facts {
     steps.fold(goal, |after, (action, state)| before(action, state, &after))
 }
 
-/// "Before a step, these matter: all facts named in its precondition; all named in
-/// both conditions of a fact that has set and clear entries; and for each fact that
-/// mattered after the step" those that come in its place.
+/// What matters before a step: the facts of its precondition, those of both conditions
+/// of a fact that has entries to set and to clear it, and what comes in the place of
+/// each fact that matters after it.
 fn before(action: &Action, state: &[bool], after: &Facts) -> Facts {
     let mut facts = named(&action.precondition);
     for fact in 0..state.len() as u8 {
@@ -49,8 +49,8 @@ fn before(action: &Action, state: &[bool], after: &Facts) -> Facts {
     facts
 }
 
-/// "the facts of its set condition if that was true, otherwise the fact itself and
-/// the facts of both its conditions"
+/// Of a fact that was surely set, the facts of its set condition; of any other, itself
+/// and the facts of both its conditions.
 fn in_place_of(fact: u8, action: &Action, state: &[bool]) -> Facts {
     match conditions(action, fact) {
         [Some(set), _] if holds(set, state) => named(set),

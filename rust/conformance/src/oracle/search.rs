@@ -1,4 +1,4 @@
-//! Document 02, W-205: every short plan, in order.
+//! Every short plan, in order.
 
 use super::{verdict, walk, Refusal, Task, Verdict};
 use crate::model::Problem;
@@ -11,8 +11,7 @@ pub enum Search {
     Undecided { plan: Vec<u8>, visits: u64 },
 }
 
-/// "43 for a length over 4 and 44 if there are more than 1,000,000 plans of those
-/// lengths"
+/// 43 for too great a length, and then 44 for too many plans.
 pub fn refused(actions: usize, longest: u64) -> Result<(), Refusal> {
     if longest > LONGEST_SEARCHED {
         return Refusal::at(43, 0);
@@ -29,9 +28,8 @@ fn count(actions: u64, length: u64) -> u64 {
     actions.pow(length as u32)
 }
 
-/// "every plan up to that length, by length and then by step numbers from the first
-/// step on, each exactly once": of one length, they are the numbers of so many
-/// digits, counted up, with the actions as digits.
+/// All plans up to a length, the shorter first. Those of one length are the numbers of
+/// so many digits, counted up, with the actions as digits.
 pub fn plans(actions: usize, longest: u64) -> impl Iterator<Item = Vec<u8>> {
     let base = actions as u64;
     (0..=longest).flat_map(move |length| {
@@ -41,7 +39,7 @@ pub fn plans(actions: usize, longest: u64) -> impl Iterator<Item = Vec<u8>> {
     })
 }
 
-/// "Judge them under one shared grant of visits."
+/// The grant is for all of them: each is judged with the visits that are left.
 pub fn search(problem: Problem, longest: u64, grant: u64) -> Search {
     let mut used = 0;
     let plans = plans(problem.actions.len(), longest);

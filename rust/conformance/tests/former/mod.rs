@@ -1,4 +1,5 @@
-//! The rule of document 01, which W-202 replaced, in terms of the new one.
+//! The former rule, by which a set condition won over a clear one, in terms of the one
+//! that blocks.
 
 use conformance::model::{Action, Effect, Formula, Problem};
 use conformance::oracle::Task;

@@ -1,4 +1,4 @@
-//! Rules for what matters before a step: the one of W-204, and others that one
+//! Rules for what matters before a step: the one that is specified, and others that one
 //! could take for it.
 
 use conformance::model::{Action, Formula};

@@ -1,4 +1,4 @@
-//! Searches among short plans: the one of W-205, and others that one could take
+//! Searches among short plans: the one that is specified, and others that one could take
 //! for it.
 
 use conformance::answer::{self, words, Answer};
