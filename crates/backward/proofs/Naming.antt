@@ -1,7 +1,7 @@
 -- The facts that a formula names are those that its literals are of. Assumes nothing.
 use Rattle.std.proofs.Common.{◌≡◌, refl, sym, ap, ◌∙◌, Bool, true, false, cond, ◌||◌, ℕ, zero, suc, List, [], ◌∷◌, ◌&&◌, eqb, leb}
 use lib.Dec.{ltb}
-use Rattle.model.specs.Formula.{Literal, Formulas, lit, none, more}
+use Rattle.model.specs.Formula.{Literal, Formula, Formulas, lit, none, more}
 use Rattle.model.specs.FormulaBytes.{Group, conjunction, disjunction, grouped, literal_of, member_count}
 use Rattle.model.specs.Relevance.{fact_of, names, member_names}
 use Rattle.model.proofs.Laws.Truth.{and-true, or_assoc, or-none}
@@ -55,6 +55,10 @@ names-literals (b ∷ n ∷ s) e = by-mark (ltb b 128) refl e (names-literals (n
         Named (cond t (more (lit (literal_of b)) (decode (n ∷ s))) (gathered b n (decode s)))
     by-mark true i e h k = with-literal (literal_of b) (decode (n ∷ s)) (h e)
     by-mark false i e h k = with-group (marked b) n (decode s) (k (and-true _ _ e).1)
+
+pub literal-names : {m : Formula} {ms rest : Formulas} (l : Literal) → ms ≡ more m none → ms ≡ more (lit l) rest → (f : ℕ) → names m f ≡ eqb (fact_of l) f
+unfolding names
+literal-names {m = m} l e k f = let i : m ≡ lit l = cc in rw i refl
 
 pub formula-names :
     (s : List ℕ) → is_sound s ≡ true → member_count (decode s) ≡ 1 → (f : ℕ) → names (head (decode s)) f ≡ named_by (literals (head (decode s))) f

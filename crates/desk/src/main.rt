@@ -2,7 +2,7 @@
 
 #![tactic(auto)]
 
-ghost use Rattle.std.specs.Prelude.{◌≤◌, ◌<◌, length, take, IfSome, IfOk};
+ghost use Rattle.std.specs.Prelude.{◌≡◌, ◌≤◌, ◌<◌, [], length, take, IfSome, IfNone, IfOk};
 ghost use Rattle.std.specs.Io.KnownBytes.{Consumes, IsAtEnd};
 
 use model::{Plan, Problem};
@@ -49,12 +49,28 @@ fn load<R: Env + Files>(rt: &R, argument: usize, buf: &mut [u8]) -> Option<usize
     read_file(&mut file, buf).ok()
 }
 
+// What was read, which begins buf: nothing where no file was.
+fn begun(buf: &[u8], read: Option<usize>) -> &[u8]
+    requires { IfSome read (λ n. n ≤ length buf.now) }
+    ensures some { IfSome read (λ n. result.now ≡ take n buf.now) }
+    ensures none { IfNone read (result.now ≡ []) }
+{
+    match read {
+        Some(n) => &buf[..n],
+        None => &[],
+    }
+}
+
 fn main(rt: HostRuntime) -> io::Result<()> {
     let mut problem = [0u8; PROBLEM_ROOM];
     let mut plan = [0u8; PLAN_ROOM];
-    let problem_bytes = load(&rt, 1, &mut problem).unwrap_or(0);
-    let plan_bytes = load(&rt, 2, &mut plan).unwrap_or(0);
+    let problem_read = load(&rt, 1, &mut problem);
+    let plan_read = load(&rt, 2, &mut plan);
     let mut output = BufWriter::new(rt.alloc(), io::writer(&rt))?;
-    write_page(&mut output, &problem[..problem_bytes], &plan[..plan_bytes])?;
+    write_page(
+        &mut output,
+        begun(&problem, problem_read),
+        begun(&plan, plan_read),
+    )?;
     output.flush()
 }

@@ -88,6 +88,9 @@ impl Conditions {
         let mut i = 0;
         for e in 0..self.count {
             let cleared = self.literals[e] as usize;
+            if cleared < DENIAL {
+                continue;
+            }
             while self.literals[i] as usize + DENIAL < cleared {
                 i += 1;
             }

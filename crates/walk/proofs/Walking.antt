@@ -6,24 +6,23 @@ use mathlib.Core.Logic.{◌⊎◌, inl, inr}
 use mathlib.Core.List.{List, [], ◌∷◌, ◌++◌}
 use Prim.Native.Nat.{ℕ, zero, suc, ◌+◌, ◌*◌, ◌-◌, ◌/◌, ◌%◌, ◌^◌, ◌≤◌, ◌<◌}
 use native.Mathlib.Omega.{arith}
-use native.Mathlib.Decide.{dec_le, ℕ_discrete}
-use native.Mathlib.Nat.{pow-suc, zero-mod}
+use native.Mathlib.Decide.{dec_le}
+use native.Mathlib.Nat.{pow-suc}
 use lib.Dec.{eqb}
-use lib.ListN.{length, get_or, set, replicate, length-append}
+use lib.ListN.{length, length-append}
 use lib.Pow.{pow_pos, pow_mono}
 use borrow.Author.Tests.{eq-eqb, ne_eqb}
-use Rattle.std.specs.Prelude.{Option, None, Some, Result, Ok, Err, IsTrue, ◌↔◌}
-use Rattle.model.specs.Kleene.{Kleene, No, Unknown, Yes, three}
+use Rattle.std.specs.Prelude.{Some, Result, Ok, Err, IsTrue, ◌↔◌}
+use Rattle.model.specs.Kleene.{Kleene, three}
 use Rattle.model.specs.Formula.{eval}
 use Rattle.model.specs.Run.{run}
 use Rattle.model.specs.Case as model-case
 use Rattle.model.specs.Walk as model
 use Rattle.model.specs.Walk.{Line, Walked, covered, failed, opened, visits, join, walk_from, walk, walked, look_of, look_at}
-use Rattle.model.specs.Planes.{lane_bit}
 use Rattle.model.specs.declared.marks.Kind.{Kind}
-use Rattle.model.proofs.Laws.Cover.{Block, block-of-mod, mod-of-block, root-span}
+use Rattle.model.proofs.Laws.Cover.{block-of-mod, mod-of-block, root-span}
 use Rattle.model.proofs.Laws.Grants.{visits-walk}
-use Rattle.model.proofs.Laws.Splitting.{case-unknown, case-first}
+use Rattle.model.proofs.Laws.Splitting.{case-first}
 use Rattle.cases.specs.declared.cases.Cases.{Cases}
 use Rattle.cases.specs.Blocks.{block_case}
 use Rattle.cases.specs.Facts.{with_facts, fact_of}
@@ -39,11 +38,11 @@ use Rattle.walk.specs.declared.case.Case.{Case}
 use Rattle.walk.specs.declared.visits.Closed as done
 use Rattle.walk.specs.declared.visits.Stopped.{Stopped}
 use Rattle.walk.specs.declared.visits.Stopped.TheVariants.{OutOfVisits, Failed}
-use Rattle.walk.specs.Lanes.{IsBlock, LevelsOf, OnLevel, IsAfter}
+use Rattle.walk.specs.Lanes.{IsBlock, OnLevel, IsAfter}
 use Rattle.walk.specs.Cases.{closed_line}
 use Rattle.walk.specs.Nodes.{task_of, limits_of, look_in, case_at, walk_of, walk_at}
-use Rattle.walk.specs.Walks.{Ended, Counted, Walks}
-use Rattle.walk.proofs.Lanes.{HasCase, lane-case, half-level, lane-small, level-within, no-level, yes-level, first-level, level_le, one-level, below_ge, below-number, below-fits, edge-fits, number-no, number-yes, number-room}
+use Rattle.walk.specs.Walks.{Walks}
+use Rattle.walk.proofs.Lanes.{HasCase, lane-case, half-level, level-within, no-level, first-level, level_le, one-level, below_ge, below-number, below-fits, edge-fits, number-no, number-yes, number-room}
 use Rattle.walk.proofs.Sequence.{and_then, nothing, nothing-then, then-nothing, then-covered, then-split, then-failed, visits-then}
 
 -- ---- one visit
@@ -495,14 +494,8 @@ module _ (t : blocks.Task) (first : FirstBlock) where
   first-numbers = omega (arith, root-span (values.task t).width)
 
   -- the walk from the case that fixes no fact is the walk of the task
-  first-walk :
+  pub first-walk :
       first.cases.now.facts ≡ t.problem.now.facts →
       walk_of (values.task t) (first.cases.now.facts - (0 + 0)) (0 + 0) (0 + (1 - 2 ^ 0) * 2 ^ ((values.task t).width - (0 + 0))) ≡ walked (values.task t)
   unfolding walked walk
   first-walk e = same-walk (values.task t) _ _ _ _ _ _ (omega (arith, e, task-facts t)) (omega arith) (omega arith)
-
-  pub first-walks :
-      {L : Type 0} (puts : L → List Line → L → Type 0) → first.cases.now.facts ≡ t.problem.now.facts → (g : ℕ) (old : L) (r : Result done.Closed Stopped) (new : L) →
-      Walks puts (walk_of (values.task t) (first.cases.now.facts - (0 + 0)) (0 + 0) (0 + (1 - 2 ^ 0) * 2 ^ ((values.task t).width - (0 + 0)))) g old r new →
-      Walks puts (walked (values.task t)) g old r new
-  first-walks puts e g old r new W = subst (λ (x : Walked). Walks puts x g old r new) (first-walk e) W

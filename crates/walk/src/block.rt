@@ -90,6 +90,8 @@ pub struct FirstBlock<'a> {
 
 impl<'a> FirstBlock<'a> {
     ghost use Rattle.std.specs.Prelude.{ℕ};
+    ghost use Rattle.model.specs.Walk.{walked};
+    ghost use Rattle.walk.specs.Nodes.{limits_of, walk_at};
 
     // That of cases which fix no fact yet, whatever the plan.
     pub fn of(cases: &'a mut Cases) -> FirstBlock<'a>
@@ -100,6 +102,23 @@ impl<'a> FirstBlock<'a> {
         let levels = first_levels(cases.facts);
         cases.fix_levels(0, levels);
         FirstBlock { cases, levels }
+    }
+
+    // It, of a task of which a visit finds so much there: the walk of its own case is the whole walk.
+    pub fn of_task(&self, task: &'a Task<'a>, looks: Looks) -> Block<'a>
+        requires facts { self.now.cases.now.facts ≡ task.now.problem.now.facts }
+        requires looked { LooksAt (task_of task.now) (case_of self.now.cases.now) looks }
+        ensures limits { limits_of result ≡ task.entry.now.problem.now.limits }
+        ensures walk { walk_at result 0 1 ≡ walked (task_of task.entry.now) }
+    {
+        Block {
+            task,
+            cases: self.cases,
+            first: 0,
+            number: 0,
+            levels: self.levels,
+            looks,
+        }
     }
 }
 

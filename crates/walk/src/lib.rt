@@ -9,4 +9,4 @@ pub mod visits;
 pub use block::{Block, FirstBlock};
 pub use case::{Case, Lines, Unkept};
 pub use page::Page;
-pub use visits::{Closed, Stopped, walk_block, walk_first, walk_task};
+pub use visits::{Closed, Stopped, walk_block, walk_task};

@@ -3,8 +3,6 @@
 ghost use Rattle.std.specs.Prelude.{ℕ, ◌≡◌, ◌+◌, ◌*◌, ◌^◌, ◌≤◌, ◌<◌};
 ghost use Rattle.model.specs.Walk.{opened, walked};
 ghost use Rattle.blocks.specs.Values.{task as task_of};
-ghost use Rattle.cases.specs.Cases.{case_of};
-ghost use Rattle.runs.specs.Looks.{LooksAt};
 ghost use Rattle.walk.specs.Lanes.{LevelsOf, OnLevel};
 ghost use Rattle.walk.specs.Nodes.{limits_of, look_in, walk_at};
 ghost use Rattle.walk.specs.Walks.{Walks};
@@ -13,7 +11,7 @@ use crate::block::{Block, FirstBlock, lane_after};
 use crate::case::Lines;
 use blocks::Task;
 use cases::Cases;
-use runs::{Looks, look};
+use runs::look;
 use step::Conditions;
 
 // Every case closed, so many with a line; and the visits that are left of the grant.
@@ -132,30 +130,6 @@ fn walk_below<L: Lines>(
     walk_block(&inner, left, lines, conditions)
 }
 
-// The walk of a task from its first block, of which a visit finds so much.
-pub fn walk_first<L: Lines>(
-    task: &Task,
-    first: &FirstBlock,
-    looks: Looks,
-    left: u64,
-    lines: &mut L,
-    conditions: &mut Conditions,
-) -> Result<Closed, Stopped>
-    requires facts { first.now.cases.now.facts ≡ task.now.problem.now.facts }
-    requires looked { LooksAt (task_of task.now) (case_of first.now.cases.now) looks }
-    ensures { Walks (L.gives task.now.problem.now.limits) (walked (task_of task.now)) left lines.old result lines.new }
-{
-    let block = Block {
-        task,
-        cases: first.cases,
-        first: 0,
-        number: 0,
-        levels: first.levels,
-        looks,
-    };
-    walk_block(&block, left, lines, conditions)
-}
-
 // The walk of a whole task, from the case that fixes no fact.
 pub fn walk_task<L: Lines>(task: &Task, grant: u64, lines: &mut L) -> Result<Closed, Stopped>
     ensures { Walks (L.gives task.now.problem.now.limits) (walked (task_of task.now)) grant lines.old result lines.new }
@@ -164,5 +138,5 @@ pub fn walk_task<L: Lines>(task: &Task, grant: u64, lines: &mut L) -> Result<Clo
     let mut cases = Cases::first_case(task.problem.facts);
     let first = FirstBlock::of(&mut cases);
     let looks = look(task, first.cases, &mut conditions);
-    walk_first(task, &first, looks, grant, lines, &mut conditions)
+    walk_block(&first.of_task(task, looks), grant, lines, &mut conditions)
 }

@@ -1,11 +1,15 @@
-use Rattle.std.proofs.Common.{refl, ap, ◌∙◌, ◌||◌, ℕ, eqb}
+use Rattle.std.proofs.Common.{refl, sym, ap, ◌∙◌, ◌||◌, ℕ, eqb}
 use Rattle.model.specs.Relevance.{fact_of}
 use Rattle.formula.specs.Views.{literal}
 use Rattle.formula.specs.Literals.{literals_left}
 use Rattle.backward.specs.Facts.{has_fact}
 use Rattle.backward.proofs.Sets.{set-none, grown, grown-none}
-use Rattle.backward.proofs.Naming.{named_by, formula-names, named-first, none-named-by}
+use Rattle.backward.proofs.Naming.{named_by, literal-names, formula-names, named-first, none-named-by}
 use Rattle.backward.proofs.named.named_facts.Goals as goal
+
+pub returns-in-Literal : goal.returns-in-Literal
+returns-in-Literal c =
+    λ f l. c.of.ensures f l ∙ ap (λ (x : ℕ). eqb x f) c.fact.ensures.is ∙ sym (literal-names _ c.alone.ensures c.in-Literal.ensures f)
 
 pub loop-literal-init : goal.loop-literal-init
 loop-literal-init c =
@@ -17,9 +21,9 @@ loop-literal-init c =
 pub loop-literal-preserved : goal.loop-literal-preserved
 loop-literal-preserved c =
     λ f l.
-    grown (has_fact c.loop-literal.facts f) (eqb (fact_of (literal c.in-Some.literal)) f) (named_by (literals_left c.next.new.self) f)
+    grown (has_fact c.loop-literal.facts f) (eqb (fact_of (literal c.in-Some.literal)) f) (named_by (literals_left c.next-in-loop-literal.new.self) f)
     (c.loop-literal.invariant f l) (named-first _ _ _ c.in-Some.ensures.steps f)
-    (c.bitor-facts.ensures f l ∙ ap (λ b. has_fact c.loop-literal.facts f || b) (c.of.ensures f l ∙ ap (λ (x : ℕ). eqb x f) c.fact.ensures.is))
+    (c.bitor-facts.ensures f l ∙ ap (λ b. has_fact c.loop-literal.facts f || b) (c.of-in-loop-literal.ensures f l ∙ ap (λ (x : ℕ). eqb x f) c.fact-in-loop-literal.ensures.is))
 
 pub returns : goal.returns
 returns c = λ f l. grown-none (has_fact c.loop-literal.facts f) (c.loop-literal.invariant f l) (none-named-by _ c.in-None.ensures.steps.0 f)

@@ -1,10 +1,7 @@
 -- The loop through a block's lanes, a lane that does not split there, and a block below.
-use Rattle.std.proofs.Common.{◌≡◌, Bool, true, false, ℕ, ◌+◌, ◌*◌, ◌^◌, ◌≤◌, ◌<◌, ◌∙◌, sym, refl, ap, subst, arith}
-use native.Mathlib.Decide.{dec_le}
+use Rattle.std.proofs.Common.{◌∙◌, sym, refl, arith}
 use Rattle.std.proofs.lemmas.Result.{err_from_is_err_and}
-use Rattle.std.specs.Prelude.{IsTrue, ◌↔◌}
-use Rattle.walk.specs.Lanes.{OnLevel}
-use Rattle.walk.proofs.Lanes.{one-level, some-level, lane-some, lane-inside, level-within, lane-small}
+use Rattle.walk.proofs.Lanes.{some-level, lane-some, lane-inside, level-within, lane-small}
 use Rattle.walk.proofs.Walking.{lane_closes, lane_fails, going-begins, going-small, going-splits, going-out, going-stops, going-on, going-done, closed-fewer, edge-k, edge-begins, edge-numbers, below-walks, edge-lanes, not-split, does-split, few-facts, edge-level, at-level}
 use Rattle.walk.proofs.visits.+cases.Goals as goal
 

@@ -37,6 +37,10 @@ returns-then-lanes-eq0 c =
     let x = exclusive-is s.values c.loop-i.i c.loop-e.e c.index-self-i.result c.index-self-e.result (omega (arith, P.behind)) (omega arith) c.bitand.result c.not-exclusive.result c.bitand.ensures c.not-exclusive.ensures in
     passing-stops _ _ _ _ _ P c.loop-e-test.true c.if-fact-cleared.true c.not-exclusive.result x _ refl c.if-lanes-eq0.true
 
+-- an entry that sets a fact clears none
+pub loop-e-preserved-then-cleared-lt-DENIAL : goal.loop-e-preserved-then-cleared-lt-DENIAL
+loop-e-preserved-then-cleared-lt-DENIAL c = passing-other _ _ _ _ _ c.loop-e.invariant c.loop-e-test.true (λ y. omega arith) (λ y. omega arith)
+
 pub loop-e-preserved : goal.loop-e-preserved
 loop-e-preserved c =
     let P = c.loop-i.invariant in

@@ -1,4 +1,4 @@
-use Rattle.std.proofs.Common.{◌≡◌, refl, ℕ, ◌+◌, ◌*◌, ◌^◌, ◌≤◌, ◌<◌, arith}
+use Rattle.std.proofs.Common.{refl, ℕ, ◌*◌, ◌^◌, ◌≤◌, ◌<◌, arith}
 use native.Mathlib.Nat.{pow-suc}
 use Rattle.walk.specs.Lanes.{OnLevel}
 use Rattle.walk.proofs.Lanes.{level-within}
