@@ -23,6 +23,6 @@ fn check_steps(s: &[u8], at: usize, actions: u8) -> Result<usize, Refusal>
 pub fn check_plan(s: &[u8], actions: u8) -> Result<usize, Refusal>
     ensures { position_read result ≡ forgotten (bytes.plan s.now actions 0) }
 {
-    let at = check_header(s, Block::Plan, Plan::MAX_BYTES, Limits::VERSION)?;
+    let at = check_header(s, Block::Plan, Plan::MAX_BYTES, Limits::PLAN_VERSION)?;
     check_steps(s, at, actions)
 }

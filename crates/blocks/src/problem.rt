@@ -1,6 +1,6 @@
 // A problem as a value: reading it from its block, and its actions.
 ghost use Rattle.std.specs.Prelude.{◌≡◌, ◌<◌, ◌≤◌, IfOk};
-ghost use Rattle.model.specs.Limits.{version1, max_actions};
+ghost use Rattle.model.specs.Limits.{limits_of, max_actions};
 ghost use Rattle.model.specs.Answers.{result_answer};
 ghost use Rattle.model.specs.Read.{answer_of};
 ghost use Rattle.model.specs.WellFormed.{Sensible};
@@ -58,16 +58,16 @@ impl<'a> Problem<'a> {
     ghost use Rattle.fields.specs.Actions.{action};
     ghost use Rattle.blocks.specs.Values.{problem, problem_read};
 
-    // The problem in a block of version 1.
+    // The problem in a block, by the numbers of the version that it begins with.
     pub fn read(block: &'a [u8]) -> Result<Problem<'a>, Refusal>
-        ensures read { problem_read result ≡ problem_of version1 block.entry.now }
-        ensures limits { IfOk result (λ p. p.limits ≡ version1) }
+        ensures read { problem_read result ≡ problem_of (limits_of block.entry.now) block.entry.now }
+        ensures limits { IfOk result (λ p. p.limits ≡ limits_of block.entry.now) }
     {
-        Problem::read_with(block, Limits::version1())
+        Problem::read_with(block, Limits::of(block))
     }
 
     // The problem in a block, by the numbers of a version.
-    pub fn read_with(block: &'a [u8], limits: Limits) -> Result<Problem<'a>, Refusal>
+    fn read_with(block: &'a [u8], limits: Limits) -> Result<Problem<'a>, Refusal>
         requires { Sensible limits }
         ensures read { problem_read result ≡ problem_of limits block.entry.now }
         ensures limits { IfOk result (λ p. p.limits ≡ limits) }

@@ -2,7 +2,7 @@
 use Rattle.std.proofs.Common.{◌≡◌, refl, sym, ap, ◌∙◌, subst, List, [], ◌++◌, ℕ, ◌+◌, ◌-◌, ◌*◌, ◌≤◌, ◌<◌, arith, length, drop, lt-ltb, le-ltb, Result, Ok, Err}
 use lib.Seq.{sets, sets-eq, length-sets}
 use Rattle.model.specs.declared.Limits.{Limits}
-use Rattle.model.specs.Limits.{version1}
+use Rattle.model.specs.Limits.{limits_of}
 use Rattle.model.specs.Answer as Answer
 use Rattle.model.specs.Answers.{refusal}
 use Rattle.model.specs.Answer.{Answer, refused, answered}
@@ -84,15 +84,15 @@ unfolding write_list written
 left-refused F s t g before n q e = rw e (refl, refl)
 
 pub list-refused :
-    (s t : List ℕ) (r : Refusal) → read_task version1 s t ≡ refusal r → (g : ℕ) (before : List ℕ) → Left version1 s t g before (refusal r) before
+    (s t : List ℕ) (r : Refusal) → read_task (limits_of s) s t ≡ refusal r → (g : ℕ) (before : List ℕ) → Left (limits_of s) s t g before (refusal r) before
 unfolding list_for Answer.◌>>=◌
-list-refused s t r h g before = left-refused version1 s t g before (fault_number r.fault) r.place (rw h)
+list-refused s t r h g before = left-refused (limits_of s) s t g before (fault_number r.fault) r.place (rw h)
 
 -- the task of a problem that was read by a version's numbers has these
 pub of-version : (t : blocks.Task) (p : problems.Problem) → t.problem.now ≡ p → {F : Limits} → p.limits ≡ F → t.problem.now.limits ≡ F
 of-version t p e f = ap (λ (x : problems.Problem). x.limits) e ∙ f
 
-module _ (s t : List ℕ) (lent : blocks.Task) (limits : lent.problem.now.limits ≡ version1) (read : read_task version1 s t ≡ answered (values.task lent))
+module _ (s t : List ℕ) (lent : blocks.Task) (limits : lent.problem.now.limits ≡ (limits_of s)) (read : read_task (limits_of s) s t ≡ answered (values.task lent))
     (g : ℕ) (before : List ℕ) {L : Type 0} (puts : L → List Line → L → Type 0) (old new : L) where
   abbrev F : Limits
   F = lent.problem.now.limits
@@ -101,7 +101,7 @@ module _ (s t : List ℕ) (lent : blocks.Task) (limits : lent.problem.now.limits
   T = values.task lent
 
   abbrev Leaves : Answer ℕ → List ℕ → Type 0
-  Leaves a after = Left version1 s t g before a after
+  Leaves a after = Left (limits_of s) s t g before a after
 
   -- the numbers that were found are the version's
   leaves : (a : Answer ℕ) (after : List ℕ) → Left F s t g before a after → Leaves a after

@@ -1,7 +1,7 @@
 -- What the writer promises, and what it promises with the checker of lists: from the contracts' equations and the theorem about the definitions.
 -- Assumes nothing.
 use Rattle.std.proofs.Common.{◌≡◌, refl, sym, ap, ◌∙◌, subst, inl, inr, List, ℕ, ◌≤◌, arith, length, take, drop}
-use Rattle.model.specs.Limits.{version1}
+use Rattle.model.specs.Limits.{limits_of}
 use Rattle.model.specs.Answer as Answer
 use Rattle.model.specs.Answer.{Answer, refused, answered}
 use Rattle.model.specs.Case.{Task}
@@ -9,31 +9,31 @@ use Rattle.model.specs.Operations.{read_task, list_bytes, written, list_for, wri
 use Rattle.model.specs.Guarantees.{lines_in, Passing}
 use Rattle.model.proofs.Laws.Tasks.{answer-then}
 use Rattle.model.proofs.Laws.Lists.{written-answered}
-use Rattle.model.proofs.Guarantees.{version1-holds}
+use Rattle.model.proofs.Guarantees.{guarantees-of}
 use Rattle.follow.proofs.Promise.{followed-task}
 use Rattle.certificate.specs.Promise.{WritePromised, Promised}
 
 module _ (problem plan : List ℕ) (grant : ℕ) (before : List ℕ) where
-  unread : (n q : ℕ) → read_task version1 problem plan ≡ refused n q → (write_list version1 problem plan grant before).answer ≡ refused n q
+  unread : (n q : ℕ) → read_task (limits_of problem) problem plan ≡ refused n q → (write_list (limits_of problem) problem plan grant before).answer ≡ refused n q
   unfolding write_list list_for written Answer.◌>>=◌
   unread n q h = rw h
 
   promised-for :
-      (x : Answer Task) → read_task version1 problem plan ≡ x → (r : Answer ℕ) (after : List ℕ) →
-      r ≡ (write_list version1 problem plan grant before).answer → after ≡ (write_list version1 problem plan grant before).buffer →
+      (x : Answer Task) → read_task (limits_of problem) problem plan ≡ x → (r : Answer ℕ) (after : List ℕ) →
+      r ≡ (write_list (limits_of problem) problem plan grant before).answer → after ≡ (write_list (limits_of problem) problem plan grant before).buffer →
       WritePromised problem plan grant before r after
   promised-for (refused m p) h (refused n q) after e k =
       let j = unread m p h in
-      (k ∙ version1-holds.all_input.refused_unchanged problem plan grant before n q (sym e), inl (h ∙ cc))
+      (k ∙ (guarantees-of problem).all_input.refused_unchanged problem plan grant before n q (sym e), inl (h ∙ cc))
   promised-for (refused m p) h (answered o) after e k = let j = unread m p h in let z : ◌≡◌ {A = ℕ} 0 1 = cc in absurd (omega arith)
   promised-for (answered T) h (refused n q) after e k = (
-    k ∙ version1-holds.all_input.refused_unchanged problem plan grant before n q (sym e),
-    inr (T, h, (version1-holds.certificates problem plan T h).refused_for grant before n q (sym e)),
+    k ∙ (guarantees-of problem).all_input.refused_unchanged problem plan grant before n q (sym e),
+    inr (T, h, ((guarantees-of problem).certificates problem plan T h).refused_for grant before n q (sym e)),
   )
   promised-for (answered T) h (answered m) after e k =
-      let D = version1-holds.certificates problem plan T h in
+      let D = (guarantees-of problem).certificates problem plan T h in
       let (lines, closes, size, passes) = D.written_is grant before m (sym e) in
-      let (fits, rest) = version1-holds.all_input.rest_unchanged problem plan grant before m (sym e) in (
+      let (fits, rest) = (guarantees-of problem).all_input.rest_unchanged problem plan grant before m (sym e) in (
         T,
         h,
         record {
@@ -42,7 +42,7 @@ module _ (problem plan : List ℕ) (grant : ℕ) (before : List ℕ) where
           closes = closes;
           size = size;
           fits = fits;
-          passes = subst (λ (b : List ℕ). Passing version1 T (take m b) lines) (sym k) passes;
+          passes = subst (λ (b : List ℕ). Passing (limits_of problem) T (take m b) lines) (sym k) passes;
           rest = ap (drop m) k ∙ rest;
         },
       )
@@ -50,17 +50,17 @@ module _ (problem plan : List ℕ) (grant : ℕ) (before : List ℕ) where
   -- from the two equations of a call
   pub write-promised :
       {r : Answer ℕ} {after : List ℕ} →
-      (r ≡ (write_list version1 problem plan grant before).answer) × (after ≡ (write_list version1 problem plan grant before).buffer) →
+      (r ≡ (write_list (limits_of problem) problem plan grant before).answer) × (after ≡ (write_list (limits_of problem) problem plan grant before).buffer) →
       WritePromised problem plan grant before r after
-  write-promised {r} {after} (e, k) = promised-for (read_task version1 problem plan) refl r after e k
+  write-promised {r} {after} (e, k) = promised-for (read_task (limits_of problem) problem plan) refl r after e k
 
 module _ (problem plan : List ℕ) where
   written-task :
-      (grant : ℕ) (out : List ℕ) (n : ℕ) → (write_list version1 problem plan grant out).answer ≡ answered n →
-      (T : Task) × (read_task version1 problem plan ≡ answered T)
+      (grant : ℕ) (out : List ℕ) (n : ℕ) → (write_list (limits_of problem) problem plan grant out).answer ≡ answered n →
+      (T : Task) × (read_task (limits_of problem) problem plan ≡ answered T)
   unfolding write_list list_for
   written-task grant out n e =
-      let x = written-answered version1 out n (list_for version1 problem plan grant (length out)) e in
+      let x = written-answered (limits_of problem) out n (list_for (limits_of problem) problem plan grant (length out)) e in
       answer-then x.1 λ T h k. (T, h)
 
   pub promised : Promised problem plan
@@ -70,27 +70,27 @@ module _ (problem plan : List ℕ) where
             λ list r m c e.
             let f = sym c ∙ e in
             let (T, h) = followed-task problem plan list m f in
-            let p = (version1-holds.certificates problem plan T h).passes_only_right list m f in
+            let p = ((guarantees-of problem).certificates problem plan T h).passes_only_right list m f in
             (T, h, p.0, p.1);
         writes_walk =
             λ T h right.
-            let (lines, closes, writes) = (version1-holds.certificates problem plan T h).writes_walk right in (
+            let (lines, closes, writes) = ((guarantees-of problem).certificates problem plan T h).writes_walk right in (
               lines,
               closes,
               λ grant out w after c granted few room.
                   let (a, l) = writes grant out granted few room in
-                  (c.0 ∙ a, ap (take (list_bytes version1 (length lines))) c.1 ∙ l),
+                  (c.0 ∙ a, ap (take (list_bytes (limits_of problem) (length lines))) c.1 ∙ l),
             );
         written_passes =
             λ grant out w after n c e r f.
             let a = sym c.0 ∙ e in
             let (T, h) = written-task grant out n a in
-            let p = (version1-holds.certificates problem plan T h).written_passes grant out n a in
-            f ∙ subst (λ (b : List ℕ). follow_list version1 problem plan (take n b) ≡ answered (lines_in version1 (take n b))) (sym c.1) p;
+            let p = ((guarantees-of problem).certificates problem plan T h).written_passes grant out n a in
+            f ∙ subst (λ (b : List ℕ). follow_list (limits_of problem) problem plan (take n b) ≡ answered (lines_in (limits_of problem) (take n b))) (sym c.1) p;
         written_least =
             λ grant out w after n c e list r m f g.
             let a = sym c.0 ∙ e in
             let (T, h) = written-task grant out n a in
-            subst (λ (b : List ℕ). lines_in version1 (take n b) ≤ lines_in version1 list) (sym c.1)
-            ((version1-holds.certificates problem plan T h).written_least grant out n a list m (sym f ∙ g));
+            subst (λ (b : List ℕ). lines_in (limits_of problem) (take n b) ≤ lines_in (limits_of problem) list) (sym c.1)
+            (((guarantees-of problem).certificates problem plan T h).written_least grant out n a list m (sym f ∙ g));
       }

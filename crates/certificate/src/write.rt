@@ -2,7 +2,7 @@
 // byte.
 ghost use Rattle.std.specs.Prelude.{◌≡◌, ◌+◌, ◌≤◌, length};
 ghost use Rattle.std.proofs.lemmas.List.Edits.{sets};
-ghost use Rattle.model.specs.Limits.{version1};
+ghost use Rattle.model.specs.Limits.{limits_of};
 ghost use Rattle.model.specs.Read.{head_bytes};
 ghost use Rattle.model.specs.Walk.{walked};
 ghost use Rattle.model.specs.Operations.{write_list};
@@ -41,8 +41,8 @@ fn write_task(task: &Task, grant: u64, body: usize, out: &mut [u8])
 // Write the list with a grant: the refusals of problem and plan; 50 undecided and 51 wrong, with the visits; 52 too many lines and 53 too
 // short a buffer, with the lines; or the list block in the first bytes, and its length.
 pub fn write_list(problem: &[u8], plan: &[u8], grant: u64, out: &mut [u8]) -> Result<usize, Refusal>
-    ensures answer { plain_answer result ≡ (write_list version1 problem.now plan.now grant out.old).answer }
-    ensures buffer { out.new ≡ (write_list version1 problem.now plan.now grant out.old).buffer }
+    ensures answer { plain_answer result ≡ (write_list (limits_of problem.now) problem.now plan.now grant out.old).answer }
+    ensures buffer { out.new ≡ (write_list (limits_of problem.now) problem.now plan.now grant out.old).buffer }
     ensures promised { WritePromised problem.now plan.now grant out.old (plain_answer result) out.new }
 {
     let found = Problem::read(problem)?;

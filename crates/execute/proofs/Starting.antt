@@ -4,7 +4,7 @@ use Rattle.model.specs.declared.Outcome.{Outcome}
 use Rattle.model.specs.declared.Refusal.{Refusal}
 use Rattle.model.specs.declared.fault.Fault.TheVariants.{StateNumber}
 use Rattle.model.specs.Faults.{refusal_at}
-use Rattle.model.specs.Limits.{version1}
+use Rattle.model.specs.Limits.{limits_of}
 use Rattle.model.specs.Answer as Answer
 use Rattle.model.specs.Answer.{answered}
 use Rattle.model.specs.Answers.{refusal, outcome, run_answer}
@@ -25,10 +25,10 @@ module _ (T : Task) (s : ℕ) where
   answers-run c H o e = rw (H.is, e ∙ state-run T s c H) refl
 
 module _ (problem plan : List ℕ) (s : ℕ) where
-  pub run-refused : (y : Refusal) → read_task version1 problem plan ≡ refusal y → refusal y ≡ run_state version1 problem plan s
+  pub run-refused : (y : Refusal) → read_task (limits_of problem) problem plan ≡ refusal y → refusal y ≡ run_state (limits_of problem) problem plan s
   unfolding run_state Answer.◌>>=◌
   run-refused y e = rw e
 
-  pub run-found : {T : Task} (a : Result Outcome Refusal) → read_task version1 problem plan ≡ answered T → run_answer a ≡ state_answer T s → run_answer a ≡ run_state version1 problem plan s
+  pub run-found : {T : Task} (a : Result Outcome Refusal) → read_task (limits_of problem) problem plan ≡ answered T → run_answer a ≡ state_answer T s → run_answer a ≡ run_state (limits_of problem) problem plan s
   unfolding run_state Answer.◌>>=◌
   run-found a e h = h ∙ rw e

@@ -1,6 +1,6 @@
 -- What an answer of `run` promises.
 use Rattle.std.specs.Prelude.{◌≡◌, ◌↔◌, ◌⊎◌, List, ℕ}
-use Rattle.model.specs.Limits.{version1}
+use Rattle.model.specs.Limits.{limits_of}
 use Rattle.model.specs.Answer.{Answer, refused, answered}
 use Rattle.model.specs.Run.{Outcome}
 use Rattle.model.specs.Case.{Task, IsState}
@@ -11,7 +11,7 @@ use Rattle.model.specs.Guarantees.{OutcomeSays}
 -- outcome is each one exactly if the meaning of plans by beliefs says so of the belief that holds s alone.
 abbrev pub RunPromised : List ℕ → List ℕ → ℕ → Answer Outcome → Type 0
 RunPromised problem plan s (refused n q) =
-    (read_task version1 problem plan ≡ refused n q) ⊎
-    ((T : Task) × (read_task version1 problem plan ≡ answered T) × (IsState T s → ⊥) × (n ≡ 40) × (q ≡ 0))
+    (read_task (limits_of problem) problem plan ≡ refused n q) ⊎
+    ((T : Task) × (read_task (limits_of problem) problem plan ≡ answered T) × (IsState T s → ⊥) × (n ≡ 40) × (q ≡ 0))
 RunPromised problem plan s (answered r) =
-    (T : Task) × (read_task version1 problem plan ≡ answered T) × IsState T s × ((o : Outcome) → (r ≡ o) ↔ OutcomeSays T s o)
+    (T : Task) × (read_task (limits_of problem) problem plan ≡ answered T) × IsState T s × ((o : Outcome) → (r ≡ o) ↔ OutcomeSays T s o)

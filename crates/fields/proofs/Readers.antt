@@ -2,7 +2,7 @@
 use Rattle.std.proofs.Common.{◌≡◌, sym, ◌∙◌, ap, List, ℕ, ◌≤◌, suc, ◌+◌, ◌-◌, ◌<◌, length, get_or, leb-true, lt-ltb, le-leb, Result, Ok, Err, true, arith}
 use Rattle.model.specs.Read.{Read, reject, got, Reader, and_then, ◌>>◌, head_bytes, header, ◌>>=◌, done, position, require, byte}
 use Rattle.model.specs.declared.Refusal.{Refusal}
-use Rattle.model.proofs.Laws.Reading.{got-inj, needed}
+use Rattle.model.proofs.Laws.Reading.{then-got, got-inj, needed}
 use Rattle.formula.specs.Readings.{rejected, position_read, forgotten}
 use Rattle.formula.proofs.Readers.{next-got, next-refused, then_next}
 use native.Mathlib.Decide.{dec_lt}
@@ -22,12 +22,13 @@ stays-refused x k e = rw (next-refused x _ _ e)
 
 -- a block whose header is right has one, and begins its body after it
 pub header-got :
-    (s : List ℕ) (number most version q : ℕ) (u : Unit {0}) → header s number most version 0 ≡ got u q → (head_bytes ≤ length s) × (q ≡ head_bytes)
+    (s : List ℕ) (number most : ℕ) (versions : Reader (Unit {0})) (q : ℕ) (u : Unit {0}) → header s number most versions 0 ≡ got u q →
+    (head_bytes ≤ length s) × (q ≡ head_bytes)
 unfolding header ◌>>◌
-header-got s number most version q u e =
+header-got s number most versions q u e =
     needed _ _ _ _ _ e λ t₁ h₁.
     needed _ _ _ _ _ h₁ λ t₂ h₂.
-    needed _ _ _ _ _ h₂ λ t₃ h₃.
+    then-got h₂ λ _ _ _ h₃.
     needed _ _ _ _ _ h₃ λ t₄ h₄.
     (leb-true head_bytes (length s) t₂, sym (got-inj h₄).1)
 

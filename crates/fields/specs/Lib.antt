@@ -3,3 +3,4 @@ pub mod Counts
 pub mod Effects
 pub mod ActionBytes
 pub mod Actions
+pub mod Headers

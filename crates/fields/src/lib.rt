@@ -8,4 +8,4 @@ pub mod header;
 
 pub use action::read_action;
 pub use actions::{Action, Effect, Effects};
-pub use header::{check_header, count_at};
+pub use header::{check_header, check_list_header, count_at};

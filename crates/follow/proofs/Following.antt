@@ -10,7 +10,7 @@ use lib.ListN.{length, take}
 use lib.Dec.{eqb}
 use borrow.Author.Tests.{eq-eqb, ne_eqb}
 use Rattle.model.specs.declared.Limits.{Limits}
-use Rattle.model.specs.Limits.{version1}
+use Rattle.model.specs.Limits.{limits_of}
 use Rattle.model.specs.Answer as Answer
 use Rattle.model.specs.Answer.{Answer, refused, answered}
 use Rattle.model.specs.Read.{Read, reject, got, and_then, ◌>>◌, done, require, answer_of, head_bytes, header}
@@ -24,11 +24,11 @@ use Rattle.model.specs.Walk as model
 use Rattle.model.specs.Walk.{look_at}
 use Rattle.model.specs.CaseList.{refuse_at, ends, fault, follow}
 use Rattle.model.specs.Cover.{cover_end}
-use Rattle.model.specs.ListBytes.{line_at, lines_from, case_list, list_of}
+use Rattle.model.specs.ListBytes.{line_at, lines_from, of_the_problem, case_list, list_of}
 use Rattle.model.proofs.Laws.ListCodec.{length-lines_from}
 use Rattle.model.proofs.Laws.Tasks.{cover-is, follow-is, task-fits}
 use Rattle.model.proofs.Laws.RunningEnd.{same_answers}
-use Rattle.model.proofs.Guarantees.{version1-sensible}
+use Rattle.model.proofs.Guarantees.{limits-sensible}
 use Rattle.std.specs.Prelude.{min}
 use Rattle.std.proofs.lemmas.List.{take_min}
 use Rattle.fields.proofs.Readers.{header-got}
@@ -135,10 +135,10 @@ tested-list false n q ls = refl
 
 module _ (F : Limits) (list : List ℕ) where
   abbrev headed : Read (Unit {0})
-  headed = header list 60 (head_bytes + F.line * F.lines) F.version 0
+  headed = header list 60 (head_bytes + F.line * F.lines) (of_the_problem F list) 0
 
   pub header-five : (q : ℕ) → got tt q ≡ headed → head_bytes ≤ length list
-  header-five q e = (header-got list 60 _ F.version q tt (sym e)).0
+  header-five q e = (header-got list 60 _ (of_the_problem F list) q tt (sym e)).0
 
   pub list-refused : (n q : ℕ) → reject n q ≡ headed → refused n q ≡ list_of F list
   unfolding list_of case_list ◌>>◌ and_then answer_of
@@ -160,25 +160,25 @@ module _ (F : Limits) (list : List ℕ) where
 -- ---- the running value of a list
 
 pub cover-refused :
-    (problem plan list : List ℕ) (m : ℕ) (r : Refusal) → read_task version1 problem plan ≡ refusal r → refusal r ≡ cover_after version1 problem plan list m
+    (problem plan list : List ℕ) (m : ℕ) (r : Refusal) → read_task (limits_of problem) problem plan ≡ refusal r → refusal r ≡ cover_after (limits_of problem) problem plan list m
 unfolding cover_after Answer.◌>>=◌
 cover-refused problem plan list m r h = rw h
 
-module _ (problem plan : List ℕ) (T : Task) (read : read_task version1 problem plan ≡ answered T) (list : List ℕ) (m : ℕ) (F : Limits) (F-is : F ≡ version1) where
+module _ (problem plan : List ℕ) (T : Task) (read : read_task (limits_of problem) problem plan ≡ answered T) (list : List ℕ) (m : ℕ) (F : Limits) (F-is : F ≡ limits_of problem) where
   cover-by :
-      cover_after version1 problem plan list m ≡ Answer.◌>>=◌ (list_of F list) (λ ls. end_of_lines T (take m ls))
-  cover-by = cover-is version1 problem plan T read list m ∙ rw F-is
+      cover_after (limits_of problem) problem plan list m ≡ Answer.◌>>=◌ (list_of F list) (λ ls. end_of_lines T (take m ls))
+  cover-by = cover-is (limits_of problem) problem plan T read list m ∙ rw F-is
 
-  pub cover-unread : (y : Refusal) → refusal y ≡ list_of F list → refusal y ≡ cover_after version1 problem plan list m
+  pub cover-unread : (y : Refusal) → refusal y ≡ list_of F list → refusal y ≡ cover_after (limits_of problem) problem plan list m
   unfolding Answer.◌>>=◌
   cover-unread y e = sym (cover-by ∙ rw (← e))
 
   pub cover-lines :
       (n : ℕ) → answered (lines_from F list n head_bytes) ≡ list_of F list → (k : ℕ) → k ≡ min m n → (u : Answer ℕ) →
-      u ≡ end_of_lines T (lines_from F list k head_bytes) → u ≡ cover_after version1 problem plan list m
+      u ≡ end_of_lines T (lines_from F list k head_bytes) → u ≡ cover_after (limits_of problem) problem plan list m
   unfolding Answer.◌>>=◌
   cover-lines n e k k-is u h =
-      let S : Sensible F = rw F-is version1-sensible in
+      let S : Sensible F = rw F-is (limits-sensible problem) in
       let these : lines_from F list k head_bytes ≡ take m (lines_from F list n head_bytes) = rw k-is (least-lines F S list m n head_bytes) in
       h ∙ ap (λ (ls : List model.Line). end_of_lines T ls) these ∙ sym (cover-by ∙ rw (← e))
 
@@ -186,27 +186,27 @@ module _ (problem plan : List ℕ) (T : Task) (read : read_task version1 problem
 
 module _ (problem plan : List ℕ) where
   pub follow-refused :
-      (list : List ℕ) (r : Refusal) → read_task version1 problem plan ≡ refusal r → refusal r ≡ follow_list version1 problem plan list
+      (list : List ℕ) (r : Refusal) → read_task (limits_of problem) problem plan ≡ refusal r → refusal r ≡ follow_list (limits_of problem) problem plan list
   unfolding follow_list Answer.◌>>=◌
   follow-refused list r h = rw h
 
-  -- F are version 1's numbers
-  module _ (T : Task) (read : read_task version1 problem plan ≡ answered T) (list : List ℕ) (F : Limits) (F-is : F ≡ version1) where
-    follow-by : follow_list version1 problem plan list ≡ Answer.◌>>=◌ (list_of F list) (λ ls. follow T.width (look_at T) T.facts ls 0 0)
-    follow-by = follow-is version1 problem plan T read list ∙ rw F-is
+  -- F are the numbers of the problem's version
+  module _ (T : Task) (read : read_task (limits_of problem) problem plan ≡ answered T) (list : List ℕ) (F : Limits) (F-is : F ≡ limits_of problem) where
+    follow-by : follow_list (limits_of problem) problem plan list ≡ Answer.◌>>=◌ (list_of F list) (λ ls. follow T.width (look_at T) T.facts ls 0 0)
+    follow-by = follow-is (limits_of problem) problem plan T read list ∙ rw F-is
 
-    pub follow-unread : (y : Refusal) → refusal y ≡ list_of F list → refusal y ≡ follow_list version1 problem plan list
+    pub follow-unread : (y : Refusal) → refusal y ≡ list_of F list → refusal y ≡ follow_list (limits_of problem) problem plan list
     unfolding Answer.◌>>=◌
     follow-unread y e = sym (follow-by ∙ rw (← e))
 
     -- the running value after every line tells all
     module _ (n : ℕ) (e : answered (lines_from F list n head_bytes) ≡ list_of F list) (x : Answer ℕ) (x-is : x ≡ end_of_lines T (lines_from F list n head_bytes)) where
-      tested : follow_list version1 problem plan list ≡ Answer.◌>>=◌ x (λ d. ends (eqb d (2 ^ F.width)) n)
+      tested : follow_list (limits_of problem) problem plan list ≡ Answer.◌>>=◌ x (λ d. ends (eqb d (2 ^ F.width)) n)
       unfolding Answer.◌>>=◌
       tested =
-          let S : Sensible F = rw F-is version1-sensible in
+          let S : Sensible F = rw F-is (limits-sensible problem) in
           let count : length (lines_from F list n head_bytes) ≡ n = length-lines_from F S list n head_bytes in
-          let width : T.width ≡ F.width = (task-fits version1 problem plan T read).width ∙ ap (λ (G : Limits). G.width) (sym F-is) in
+          let width : T.width ≡ F.width = (task-fits (limits_of problem) problem plan T read).width ∙ ap (λ (G : Limits). G.width) (sym F-is) in
           let all : follow T.width (look_at T) T.facts (lines_from F list n head_bytes) 0 0 ≡ Answer.◌>>=◌ x (λ d. ends (eqb d (2 ^ F.width)) n) =
           same_answers T.width (look_at T) T.facts (lines_from F list n head_bytes) ∙ rw (← x-is, count, width)
           in
@@ -214,15 +214,15 @@ module _ (problem plan : List ℕ) where
 
     module _ (n : ℕ) (e : answered (lines_from F list n head_bytes) ≡ list_of F list) where
       pub follow-fault :
-          (y : Refusal) → refusal y ≡ end_of_lines T (lines_from F list n head_bytes) → refusal y ≡ follow_list version1 problem plan list
+          (y : Refusal) → refusal y ≡ end_of_lines T (lines_from F list n head_bytes) → refusal y ≡ follow_list (limits_of problem) problem plan list
       unfolding Answer.◌>>=◌
       follow-fault y h = sym (tested n e (refusal y) h)
 
       module _ (d : ℕ) (h : answered d ≡ end_of_lines T (lines_from F list n head_bytes)) where
-        pub follow-short : (d ≡ 2 ^ F.width → ⊥) → refused 70 n ≡ follow_list version1 problem plan list
+        pub follow-short : (d ≡ 2 ^ F.width → ⊥) → refused 70 n ≡ follow_list (limits_of problem) problem plan list
         unfolding Answer.◌>>=◌ ends
         follow-short k = sym (tested n e (answered d) h ∙ rw (ne_eqb d (2 ^ F.width) k))
 
-        pub follow-passes : d ≡ 2 ^ F.width → answered n ≡ follow_list version1 problem plan list
+        pub follow-passes : d ≡ 2 ^ F.width → answered n ≡ follow_list (limits_of problem) problem plan list
         unfolding Answer.◌>>=◌ ends
         follow-passes k = sym (tested n e (answered d) h ∙ rw (eq-eqb d (2 ^ F.width) k))

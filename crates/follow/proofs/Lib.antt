@@ -2,3 +2,5 @@
 pub mod Lines
 pub mod Following
 pub mod Promise
+pub mod Round
+pub mod Versions

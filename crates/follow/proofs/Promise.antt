@@ -8,7 +8,7 @@ use native.Mathlib.Omega.{arith}
 use lib.ListN.{length}
 use lib.Dec.{eqb}
 use borrow.Author.Tests.{eq-eqb}
-use Rattle.model.specs.Limits.{version1}
+use Rattle.model.specs.Limits.{limits_of}
 use Rattle.model.specs.Answer.{Answer, refused, answered}
 use Rattle.model.specs.Case.{Task}
 use Rattle.model.specs.Walk.{Line, look_at}
@@ -20,7 +20,7 @@ use Rattle.model.specs.WellFormed.{Bytes}
 use Rattle.model.proofs.Laws.Tasks.{answer-then, refusal-of}
 use Rattle.model.proofs.Laws.RunningEnd.{same-refusal, covers-to, fault-at, same_answers}
 use Rattle.model.proofs.Laws.Covers.{cover-read, cover-refusal, cover-covers, cover-kept, cover-fault-at}
-use Rattle.model.proofs.Guarantees.{version1-holds}
+use Rattle.model.proofs.Guarantees.{guarantees-of}
 use Rattle.blocks.proofs.Promise.{not-refused}
 use Rattle.follow.specs.Promise.{EndsElsewhere, FollowRefusedFor, FollowPromised, EndKept, CoverPromised}
 
@@ -51,56 +51,56 @@ lines-refused T lines n q e =
 
 module _ (problem plan : List ℕ) where
   -- what is answered was read
-  pub followed-task : (list : List ℕ) (m : ℕ) → follow_list version1 problem plan list ≡ answered m → (T : Task) × (read_task version1 problem plan ≡ answered T)
+  pub followed-task : (list : List ℕ) (m : ℕ) → follow_list (limits_of problem) problem plan list ≡ answered m → (T : Task) × (read_task (limits_of problem) problem plan ≡ answered T)
   unfolding follow_list
   followed-task list m e = answer-then e λ T h k. (T, h)
 
-  follow-refusal : (list : List ℕ) (n q : ℕ) → follow_list version1 problem plan list ≡ refused n q → FollowRefusedFor problem plan list n q
+  follow-refusal : (list : List ℕ) (n q : ℕ) → follow_list (limits_of problem) problem plan list ≡ refused n q → FollowRefusedFor problem plan list n q
   unfolding follow_list
   follow-refusal list n q e =
-      elim (refusal-of (read_task version1 problem plan) e) [
+      elim (refusal-of (read_task (limits_of problem) problem plan) e) [
         | inl h ↦ inl h
         | inr (T, h, k) ↦
-            elim (refusal-of (list_of version1 list) k) [
+            elim (refusal-of (list_of (limits_of problem) list) k) [
               | inl l ↦ inr (T, h, inl l)
               | inr (lines, l, m) ↦ inr (T, h, inr (lines, l, lines-refused T lines n q m))
             ]
       ]
 
-  pub follow-promised : (list : List ℕ) → Bytes list → (r : Answer ℕ) → r ≡ follow_list version1 problem plan list → FollowPromised problem plan list r
+  pub follow-promised : (list : List ℕ) → Bytes list → (r : Answer ℕ) → r ≡ follow_list (limits_of problem) problem plan list → FollowPromised problem plan list r
   follow-promised list b (refused n q) e = (
     follow-refusal list n q (sym e),
     λ T h lines p.
-        not-refused (((version1-holds.certificates problem plan T h).passes_exactly list b (length lines)).1 (lines, p, refl)) (sym e),
+        not-refused ((((guarantees-of problem).certificates problem plan T h).passes_exactly list b (length lines)).1 (lines, p, refl)) (sym e),
   )
   follow-promised list b (answered m) e =
       let (T, h) = followed-task list m (sym e) in
-      let (lines, p, count) = ((version1-holds.certificates problem plan T h).passes_exactly list b m).0 (sym e) in
+      let (lines, p, count) = (((guarantees-of problem).certificates problem plan T h).passes_exactly list b m).0 (sym e) in
       (T, h, lines, p, count)
 
   -- the end after the first i lines
   kept :
-      (list : List ℕ) (T : Task) → read_task version1 problem plan ≡ answered T → (lines : List Line) → list_of version1 list ≡ answered lines →
-      (m i : ℕ) → i ≤ m → ((f p : ℕ) → cover_after version1 problem plan list m ≡ refused f p → i ≤ p) → EndKept problem plan list T lines i
+      (list : List ℕ) (T : Task) → read_task (limits_of problem) problem plan ≡ answered T → (lines : List Line) → list_of (limits_of problem) list ≡ answered lines →
+      (m i : ℕ) → i ≤ m → ((f p : ℕ) → cover_after (limits_of problem) problem plan list m ≡ refused f p → i ≤ p) → EndKept problem plan list T lines i
   kept list T h lines k m i l g =
-      let (d, a, c) = cover-kept version1 problem plan list T h lines k m i l g in
+      let (d, a, c) = cover-kept (limits_of problem) problem plan list T h lines k m i l g in
       record { end = d; answers = a; covers = c }
 
-  pub cover-promised : (list : List ℕ) (m : ℕ) (r : Answer ℕ) → r ≡ cover_after version1 problem plan list m → CoverPromised problem plan list m r
+  pub cover-promised : (list : List ℕ) (m : ℕ) (r : Answer ℕ) → r ≡ cover_after (limits_of problem) problem plan list m → CoverPromised problem plan list m r
   cover-promised list m (refused n q) e =
-      elim (cover-refusal version1 problem plan list m n q (sym e)) [
+      elim (cover-refusal (limits_of problem) problem plan list m n q (sym e)) [
         | inl h ↦ inl h
         | inr (T, h, inl k) ↦ inr (T, h, inl k)
         | inr (T, h, inr (lines, k)) ↦
-            let (o, inside) = cover-fault-at version1 problem plan list T h lines k m n q (sym e) in
+            let (o, inside) = cover-fault-at (limits_of problem) problem plan list T h lines k m n q (sym e) in
             inr (T, h, inr (lines, k, o, λ i l. kept list T h lines k m i (omega arith) (λ f p g. let (_, place) = same-refusal (sym g ∙ sym e) in omega arith)))
       ]
   cover-promised list m (answered x) e =
-      let (T, h, lines, k) = cover-read version1 problem plan list m x (sym e) in (
+      let (T, h, lines, k) = cover-read (limits_of problem) problem plan list m x (sym e) in (
         T,
         h,
         lines,
         k,
-        cover-covers version1 problem plan list T h lines k m x (sym e),
+        cover-covers (limits_of problem) problem plan list T h lines k m x (sym e),
         λ i l. kept list T h lines k m i l (λ f p g. absurd (not-refused (sym e) g)),
       )

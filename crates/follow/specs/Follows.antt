@@ -1,6 +1,7 @@
 -- What following lines answers.
-use Rattle.std.specs.Prelude.{List, ℕ, ◌+◌, ◌-◌, ◌^◌, Result, Ok, Err}
+use Rattle.std.specs.Prelude.{◌≡◌, ◌⊎◌, List, ℕ, ◌+◌, ◌-◌, ◌^◌, Result, Ok, Err}
 use Rattle.model.specs.declared.Limits.{Limits}
+use Rattle.model.specs.Limits.{version1, version2}
 use Rattle.model.specs.declared.Refusal.{Refusal}
 use Rattle.model.specs.Answer.{Answer, answered}
 use Rattle.model.specs.Answers.{refusal, result_answer}
@@ -27,3 +28,7 @@ end_of_lines T ls = cover_end T.width (look_at T) T.facts ls 0 0
 -- the refusal of a list's block, or its lines
 abbrev pub lines_counted : Limits → List ℕ → Result ℕ Refusal → Answer (List Line)
 lines_counted F list = result_answer (λ count. lines_from F list count head_bytes)
+
+-- the numbers of one of the versions
+abbrev pub OfAVersion : Limits → Type 0
+OfAVersion F = (F ≡ version1) ⊎ (F ≡ version2)

@@ -2,7 +2,6 @@
 ghost use Rattle.std.proofs.Props.{props};
 ghost use Rattle.std.specs.Prelude.{ℕ, ◌≡◌, ◌<◌, ◌≤◌};
 ghost use Rattle.cases.specs.Cases.{case_of, values_of};
-ghost use Rattle.follow.specs.Covered.{EndFits};
 
 use crate::covered::Covered;
 use blocks::Task;
@@ -21,7 +20,6 @@ pub struct Follower<'a> {
     case: Case,
     pub covered: Covered,
     conditions: Conditions,
-    ghost end_fits: { EndFits task.now.problem.now.limits.width },
     ghost facts: { cases.facts ≡ task.now.problem.now.facts },
     ghost fixed: { case.fixed ≤ cases.facts },
     ghost lanes: { (j : ℕ) → j < 64 → case_of cases j ≡ values_of cases.facts case } by { Prim.hlevel props },
@@ -34,7 +32,6 @@ impl<'a> Follower<'a> {
 
     // Before the first line it stands at the case that fixes no fact, and nothing is covered.
     pub fn new(task: &'a Task<'a>) -> Follower<'a>
-        requires { EndFits task.now.problem.now.limits.width }
         ensures task { result.task.now ≡ task.entry.now }
         ensures covered { result.covered ≡ 0 }
     {

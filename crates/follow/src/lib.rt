@@ -5,4 +5,5 @@ mod covered;
 mod follower;
 pub mod operations;
 
+pub use covered::Covered;
 pub use operations::{cover_after, follow_list};

@@ -1,22 +1,21 @@
 // The operations on a list that somebody else may have written: where its first lines end, and whether it passes.
 ghost use Rattle.std.specs.Prelude.{◌≡◌, ◌+◌, ◌*◌, ◌≤◌, ◌<◌, length, IfOk};
 ghost use Rattle.model.specs.Read.{head_bytes};
-ghost use Rattle.model.specs.Limits.{version1};
+ghost use Rattle.model.specs.Limits.{limits_of};
 ghost use Rattle.model.specs.WellFormed.{Sensible};
 ghost use Rattle.model.specs.ListBytes.{lines_from, list_of};
 ghost use Rattle.model.specs.Operations.{follow_list, cover_after};
 ghost use Rattle.model.specs.Answers.{plain_answer};
 ghost use Rattle.blocks.specs.Values.{task as task_of};
-ghost use Rattle.follow.specs.Covered.{EndFits};
-ghost use Rattle.follow.specs.Follows.{lines_counted, end_of_lines};
+ghost use Rattle.follow.specs.Follows.{OfAVersion, lines_counted, end_of_lines};
 ghost use Rattle.follow.specs.Promise.{FollowPromised, CoverPromised};
 
 use crate::covered::Covered;
 use crate::follower::Follower;
 use blocks::{Problem, Task};
-use fields::check_header;
+use fields::check_list_header;
 use lines::ListReader;
-use model::{Block, Fault, Limits, Refusal};
+use model::{Fault, Limits, Refusal};
 
 // How many lines a list block has: refused if its header is wrong, or if its last line is not whole.
 fn count_lines(list: &[u8], limits: Limits) -> Result<usize, Refusal>
@@ -24,8 +23,7 @@ fn count_lines(list: &[u8], limits: Limits) -> Result<usize, Refusal>
     ensures counted { lines_counted limits list.now result ≡ list_of limits list.now }
     ensures inside { IfOk result (λ count. head_bytes + limits.line * count ≤ length list.now) }
 {
-    let most = Limits::HEAD_BYTES + limits.line * limits.lines;
-    check_header(list, Block::List, most, limits.version)?;
+    check_list_header(list, limits)?;
     let body = list.len() - Limits::HEAD_BYTES;
     if body % limits.line != 0 {
         return Err(Fault::PartialLine.at_byte(list.len()));
@@ -33,10 +31,28 @@ fn count_lines(list: &[u8], limits: Limits) -> Result<usize, Refusal>
     Ok(body / limits.line)
 }
 
-// Follows the first so many lines, one after the other: what they cover together.
+// Follows the first so many lines, one after the other: what they cover together. Each version has the loop to itself, compiled by its numbers.
 fn follow_lines(task: &Task, list: &[u8], limits: Limits, count: usize) -> Result<Covered, Refusal>
+    requires version { OfAVersion limits }
     requires limits { limits ≡ task.now.problem.now.limits }
-    requires fits { EndFits limits.width }
+    requires inside { head_bytes + limits.line * count ≤ length list.now }
+    ensures { plain_answer result ≡ end_of_lines (task_of task.now) (lines_from limits list.now count head_bytes) }
+{
+    if limits.version == 2 {
+        return follow_lines_by(task, list, Limits::version2(), count);
+    }
+    follow_lines_by(task, list, Limits::version1(), count)
+}
+
+// The same, by numbers that the compiler knows where it is called.
+#[inline(always)]
+fn follow_lines_by(
+    task: &Task,
+    list: &[u8],
+    limits: Limits,
+    count: usize,
+) -> Result<Covered, Refusal>
+    requires limits { limits ≡ task.now.problem.now.limits }
     requires inside { head_bytes + limits.line * count ≤ length list.now }
     ensures { plain_answer result ≡ end_of_lines (task_of task.now) (lines_from limits list.now count head_bytes) }
 {
@@ -49,34 +65,34 @@ fn follow_lines(task: &Task, list: &[u8], limits: Limits, count: usize) -> Resul
     Ok(follower.covered)
 }
 
-// Where the cover ends after the first so many lines of a list, or after all where it has fewer: the refusals of problem and plan, those of
-// the list's block, those of these lines, or that end.
-pub fn cover_after(problem: &[u8], plan: &[u8], list: &[u8], lines: usize) -> Result<u64, Refusal>
-    ensures answer { plain_answer result ≡ cover_after version1 problem.now plan.now list.now lines }
+// What the first so many lines of a list cover, or all where it has fewer: the refusals of problem and plan, those of the list's block, those
+// of these lines, or how many numbers that is, which are all below where it ends.
+pub fn cover_after(
+    problem: &[u8],
+    plan: &[u8],
+    list: &[u8],
+    lines: usize,
+) -> Result<Covered, Refusal>
+    ensures answer { plain_answer result ≡ cover_after (limits_of problem.now) problem.now plan.now list.now lines }
     ensures promised { CoverPromised problem.now plan.now list.now lines (plain_answer result) }
 {
     let found = Problem::read(problem)?;
     let task = found.plan(plan)?;
-    // the problem's limits are these, and here the compiler knows them: a line's bytes are a constant in the loop
-    let limits = Limits::version1();
-    let count = count_lines(list, limits)?;
-    let covered = follow_lines(&task, list, limits, lines.min(count))?;
-    Ok(covered.end())
+    let count = count_lines(list, found.limits)?;
+    follow_lines(&task, list, found.limits, lines.min(count))
 }
 
-// Follow a list: the refusals of problem and plan, 60 to 70, or the line count of a list that passes. After the last line the running value
+// Follow a list: the refusals of problem and plan, 60 to 71, or the line count of a list that passes. After the last line the running value
 // is all that is asked.
 pub fn follow_list(problem: &[u8], plan: &[u8], list: &[u8]) -> Result<usize, Refusal>
-    ensures answer { plain_answer result ≡ follow_list version1 problem.now plan.now list.now }
+    ensures answer { plain_answer result ≡ follow_list (limits_of problem.now) problem.now plan.now list.now }
     ensures promised { FollowPromised problem.now plan.now list.now (plain_answer result) }
 {
     let found = Problem::read(problem)?;
     let task = found.plan(plan)?;
-    // as in `cover_after`, these are known to the compiler
-    let limits = Limits::version1();
-    let count = count_lines(list, limits)?;
-    let covered = follow_lines(&task, list, limits, count)?;
-    if !covered.is_whole(limits.width) {
+    let count = count_lines(list, found.limits)?;
+    let covered = follow_lines(&task, list, found.limits, count)?;
+    if !covered.is_whole(found.limits.width) {
         return Err(Fault::ListEnds.at(count as u64));
     }
     Ok(count)

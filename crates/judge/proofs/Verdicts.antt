@@ -1,6 +1,6 @@
 -- The judge's verdict, by the walk of a whole task. Assumes nothing.
 use Rattle.std.proofs.Common.{◌≡◌, refl, sym, ap, ◌∙◌, inl, inr, List, ℕ, ◌-◌, ◌≤◌, arith, Ok, Err}
-use Rattle.model.specs.Limits.{version1}
+use Rattle.model.specs.Limits.{limits_of}
 use Rattle.model.specs.Answer as Answer
 use Rattle.model.specs.Answer.{Answer, answered}
 use Rattle.model.specs.Case.{Task, run_of, IsState}
@@ -54,6 +54,6 @@ module _ {L : Type 0} (puts : L → List Line → L → Type 0) (T : Task) (n≤
 
 -- ---- the blocks
 
-pub judge-refused : (s t : List ℕ) (y : Refusal) → read_task version1 s t ≡ refusal y → (g : ℕ) → refusal y ≡ judge version1 s t g
+pub judge-refused : (s t : List ℕ) (y : Refusal) → read_task (limits_of s) s t ≡ refusal y → (g : ℕ) → refusal y ≡ judge (limits_of s) s t g
 unfolding judge Answer.◌>>=◌
 judge-refused s t y e g = rw e

@@ -1,6 +1,6 @@
 // Judge with a grant.
 ghost use Rattle.std.specs.Prelude.{◌≡◌};
-ghost use Rattle.model.specs.Limits.{version1};
+ghost use Rattle.model.specs.Limits.{limits_of};
 ghost use Rattle.model.specs.Case.{run_of, IsState};
 ghost use Rattle.model.specs.Operations as operations;
 ghost use Rattle.model.specs.Answers.{outcome, judge_answer};
@@ -45,7 +45,7 @@ pub fn judge_task<L: Lines>(task: &Task, grant: u64, lines: &mut L) -> Verdict
 // Judge with a grant: the refusals of problem and plan; right with lines and visits; wrong with the lowest failing start state, its
 // outcome and visits; or undecided with visits equal to the grant. The lines are counted, and none is kept.
 pub fn judge(problem: &[u8], plan: &[u8], grant: u64) -> Result<Verdict, Refusal>
-    ensures answer { judge_answer result ≡ operations.judge version1 problem.now plan.now grant }
+    ensures answer { judge_answer result ≡ operations.judge (limits_of problem.now) problem.now plan.now grant }
     ensures promised { JudgePromised problem.now plan.now grant (judge_answer result) }
 {
     let found = Problem::read(problem)?;

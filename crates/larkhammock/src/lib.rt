@@ -3,7 +3,7 @@
 #![tactic(auto)]
 
 ghost use Rattle.std.specs.Prelude.{◌≡◌, [], ◌∷◌, get_or};
-ghost use Rattle.model.specs.Limits.{version1};
+ghost use Rattle.model.specs.Limits.{limits_of};
 ghost use Rattle.model.specs.Answers.{part as part_of, outcome as meaning, verdict as verdict_of, search_end};
 ghost use Rattle.model.specs.Faults.{fault_number};
 ghost use Rattle.model.specs.Operations.{read_problem, read_plan, run_state, judge, write_list, follow_list, relevant_facts, search_plans};
@@ -57,7 +57,7 @@ fn refused(r: Refusal) -> Answer
 
 #[unsafe(no_mangle)]
 pub extern "C" fn larkhammock_read_problem(problem: &[u8]) -> Answer
-    ensures { result.word ≡ problem_words (read_problem version1 problem.now) }
+    ensures { result.word ≡ problem_words (read_problem (limits_of problem.now) problem.now) }
 {
     match blocks::read_problem(problem) {
         Err(r) => refused(r),
@@ -67,7 +67,7 @@ pub extern "C" fn larkhammock_read_problem(problem: &[u8]) -> Answer
 
 #[unsafe(no_mangle)]
 pub extern "C" fn larkhammock_read_plan(problem: &[u8], plan: &[u8]) -> Answer
-    ensures { result.word ≡ count_words (read_plan version1 problem.now plan.now) }
+    ensures { result.word ≡ count_words (read_plan (limits_of problem.now) problem.now plan.now) }
 {
     match blocks::read_plan(problem, plan) {
         Err(r) => refused(r),
@@ -91,7 +91,7 @@ fn ended(outcome: Outcome) -> Answer
 
 #[unsafe(no_mangle)]
 pub extern "C" fn larkhammock_run(problem: &[u8], plan: &[u8], state: u64) -> Answer
-    ensures { result.word ≡ run_words (run_state version1 problem.now plan.now state) }
+    ensures { result.word ≡ run_words (run_state (limits_of problem.now) problem.now plan.now state) }
 {
     match execute::run(problem, plan, state) {
         Err(r) => refused(r),
@@ -133,7 +133,7 @@ fn told(verdict: Verdict) -> Answer
 
 #[unsafe(no_mangle)]
 pub extern "C" fn larkhammock_judge(problem: &[u8], plan: &[u8], grant: u64) -> Answer
-    ensures { result.word ≡ judge_words (judge version1 problem.now plan.now grant) }
+    ensures { result.word ≡ judge_words (judge (limits_of problem.now) problem.now plan.now grant) }
 {
     match judge::judge(problem, plan, grant) {
         Err(r) => refused(r),
@@ -148,8 +148,8 @@ pub extern "C" fn larkhammock_write_list(
     grant: u64,
     out: &mut [u8],
 ) -> Answer
-    ensures word { result.word ≡ count_words (write_list version1 problem.now plan.now grant out.old).answer }
-    ensures buffer { out.new ≡ (write_list version1 problem.now plan.now grant out.old).buffer }
+    ensures word { result.word ≡ count_words (write_list (limits_of problem.now) problem.now plan.now grant out.old).answer }
+    ensures buffer { out.new ≡ (write_list (limits_of problem.now) problem.now plan.now grant out.old).buffer }
 {
     match certificate::write_list(problem, plan, grant, out) {
         Err(r) => refused(r),
@@ -159,7 +159,7 @@ pub extern "C" fn larkhammock_write_list(
 
 #[unsafe(no_mangle)]
 pub extern "C" fn larkhammock_follow_list(problem: &[u8], plan: &[u8], list: &[u8]) -> Answer
-    ensures { result.word ≡ count_words (follow_list version1 problem.now plan.now list.now) }
+    ensures { result.word ≡ count_words (follow_list (limits_of problem.now) problem.now plan.now list.now) }
 {
     match follow::follow_list(problem, plan, list) {
         Err(r) => refused(r),
@@ -174,8 +174,8 @@ pub extern "C" fn larkhammock_relevant_facts(
     state: u64,
     work: &mut [u8],
 ) -> Answer
-    ensures word { result.word ≡ count_words (relevant_facts version1 problem.now plan.now state work.old).answer }
-    ensures buffer { work.new ≡ (relevant_facts version1 problem.now plan.now state work.old).buffer }
+    ensures word { result.word ≡ count_words (relevant_facts (limits_of problem.now) problem.now plan.now state work.old).answer }
+    ensures buffer { work.new ≡ (relevant_facts (limits_of problem.now) problem.now plan.now state work.old).buffer }
 {
     match relevance::relevant_facts(problem, plan, state, work) {
         Err(r) => refused(r),
@@ -218,7 +218,7 @@ fn searched(search: Search) -> Answer
 
 #[unsafe(no_mangle)]
 pub extern "C" fn larkhammock_search_plans(problem: &[u8], longest: u64, grant: u64) -> Answer
-    ensures { result.word ≡ search_words (search_plans version1 problem.now longest grant) }
+    ensures { result.word ≡ search_words (search_plans (limits_of problem.now) problem.now longest grant) }
 {
     match search::search_plans(problem, longest, grant) {
         Err(r) => refused(r),

@@ -15,7 +15,7 @@ pub struct RawLine {
 }
 
 impl RawLine {
-    ghost use Rattle.std.specs.Prelude.{◌+◌, ◌*◌, ◌^◌, ◌<◌, length};
+    ghost use Rattle.std.specs.Prelude.{◌+◌, ◌-◌, ◌*◌, ◌%◌, ◌^◌, ◌<◌, length};
     ghost use Rattle.model.specs.Read.{head_bytes};
     ghost use Rattle.model.specs.ListBytes.{line_at};
     ghost use Rattle.lines.specs.Lines.{raw_line, line_read, checked};
@@ -45,6 +45,7 @@ impl RawLine {
         ensures line { line_read result ≡ checked limits.now.width facts number (raw_line self) }
         ensures value { IfOk result (λ l. l.value ≡ self.value) }
         ensures within { IfOk result (λ l. l.k ≤ facts) }
+        ensures begins { IfOk result (λ l. l.value % 2 ^ (limits.now.width - l.k) ≡ 0) }
     {
         let place = number as u64;
         let Ok(kind) = Kind::try_from(self.kind) else {

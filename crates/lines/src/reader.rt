@@ -1,5 +1,5 @@
 // A reader of a case list.
-ghost use Rattle.std.specs.Prelude.{◌≡◌, ◌+◌, ◌*◌, ◌^◌, ◌<◌, ◌≤◌, length, IfOk};
+ghost use Rattle.std.specs.Prelude.{◌≡◌, ◌+◌, ◌-◌, ◌*◌, ◌%◌, ◌^◌, ◌<◌, ◌≤◌, length, IfOk};
 ghost use Rattle.model.specs.ListBytes.{line_at};
 ghost use Rattle.lines.specs.Lines.{line_read, checked};
 ghost use Rattle.model.specs.Read.{head_bytes};
@@ -18,6 +18,7 @@ pub fn check_line(list: &[u8], line: usize, facts: u8, limits: &Limits) -> Resul
     ensures line { line_read result ≡ checked limits.now.width facts line (line_at limits.now list.now (head_bytes + limits.now.line * line)) }
     ensures fits { IfOk result (λ l. l.value < 2 ^ limits.now.width) }
     ensures within { IfOk result (λ l. l.k ≤ facts) }
+    ensures begins { IfOk result (λ l. l.value % 2 ^ (limits.now.width - l.k) ≡ 0) }
 {
     RawLine::read(list, line, limits).check_form(line, facts, limits)
 }
@@ -98,6 +99,7 @@ impl<'a> ListReader<'a> {
         ensures line { line_read result ≡ checked self.now.limits.width facts self.now.line (line_here self.now) }
         ensures fits { IfOk result (λ l. l.value < 2 ^ self.now.limits.width) }
         ensures within { IfOk result (λ l. l.k ≤ facts) }
+        ensures begins { IfOk result (λ l. l.value % 2 ^ (self.now.limits.width - l.k) ≡ 0) }
     {
         check_line(self.list, self.line, facts, &self.limits)
     }

@@ -7,7 +7,7 @@ use Rattle.model.specs.Limits.{version1}
 use Rattle.model.specs.Walk.{Line, Verdict, walked}
 use Rattle.model.specs.DeskText.{verdict_line, verdict_rest}
 use Rattle.model.specs.Operations.{line_count}
-use Rattle.model.specs.Trials.{Hold, reply, P_no_start, starred, NoStart, edges, DeskGrant, unmet_members, conflicts, running_ends, relevances, searches}
+use Rattle.model.specs.Trials.{Hold, reply, P_no_start, starred, NoStart, edges, DeskGrant, unmet_members, conflicts, running_ends, relevances, searches, versions}
 use Rattle.model.proofs.Laws.Tasks.{task-fits}
 use Rattle.model.proofs.Laws.Judging.{judged-in, judged-out}
 use Rattle.model.proofs.Laws.NoStart.{no_start}
@@ -41,6 +41,10 @@ pub searches-hold : Hold searches
 unfolding reply
 searches-hold = refl
 
+pub versions-hold : Hold versions
+unfolding reply
+versions-hold = refl
+
 pub no-start-holds : NoStart
 unfolding reply
 no-start-holds = no_start version1 (omega arith) P_no_start refl refl (omega arith)
@@ -67,4 +71,5 @@ trials-hold =
       running_ends = running-ends-hold;
       relevances = relevances-hold;
       searches = searches-hold;
+      versions = versions-hold;
     }

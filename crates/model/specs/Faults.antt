@@ -6,7 +6,7 @@ use Rattle.model.specs.declared.fault.HeaderFault.{HeaderFault}
 use Rattle.model.specs.declared.fault.HeaderFault.TheVariants.{TooLong, TooShort, Version, Length}
 use Rattle.model.specs.declared.fault.Fault.{Fault}
 use Rattle.model.specs.declared.Refusal.{Refusal}
-use Rattle.model.specs.declared.fault.Fault.TheVariants.{Header, BlockEnds, FactCount, ActionCount, FormulaLength, Member, Depth, FormulaEnds, FormulaLeft, EffectCount, EffectLiteral, EffectOrder, BytesLeft, StepAction, StateNumber, RunNotReached, ShortWork, PlanLength, TooManyPlans, Undecided, Wrong, TooManyLines, ShortBuffer, PartialLine, LineKind, LineFacts, LineValue, LinePlace, LineClaim, ListEnds}
+use Rattle.model.specs.declared.fault.Fault.TheVariants.{Header, BlockEnds, FactCount, ActionCount, FormulaLength, Member, Depth, FormulaEnds, FormulaLeft, EffectCount, EffectLiteral, EffectOrder, BytesLeft, StepAction, StateNumber, RunNotReached, ShortWork, PlanLength, TooManyPlans, Undecided, Wrong, TooManyLines, ShortBuffer, PartialLine, LineKind, LineFacts, LineValue, LinePlace, LineClaim, ListEnds, OtherVersion}
 
 abbrev pub block_number : Block → ℕ
 block_number block.Problem = 10
@@ -51,6 +51,7 @@ fault_number LineValue = 67
 fault_number LinePlace = 68
 fault_number LineClaim = 69
 fault_number ListEnds = 70
+fault_number OtherVersion = 71
 
 -- the refusal of a fault at a place
 abbrev pub refusal_at : Fault → ℕ → Refusal

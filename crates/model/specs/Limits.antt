@@ -1,6 +1,6 @@
 -- The limits and sizes of the formats. `Limits`, what a version's numbers are, is declared in src/lib.rt, where
 -- `Limits::version1` ties the numbers of version 1 to the associated constants of the types that they bound.
-use Rattle.std.specs.Prelude.{ℕ}
+use Rattle.std.specs.Prelude.{Bool, cond, ◌||◌, List, ℕ, get_or, eqb}
 use Rattle.model.specs.declared.Limits.{Limits}
 
 -- what no version changes: at most 64 actions, 256 steps and 32,768 bytes of a problem; formulas of 1 to 1,024 bytes, whose groups stand in one
@@ -45,3 +45,23 @@ version1 =
       line = 8;
       lines = 8191;
     }
+
+-- the numbers of version 2
+abbrev pub version2 : Limits
+version2 =
+    record {
+      version = 2;
+      width = 64;
+      facts = 64;
+      effects = 128;
+      line = 10;
+      lines = 6553;
+    }
+
+-- the versions of problems and lists
+abbrev pub is_version : ℕ → Bool
+is_version b = eqb b 1 || eqb b 2
+
+-- versions: the numbers of the version that a problem's block begins with. A block that begins with none is refused by those of version 1.
+abbrev pub limits_of : List ℕ → Limits
+limits_of problem = cond (eqb (get_or problem 0 0) 2) version2 version1

@@ -1,9 +1,10 @@
--- List blocks, and the refusals of the block: 60 to 64.
+-- List blocks, and the refusals of the block: 60 to 64, and 71.
 use Rattle.std.specs.Prelude.{List, [], ◌∷◌, ◌++◌, ℕ, zero, suc, ◌+◌, ◌-◌, ◌*◌, ◌/◌, ◌%◌, length, get_or, take, drop, eqb}
 use Rattle.model.specs.declared.Limits.{Limits}
 use Rattle.model.specs.Answer.{Answer}
 use Rattle.model.specs.Walk.{Line}
-use Rattle.model.specs.Read.{Reader, ◌>>◌, done, require, answer_of, head_bytes, header, big_endian, bytes_of, block}
+use Rattle.model.specs.Limits.{is_version}
+use Rattle.model.specs.Read.{Reader, ◌>>◌, done, require, answer_of, head_bytes, of_version, header, big_endian, bytes_of, block}
 
 module _ (F : Limits) (s : List ℕ) where
   -- the line whose first byte is at p: its kind, its k, and the bytes of its value
@@ -14,10 +15,17 @@ module _ (F : Limits) (s : List ℕ) where
   lines_from zero p = []
   lines_from (suc n) p = line_at p ∷ lines_from n (p + F.line)
 
-  -- list block: 60, at the most bytes that one may have, if it has more; 61 to 63 for its header; 64, at its length, if its last line is not whole
+  -- 62 for a version that there is none of, and then 71 for another one than the problem's
+  unfoldable pub of_the_problem : Reader (Unit {0})
+  of_the_problem = do
+    require (is_version (get_or s 0 0)) 62 0
+    of_version s F.version 71
+
+  -- list block: 60, at the most bytes that one may have, if it has more; 61 to 63, and 71, for its header; 64, at its length, if its last line is not
+  -- whole
   unfoldable pub case_list : Reader (List Line)
   case_list = do
-    header s 60 (head_bytes + F.line * F.lines) F.version
+    header s 60 (head_bytes + F.line * F.lines) of_the_problem
     require (eqb ((length s - head_bytes) % F.line) 0) 64 (length s)
     done (lines_from ((length s - head_bytes) / F.line) head_bytes)
 

@@ -5,7 +5,7 @@ use Rattle.model.specs.Limits.{max_actions, max_steps, max_problem_bytes}
 use Rattle.model.specs.Answer.{Answer}
 use Rattle.model.specs.Formula.{Formula, all, none}
 use Rattle.model.specs.Action.{Effect, Action}
-use Rattle.model.specs.Read.{Reader, ◌>>=◌, ◌>>◌, done, position, require, answer_of, head_bytes, byte, counted, header, count, block}
+use Rattle.model.specs.Read.{Reader, ◌>>=◌, ◌>>◌, done, position, require, answer_of, head_bytes, byte, counted, of_version, header, count, block}
 use Rattle.model.specs.FormulaBytes.{is_literal, literal_of, literal_byte, formula, encode_formula}
 
 -- problems: facts and actions are known by their numbers, from 0 on
@@ -82,7 +82,7 @@ module _ (F : Limits) (s : List ℕ) where
   -- problem block: its header, and then its body
   unfoldable pub problem : Reader Problem
   problem = do
-    header s 10 max_problem_bytes F.version
+    header s 10 max_problem_bytes (of_version s F.version 12)
     body
 
   unfoldable pub problem_of : Answer Problem
@@ -103,7 +103,7 @@ module _ (s : List ℕ) where
   -- version is 1.
   unfoldable pub plan : ℕ → Reader (List ℕ)
   plan m = do
-    header s 30 (head_bytes + max_steps) 1
+    header s 30 (head_bytes + max_steps) (of_version s 1 32)
     steps m (length s - head_bytes)
 
   unfoldable pub plan_of : ℕ → Answer (List ℕ)

@@ -65,13 +65,18 @@ module _ (s : List ℕ) where
   unfoldable pub counted : Reader ℕ
   counted p = got (get_or s p 0) (p + 1)
 
-  -- block header: of a block of at most `most` bytes; its four faults have the numbers from the given one on: too long a block, at the byte past
-  -- the most; one with no room for a header, at its length; another version, at 0; a length that is not that of the bytes that follow, at 1
-  unfoldable pub header : ℕ → ℕ → ℕ → Reader (Unit {0})
-  header number most version = do
+  -- a block of this version, and otherwise the fault of this number at 0
+  unfoldable pub of_version : ℕ → ℕ → Reader (Unit {0})
+  of_version version number = require (eqb (get_or s 0 0) version) number 0
+
+  -- block header: of a block of at most `most` bytes, whose version is tested by `versions`. Its faults have the numbers from the given one on: too
+  -- long a block, at the byte past the most; one with no room for a header, at its length; what the version is refused for; a length that is not
+  -- that of the bytes that follow, at 1.
+  unfoldable pub header : ℕ → ℕ → Reader (Unit {0}) → Reader (Unit {0})
+  header number most versions = do
     require (leb (length s) most) number most
     require (leb head_bytes (length s)) (number + 1) (length s)
-    require (eqb (get_or s 0 0) version) (number + 2) 0
+    versions
     require (eqb (big_endian (take 4 (drop 1 s))) (length s - head_bytes)) (number + 3) 1
     λ p. got tt head_bytes
 

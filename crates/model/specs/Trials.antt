@@ -3,7 +3,7 @@
 use Rattle.std.specs.Prelude.{◌≡◌, List, [], ◌∷◌, ◌++◌, ℕ, zero, suc, ◌≤◌, ◌<◌, length, drop, replicate, map, codes}
 use Rattle.std.specs.Fmt.{digits}
 use Rattle.model.specs.declared.Limits.{Limits}
-use Rattle.model.specs.Limits.{version1}
+use Rattle.model.specs.Limits.{version1, version2, limits_of}
 use Rattle.model.specs.Formula.{eval}
 use Rattle.model.specs.Action.{condition_in, every, exclusive, applicable, next, step}
 use Rattle.model.specs.Run.{first_false, unmet, lowest_false, at_member, at_fact, part_of, Outcome, reached, missed, blocked, goes_on, run}
@@ -15,10 +15,10 @@ use Rattle.model.specs.CaseList.{first, refuse_at, ends, fault, follow}
 use Rattle.model.specs.Cover.{cover_end}
 use Rattle.model.specs.Relevance.{names, some, has_entry, matters_before, relevant, states, number_of, rows, relevant_to, run_rows}
 use Rattle.model.specs.Search.{Search, first_right, none_right, undecided_at, each_step, plans_of, plans_from, plans_up_to, plan_count, search}
-use Rattle.model.specs.Read.{and_then, ◌>>=◌, ◌>>◌, done, position, require, answer_of, big_endian_from, bytes_of, block, byte, counted, header, count}
+use Rattle.model.specs.Read.{and_then, ◌>>=◌, ◌>>◌, done, position, require, answer_of, big_endian_from, bytes_of, block, byte, counted, of_version, header, count}
 use Rattle.model.specs.FormulaBytes.{is_literal, literal_of, group_head, head_from, head, members, whole, item, stated, formula}
 use Rattle.model.specs.ProblemBytes.{effect, effects, effect_list, action, actions, ending, parts, body, problem, problem_of, steps, plan, plan_of, action_at}
-use Rattle.model.specs.ListBytes.{line_at, lines_from, case_list, list_of, line_bytes, lines_bytes, encode_list}
+use Rattle.model.specs.ListBytes.{line_at, lines_from, of_the_problem, case_list, list_of, line_bytes, lines_bytes, encode_list}
 use Rattle.model.specs.Text.{hex}
 use Rattle.model.specs.DeskText.{marks, verdict_line, lines_text, list_text, verdict_rest, answer_line, answer_rest, first_line, later_lines, desk_text}
 use Rattle.model.specs.declared.Counts.{Counts}
@@ -47,16 +47,16 @@ pub data Reply : Type 0 where
 
 -- what the definitions give; a proof that unfolds this computes with all of them
 unfoldable pub reply : Call → Reply
-unfolding eval condition_in every exclusive applicable next step first_false unmet lowest_false part_of goes_on run bit state_of case_of run_of walk_from walk look_at walked judged Answer.◌>>=◌ first refuse_at ends fault follow cover_end and_then ◌>>=◌ ◌>>◌ done position require answer_of big_endian_from bytes_of block byte counted header count is_literal literal_of group_head head_from head members whole item stated formula effect effects effect_list action actions ending parts body problem problem_of steps plan plan_of action_at line_at lines_from case_list list_of line_bytes lines_bytes encode_list is_state_number read_problem read_plan task_of read_task run_state judge list_bytes lines_for written list_for write_list follow_list cover_after names some has_entry matters_before relevant states number_of rows relevant_to run_rows reached_task relevant_facts each_step plans_of plans_from plans_up_to plan_count search search_plans hex digits marks lines_text list_text verdict_rest answer_line answer_rest first_line later_lines desk_text
-reply (read-problem p) = counts (read_problem version1 p)
-reply (read-plan p q) = number (read_plan version1 p q)
-reply (run-state p q s) = outcome (run_state version1 p q s)
-reply (judge_with p q g) = verdict (judge version1 p q g)
+unfolding eval condition_in every exclusive applicable next step first_false unmet lowest_false part_of goes_on run bit state_of case_of run_of walk_from walk look_at walked judged Answer.◌>>=◌ first refuse_at ends fault follow cover_end and_then ◌>>=◌ ◌>>◌ done position require answer_of big_endian_from bytes_of block byte counted of_version header count is_literal literal_of group_head head_from head members whole item stated formula effect effects effect_list action actions ending parts body problem problem_of steps plan plan_of action_at line_at lines_from of_the_problem case_list list_of line_bytes lines_bytes encode_list is_state_number read_problem read_plan task_of read_task run_state judge list_bytes lines_for written list_for write_list follow_list cover_after names some has_entry matters_before relevant states number_of rows relevant_to run_rows reached_task relevant_facts each_step plans_of plans_from plans_up_to plan_count search search_plans hex digits marks lines_text list_text verdict_rest answer_line answer_rest first_line later_lines desk_text
+reply (read-problem p) = counts (read_problem (limits_of p) p)
+reply (read-plan p q) = number (read_plan (limits_of p) p q)
+reply (run-state p q s) = outcome (run_state (limits_of p) p q s)
+reply (judge_with p q g) = verdict (judge (limits_of p) p q g)
 reply (write-list F p q g out) = writes (write_list F p q g out)
-reply (follow-list p q l) = number (follow_list version1 p q l)
-reply (cover-after p q l m) = number (cover_after version1 p q l m)
-reply (relevant-facts p q s work) = writes (relevant_facts version1 p q s work)
-reply (search-plans p l g) = searched (search_plans version1 p l g)
+reply (follow-list p q l) = number (follow_list (limits_of p) p q l)
+reply (cover-after p q l m) = number (cover_after (limits_of p) p q l m)
+reply (relevant-facts p q s work) = writes (relevant_facts (limits_of p) p q s work)
+reply (search-plans p l g) = searched (search_plans (limits_of p) p l g)
 reply (desk F p q) = text (desk_text F p q)
 
 pub record Row : Type 0 where
@@ -200,8 +200,10 @@ edges =
     ∷ (read-problem (replicate 32768 1) ⇒ refuses 13 1)
     ∷ (read-problem [] ⇒ refuses 11 0)
     ∷ (read-problem (hex "01 000000") ⇒ refuses 11 4)
-    ∷ (read-problem (hex "02 00000001") ⇒ refuses 12 0)
+    ∷ (read-problem (hex "03 00000001") ⇒ refuses 12 0)
     ∷ (read-problem (hex "00 00000000") ⇒ refuses 12 0)
+    ∷ (read-problem (hex "ff 00000000") ⇒ refuses 12 0)
+    ∷ (read-problem (hex "02 00000001") ⇒ refuses 13 1)
     ∷ (read-problem (hex "01 00000001") ⇒ refuses 13 1)
     ∷ (read-problem (hex "01 01000000") ⇒ refuses 13 1)
     -- 14
@@ -277,7 +279,7 @@ edges =
     -- 60 to 64
     ∷ (follow-list P both_steps (replicate 65534 1) ⇒ number (refused 60 65533))
     ∷ (follow-list P both_steps [] ⇒ number (refused 61 0))
-    ∷ (follow-list P both_steps (hex "02 00000000") ⇒ number (refused 62 0))
+    ∷ (follow-list P both_steps (hex "03 00000000") ⇒ number (refused 62 0))
     ∷ (follow-list P both_steps (hex "01 00000008") ⇒ number (refused 63 1))
     ∷ (follow-list P both_steps (lines (replicate 9 0)) ⇒ number (refused 64 14))
     ∷ (follow-list P [] [] ⇒ number (refused 31 0))
@@ -305,6 +307,101 @@ edges =
     ∷ (desk version1 P (replicate 262 0) ⇒ text (codes "refused plan 30 at 261\n"))
     ∷ (desk two_lines (initially (hex "0001 00")) no_step ⇒ text (codes "right lines 2 visited 3\nno-start 0\ncarries 1\n"))
     ∷ (desk two_lines P both_steps ⇒ text (codes "right lines 3 visited 5\nlist too long\n"))
+    ∷ []
+
+-- the trial problem in version 2, and what its table above has of it
+abbrev P2 : List ℕ
+P2 =
+    hex
+    "02 00000020 03 02 0007 80 02 81 02 00 01 42 0001 02 0002 80 00 01 02 0001 00 0002 80 00 01 02 0001 01"
+
+abbrev P2_guarded : List ℕ
+P2_guarded =
+    hex
+    "02 0000001f 03 02 0007 80 02 81 02 00 01 42 0001 02 0001 00 01 02 0001 00 0002 80 00 01 02 0001 01"
+
+abbrev P2_goal : List ℕ
+P2_goal =
+    hex
+    "02 00000021 03 02 0007 80 02 81 02 00 01 42 0002 80 00 0002 80 00 01 02 0001 00 0002 80 00 01 02 0001 01"
+
+abbrev P2_no_start : List ℕ
+P2_no_start =
+    hex
+    "02 0000001b 03 02 0002 81 00 0001 02 0002 80 00 01 02 0001 00 0002 80 00 01 02 0001 01"
+
+-- lists of version 2
+abbrev block2 : List ℕ → List ℕ
+block2 bytes = block 2 bytes
+
+abbrev list2 : List ℕ
+list2 = block2 (hex "00 02 0000000000000000 01 02 4000000000000000 01 01 8000000000000000")
+
+-- so many facts, of which the initial formula and the goal are the given ones, and no action
+abbrev facts2 : List ℕ → List ℕ → List ℕ → List ℕ
+facts2 count initial goal = block2 (count ++ (hex "00" ++ (initial ++ goal)))
+
+-- 64 facts; the last of them is true at the start and not at the goal
+abbrev last2 : List ℕ
+last2 = facts2 (hex "40") (hex "0002 80 00") (hex "0001 7f")
+
+-- one line that covers every number, and such a list with one line more
+abbrev whole2 : List ℕ → List ℕ
+whole2 line = block2 (hex "01 00 0000000000000000" ++ line)
+
+-- version 2: the trial problem; counts at their edges; states of 64 bits; lists of either version beside a problem of either, and in which order
+-- that is refused; a cover that is full, which no line follows; relevant facts, a search and the desk program
+abbrev pub versions : List Row
+versions =
+    (judge_with P2 both_steps grant ⇒ verdict (answered (right 3 5)))
+    ∷ (write-list version2 P2 both_steps grant (replicate 36 7) ⇒ wrote 35 (list2 ++ (7 ∷ [])))
+    ∷ (write-list version2 P2 both_steps grant (replicate 34 7) ⇒ kept 53 3 (replicate 34 7))
+    ∷ (follow-list P2 both_steps list2 ⇒ number (answered 3))
+    ∷ (judge_with P2 step-0 grant ⇒ verdict (answered (wrong 0x4000000000000000 missed 5)))
+    ∷ (judge_with P2 no_step grant ⇒ verdict (answered (wrong 0x4000000000000000 missed 5)))
+    ∷ (judge_with P2 both_steps 4 ⇒ verdict (answered (undecided 4)))
+    ∷ (judge_with P2 both_steps 0 ⇒ verdict (answered (undecided 0)))
+    ∷ (judge_with P2_guarded both_steps grant ⇒ verdict (answered (wrong 0x4000000000000000 (blocked (record { step = 0; part = at_member 0 })) 5)))
+    ∷ (judge_with P2_goal no_step grant ⇒ verdict (answered (right 1 1)))
+    ∷ (judge_with P2_no_start both_steps grant ⇒ verdict (answered (right 1 1)))
+    ∷ (write-list version2 P2_no_start both_steps grant (replicate 15 0) ⇒ wrote 15 (block2 (hex "00 00 0000000000000000")))
+    ∷ (follow-list P2 both_steps (block2 (hex "00 02 0000000000000000 01 02 4000000000000000 01 02 8000000000000000 01 02 c000000000000000")) ⇒ number (answered 4))
+    ∷ (follow-list P2 both_steps (block2 (hex "00 02 0000000000000000 01 02 4000000000000000")) ⇒ number (refused 70 2))
+    ∷ (follow-list P2 both_steps (block2 (hex "00 02 0000000000000000 01 01 8000000000000000 01 02 4000000000000000")) ⇒ number (refused 68 1))
+    ∷ (follow-list P2 both_steps (block2 (hex "01 02 0000000000000000 01 02 4000000000000000 01 01 8000000000000000")) ⇒ number (refused 69 0))
+    -- counts
+    ∷ (read-problem (facts2 (hex "40") (hex "0001 3f") (hex "0001 7f")) ⇒ accepts 64 0)
+    ∷ (read-problem (facts2 (hex "41") (hex "0001 00") (hex "0001 00")) ⇒ refuses 15 5)
+    ∷ (read-problem (block2 (hex "01 01 0001 00 0001 00 0001 00 81")) ⇒ refuses 22 16)
+    ∷ (read-problem (block2 (hex "01 01 0001 00 0001 00 0001 00 80")) ⇒ refuses 14 17)
+    -- states
+    ∷ (run-state last2 no_step 0xffffffffffffffff ⇒ outcome (answered missed))
+    ∷ (run-state (facts2 (hex "3f") (hex "0001 00") (hex "0001 00")) no_step 0xffffffffffffffff ⇒ outcome (refused 40 0))
+    ∷ (run-state (facts2 (hex "3f") (hex "0001 00") (hex "0001 00")) no_step 0xfffffffffffffffe ⇒ outcome (answered reached))
+    ∷ (run-state P2 both_steps 0x1000000000000000 ⇒ outcome (refused 40 0))
+    -- 60 to 64, and 71
+    ∷ (follow-list P2 both_steps (replicate 65536 2) ⇒ number (refused 60 65535))
+    ∷ (follow-list P2 both_steps (hex "02 0000") ⇒ number (refused 61 3))
+    ∷ (follow-list P2 both_steps (hex "03 00000001") ⇒ number (refused 62 0))
+    ∷ (follow-list P2 both_steps (hex "01 00000001") ⇒ number (refused 71 0))
+    ∷ (follow-list P both_steps (hex "02 00000001") ⇒ number (refused 71 0))
+    ∷ (follow-list P both_steps list2 ⇒ number (refused 71 0))
+    ∷ (follow-list P2 both_steps the_list ⇒ number (refused 71 0))
+    ∷ (follow-list P2 both_steps (hex "02 00000001") ⇒ number (refused 63 1))
+    ∷ (follow-list P2 both_steps (block2 (replicate 8 0)) ⇒ number (refused 64 13))
+    -- the cover, none and full
+    ∷ (follow-list P2_goal no_step (block2 []) ⇒ number (refused 70 0))
+    ∷ (follow-list P2_goal no_step (whole2 []) ⇒ number (answered 1))
+    ∷ (follow-list P2_goal no_step (whole2 (hex "01 00 0000000000000000")) ⇒ number (refused 68 1))
+    ∷ (follow-list P2_goal no_step (whole2 (hex "02 00 0000000000000000")) ⇒ number (refused 65 1))
+    ∷ (follow-list P2_goal no_step (whole2 (hex "01 04 0000000000000000")) ⇒ number (refused 66 1))
+    ∷ (follow-list P2_goal no_step (whole2 (hex "01 00 0000000000000001")) ⇒ number (refused 67 1))
+    ∷ (cover-after P2_goal no_step (whole2 []) 1 ⇒ number (answered 0x10000000000000000))
+    -- the others
+    ∷ (relevant-facts P2 both_steps 0x4000000000000000 (replicate 9 7) ⇒ wrote 0x4000000000000000 (0 ∷ 1 ∷ 0 ∷ 0 ∷ 1 ∷ 0 ∷ 0 ∷ 1 ∷ 1 ∷ []))
+    ∷ (search-plans P2 2 grant ⇒ searched (answered (first_right (0 ∷ 1 ∷ []) 27)))
+    ∷ (desk version2 P2 both_steps ⇒ text (codes "right lines 3 visited 5\nno-start 00?\ncarries 01?\ncarries 1??\n"))
+    ∷ (desk version2 P2_guarded both_steps ⇒ text (codes "wrong 010 at step 0 member 0 visited 5\n"))
     ∷ []
 
 -- what the program shows where a million visits do not suffice: of every problem and plan that are read

@@ -2,7 +2,7 @@
 -- what a list that passes holds, without any order of looking for faults.
 use Rattle.std.specs.Prelude.{◌≡◌, true, List, [], ◌∷◌, ℕ, ◌+◌, ◌-◌, ◌*◌, ◌%◌, ◌^◌, ◌≤◌, ◌<◌, length, get_or}
 use Rattle.model.specs.declared.Limits.{Limits}
-use Rattle.model.specs.Limits.{max_facts, max_effects, max_actions, max_steps, max_problem_bytes, max_formula_bytes, max_depth}
+use Rattle.model.specs.Limits.{is_version, max_facts, max_effects, max_actions, max_steps, max_problem_bytes, max_formula_bytes, max_depth}
 use Rattle.model.specs.Formula.{Literal, fact, denial, Formula, Formulas, lit, all, any, none, more}
 use Rattle.model.specs.Action.{Effect, Action}
 use Rattle.model.specs.Walk.{Look, Line}
@@ -80,8 +80,9 @@ module _ (F : Limits) where
     pub count : length ls ≤ F.lines
     pub lines : Each LineOk ls
 
-  -- what the layouts need of a version's numbers: a literal, a mark and each count fit a byte, and a list's length its field
+  -- what the layouts need of a version's numbers: it is one of the versions, a literal, a mark and each count fit a byte, and a list's length its field
   pub record Sensible : Type 0 where
+    pub version : is_version F.version ≡ true
     pub facts : F.facts ≤ max_facts
     pub effects : F.effects ≤ max_effects
     pub line : 2 < F.line

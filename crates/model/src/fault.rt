@@ -104,6 +104,8 @@ pub enum Fault {
     LineClaim,
     // The last line does not end at the last state.
     ListEnds,
+    // Of a list's header: its version is not the problem's.
+    OtherVersion,
 }
 
 impl Fault {
@@ -143,6 +145,7 @@ impl Fault {
             Fault::LinePlace => 68,
             Fault::LineClaim => 69,
             Fault::ListEnds => 70,
+            Fault::OtherVersion => 71,
         }
     }
 

@@ -2,8 +2,8 @@
 // What they mean is in specs/: begin at specs/Lib.antt.
 #![tactic(auto)]
 
-ghost use Rattle.std.specs.Prelude.{◌≡◌, ◌≤◌};
-ghost use Rattle.model.specs.Limits.{version1};
+ghost use Rattle.std.specs.Prelude.{◌≡◌};
+ghost use Rattle.model.specs.Limits.{version1, version2, is_version, limits_of};
 
 pub mod fault;
 pub mod marks;
@@ -20,11 +20,15 @@ pub struct Problem;
 impl Problem {
     pub const MAX_BYTES: usize = 32768;
 
-    pub const MAX_FACTS: u8 = 48;
+    pub const MAX_FACTS_V1: u8 = 48;
+
+    pub const MAX_FACTS_V2: u8 = 64;
 
     pub const MAX_ACTIONS: usize = 64;
 
-    pub const MAX_EFFECTS: u8 = 96;
+    pub const MAX_EFFECTS_V1: u8 = 96;
+
+    pub const MAX_EFFECTS_V2: u8 = 128;
 
     pub const MAX_FORMULA_BYTES: usize = 1024;
 
@@ -46,13 +50,20 @@ impl Plan {
 pub struct CaseList;
 
 impl CaseList {
-    pub const MAX_LINES: usize = 8191;
+    pub const MAX_LINES_V1: usize = 8191;
 
-    pub const LINE_BYTES: usize = 8;
+    pub const MAX_LINES_V2: usize = 6553;
 
-    pub const MAX_BYTES: usize = Limits::HEAD_BYTES + CaseList::LINE_BYTES * CaseList::MAX_LINES;
+    pub const LINE_BYTES_V1: usize = 8;
+
+    pub const LINE_BYTES_V2: usize = 10;
+    // Of either version: the more bytes are those of version 2.
+    pub const MAX_BYTES: usize = Limits::HEAD_BYTES
+        + CaseList::LINE_BYTES_V2 * CaseList::MAX_LINES_V2;
     // A state's number, and a line's value, in bits.
-    pub const WIDTH: u8 = 48;
+    pub const WIDTH_V1: u8 = 48;
+
+    pub const WIDTH_V2: u8 = 64;
 }
 
 // The numbers that one version of the formats has and another may not. The definitions take them as a parameter.
@@ -69,22 +80,55 @@ pub struct Limits {
 }
 
 impl Limits {
-    pub const VERSION: u8 = 1;
     // Bytes before a block's body: its version and its length.
     pub const HEAD_BYTES: usize = 5;
+    // The version of every plan.
+    pub const PLAN_VERSION: u8 = 1;
 
     // The numbers of the definitions are the declared ones.
     pub fn version1() -> Limits
         ensures { result ≡ version1 }
     {
         Limits {
-            version: Limits::VERSION,
-            width: CaseList::WIDTH,
-            facts: Problem::MAX_FACTS,
-            effects: Problem::MAX_EFFECTS,
-            line: CaseList::LINE_BYTES,
-            lines: CaseList::MAX_LINES,
+            version: 1,
+            width: CaseList::WIDTH_V1,
+            facts: Problem::MAX_FACTS_V1,
+            effects: Problem::MAX_EFFECTS_V1,
+            line: CaseList::LINE_BYTES_V1,
+            lines: CaseList::MAX_LINES_V1,
         }
+    }
+
+    pub fn version2() -> Limits
+        ensures { result ≡ version2 }
+    {
+        Limits {
+            version: 2,
+            width: CaseList::WIDTH_V2,
+            facts: Problem::MAX_FACTS_V2,
+            effects: Problem::MAX_EFFECTS_V2,
+            line: CaseList::LINE_BYTES_V2,
+            lines: CaseList::MAX_LINES_V2,
+        }
+    }
+
+    // Those of the version that a problem's block begins with; of version 1 where it begins with none, so that reading refuses it.
+    #[inline(always)]
+    pub fn of(problem: &[u8]) -> Limits
+        ensures { result ≡ limits_of problem.now }
+    {
+        match problem {
+            [2, ..] => Limits::version2(),
+            _ => Limits::version1(),
+        }
+    }
+
+    // Whether problems and lists have such a version.
+    #[inline(always)]
+    pub fn is_version(byte: u8) -> bool
+        ensures { result ≡ is_version byte }
+    {
+        byte == 1 || byte == 2
     }
 }
 

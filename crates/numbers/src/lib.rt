@@ -48,13 +48,3 @@ pub fn span(width: usize, k: usize) -> u64
 {
     1u64 << (width - k)
 }
-
-// Where the numbers that share their first k bits with `begin`, the first of them, end.
-pub fn end_of(begin: u64, width: usize, k: usize) -> u64
-    requires within { k ≤ width }
-    requires word { width < 64 + k }
-    requires room { begin + 2 ^ (width - k) < 2 ^ 64 }
-    ensures { result ≡ begin + 2 ^ (width - k) }
-{
-    begin + span(width, k)
-}

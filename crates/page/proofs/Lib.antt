@@ -2,3 +2,4 @@ pub mod Cutting
 pub mod Listing
 pub mod Marking
 pub mod Paging
+pub mod Room

@@ -4,7 +4,7 @@ use lib.Seq.{sets, sets-eq}
 use Rattle.model.specs.declared.Limits.{Limits}
 use Rattle.model.specs.declared.Refusal.{Refusal}
 use Rattle.model.specs.declared.Verdict as declared
-use Rattle.model.specs.Limits.{version1}
+use Rattle.model.specs.Limits.{limits_of}
 use Rattle.model.specs.Answer.{answered}
 use Rattle.model.specs.Answers.{refusal, verdict, judge_answer}
 use Rattle.model.specs.Case as model
@@ -81,16 +81,16 @@ module _ (F : Limits) (S : Sensible F) where
 
 -- a refusal's, over however many facts
 pub refused-text :
-    (F : Limits) (n : ℕ) (s t list : List ℕ) (y : Refusal) → read_task version1 s t ≡ refusal y → page_of F n list (judge_answer (Err y)) ≡ desk_text version1 s t
+    (F : Limits) (n : ℕ) (s t list : List ℕ) (y : Refusal) → read_task (limits_of s) s t ≡ refusal y → page_of F n list (judge_answer (Err y)) ≡ desk_text (limits_of s) s t
 unfolding desk_text first_line answer_line later_lines answer_rest
 refused-text F n s t list y e = rw e
 
 -- a verdict's
 pub judged-text :
-    (s t after : List ℕ) → head_bytes + version1.line * version1.lines ≤ length after →
-    (lent : Task) (found : Problem) → lent.problem.now ≡ found → found.limits ≡ version1 → read_task version1 s t ≡ answered (task lent) →
+    (s t after : List ℕ) → head_bytes + (limits_of s).line * (limits_of s).lines ≤ length after →
+    (lent : Task) (found : Problem) → lent.problem.now ≡ found → found.limits ≡ (limits_of s) → read_task (limits_of s) s t ≡ answered (task lent) →
     (a : declared.Verdict) (p q : Page) → JudgesTask (PutsLines lent.problem.now.limits) (task lent) desk_grant p a q → p.at ≡ head_bytes → after ≡ q.out.now →
-    page_of found.limits found.facts after (judge_answer (Ok a)) ≡ desk_text version1 s t
+    page_of found.limits found.facts after (judge_answer (Ok a)) ≡ desk_text (limits_of s) s t
 unfolding desk_text first_line answer_line later_lines answer_rest
 judged-text s t after fit lent found same-problem limits read a p q J at e =
     let T = task lent in
@@ -103,10 +103,10 @@ judged-text s t after fit lent found same-problem limits read a p q J at e =
     let few : T.facts ≤ F.facts = omega (arith, f, found.few_facts) in
     let room : head_bytes + F.line * F.lines ≤ length after = rw limits fit in
     let laid : LinesLaid F p.out.now head_bytes J.closed q.at after = rw (e, ← at, ← same-limits) J.put.laid in
-    let first : judged_line F n (answered (verdict a)) ≡ answer_line version1 (read_task version1 s t) =
+    let first : judged_line F n (answered (verdict a)) ≡ answer_line (limits_of s) (read_task (limits_of s) s t) =
     ap (λ v. judged_line F n (answered v)) J.answer ∙ rw (read, f, limits)
     in
-    let rest : following F n after (answered (verdict a)) ≡ answer_rest version1 (read_task version1 s t) =
+    let rest : following F n after (answered (verdict a)) ≡ answer_rest (limits_of s) (read_task (limits_of s) s t) =
     ap (λ v. following F n after (answered v)) J.answer ∙
     following-is F S n p.out.now after (omega (arith, room, J.put.size, ap length e)) (judged T desk_grant) (lines_fit F S T few w desk_grant) J.closed J.lines q.at laid ∙
     rw (read, f, limits)

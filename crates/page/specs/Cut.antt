@@ -1,7 +1,7 @@
 -- A file that is cut one byte past the most that its block may have.
 use Rattle.std.specs.Prelude.{◌≡◌, List, ℕ, ◌+◌, take}
 use Rattle.model.specs.Read.{head_bytes}
-use Rattle.model.specs.Limits.{version1, max_problem_bytes, max_steps}
+use Rattle.model.specs.Limits.{limits_of, max_problem_bytes, max_steps}
 use Rattle.model.specs.DeskText.{desk_text}
 
 abbrev pub max_plan_bytes : ℕ
@@ -11,4 +11,5 @@ max_plan_bytes = head_bytes + max_steps
 abbrev pub CutFilesKeepTheirText : Type 0
 CutFilesKeepTheirText =
     (problem plan : List ℕ) →
-    desk_text version1 (take (max_problem_bytes + 1) problem) (take (max_plan_bytes + 1) plan) ≡ desk_text version1 problem plan
+    let cut = take (max_problem_bytes + 1) problem in
+    desk_text (limits_of cut) cut (take (max_plan_bytes + 1) plan) ≡ desk_text (limits_of problem) problem plan

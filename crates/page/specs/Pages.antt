@@ -2,7 +2,7 @@
 use Rattle.std.specs.Prelude.{◌≡◌, cond, List, [], ◌++◌, ℕ, ◌+◌, ◌*◌, ◌≤◌, leb, length}
 use Rattle.model.specs.declared.Limits.{Limits}
 use Rattle.model.specs.Read.{head_bytes}
-use Rattle.model.specs.Limits.{version1}
+use Rattle.model.specs.Limits.{limits_of}
 use Rattle.model.specs.Answer.{Answer, refused, answered}
 use Rattle.model.specs.Walk.{Verdict, right, wrong, undecided}
 use Rattle.model.specs.Answers.{judge_answer}
@@ -28,4 +28,4 @@ text_of l list = page_of l.facts.limits l.facts.count list (judge_answer l.answe
 -- the page of the problem s and the plan t has this first line, and `list` has room for any list that is not too long
 pub record PageOf (s t list : List ℕ) (l : FirstLine) : Type 0 where
   pub room : head_bytes + l.facts.limits.line * l.facts.limits.lines ≤ length list
-  pub text : text_of l list ≡ desk_text version1 s t
+  pub text : text_of l list ≡ desk_text (limits_of s) s t

@@ -2,7 +2,8 @@
 ghost use Rattle.std.specs.Prelude.{◌≡◌, ◌≤◌, ◌+◌, ◌*◌, length, Some, OnOk};
 ghost use Rattle.std.specs.Io.KnownBytes.{Appends};
 ghost use Rattle.model.specs.Read.{head_bytes};
-ghost use Rattle.model.specs.Limits.{version1};
+ghost use Rattle.model.specs.Limits.{limits_of};
+ghost use Rattle.model.specs.WellFormed.{Sensible};
 ghost use Rattle.model.specs.Answers.{judge_answer};
 ghost use Rattle.model.specs.DeskText.{judged_line, desk_text};
 ghost use Rattle.page.specs.Pages.{following, PageOf};
@@ -84,30 +85,29 @@ impl fmt::Display for Page<'_> {
     }
 }
 
-fn refused(refusal: Refusal) -> FirstLine
-    ensures limits { result.facts.limits ≡ version1 }
+fn refused(refusal: Refusal, limits: Limits) -> FirstLine
+    requires { Sensible limits }
+    ensures limits { result.facts.limits ≡ limits }
     ensures answer { result.answer ≡ Err refusal }
 {
     FirstLine {
-        facts: Facts {
-            limits: Limits::version1(),
-            count: 0,
-        },
+        facts: Facts { limits, count: 0 },
         answer: Err(refusal),
     }
 }
 
 // The first line for a problem and a plan, with the lines of a right plan in `list` where a list block has them.
 fn judge_blocks(problem: &[u8], plan: &[u8], list: &mut [u8]) -> FirstLine
-    requires { head_bytes + version1.line * version1.lines ≤ length list.old }
+    requires { let F = limits_of problem.now in head_bytes + F.line * F.lines ≤ length list.old }
     ensures { PageOf problem.now plan.now list.new result }
 {
+    let limits = Limits::of(problem);
     let found = match Problem::read(problem) {
-        Err(refusal) => return refused(refusal),
+        Err(refusal) => return refused(refusal, limits),
         Ok(found) => found,
     };
     let task = match found.plan(plan) {
-        Err(refusal) => return refused(refusal),
+        Err(refusal) => return refused(refusal, limits),
         Ok(task) => task,
     };
     let mut lines = walk::Page {
@@ -126,7 +126,7 @@ fn judge_blocks(problem: &[u8], plan: &[u8], list: &mut [u8]) -> FirstLine
 
 // Writes the page for the bytes of a problem and of a plan.
 pub fn write_page<W: Write>(writer: &mut W, problem: &[u8], plan: &[u8]) -> io::Result<()>
-    ensures { OnOk result (Appends (W.contents writer.old) (W.contents writer.new) (desk_text version1 problem.now plan.now)) }
+    ensures { OnOk result (Appends (W.contents writer.old) (W.contents writer.new) (desk_text (limits_of problem.now) problem.now plan.now)) }
 {
     let mut list = [0u8; CaseList::MAX_BYTES];
     let first = judge_blocks(problem, plan, &mut list);

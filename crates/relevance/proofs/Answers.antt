@@ -1,5 +1,5 @@
 -- What is refused, and what is answered of a task that was read. Assumes nothing.
-use mathlib.Core.Path.{◌≡◌, refl, sym, ap, ap₂, subst, ◌∙◌}
+use mathlib.Core.Path.{◌≡◌, refl, sym, ap, ap₂, ◌∙◌}
 use mathlib.Core.Bool.{Bool, true, false, cond}
 use mathlib.Core.List.{List, ◌++◌}
 use Prim.Native.Nat.{ℕ, suc, ◌+◌, ◌*◌, ◌≤◌}
@@ -9,10 +9,9 @@ use lib.ListN.{length, take, drop}
 use lib.Seq.{sets-eq, take_at}
 use lib.Dec.{ltb}
 use Rattle.std.specs.Prelude.{Result, Ok, Err}
-use Rattle.model.specs.declared.Limits.{Limits}
 use Rattle.model.specs.declared.Refusal.{Refusal}
 use Rattle.model.specs.Faults.{fault_number}
-use Rattle.model.specs.Limits.{version1, max_steps}
+use Rattle.model.specs.Limits.{limits_of, max_steps}
 use Rattle.model.specs.Answer as Answer
 use Rattle.model.specs.Answer.{Answer, refused, answered}
 use Rattle.model.specs.Answers.{refusal, plain_answer}
@@ -42,16 +41,16 @@ use Rattle.relevance.specs.Tracing.{ChecksRun, ChecksRoom, TracesRows}
 
 -- what a call answers and leaves
 abbrev pub Leaves : List ℕ → List ℕ → ℕ → List ℕ → Answer ℕ → List ℕ → Type 0
-Leaves problem plan s before a after = (a ≡ (relevant_facts version1 problem plan s before).answer) × (after ≡ (relevant_facts version1 problem plan s before).buffer)
+Leaves problem plan s before a after = (a ≡ (relevant_facts (limits_of problem) problem plan s before).answer) × (after ≡ (relevant_facts (limits_of problem) problem plan s before).buffer)
 
 leaves-refused :
-    (problem plan : List ℕ) (s : ℕ) (before : List ℕ) (n q : ℕ) → reached_task version1 problem plan s (length before) ≡ refused n q →
+    (problem plan : List ℕ) (s : ℕ) (before : List ℕ) (n q : ℕ) → reached_task (limits_of problem) problem plan s (length before) ≡ refused n q →
     Leaves problem plan s before (refused n q) before
 unfolding relevant_facts
 leaves-refused problem plan s before n q e = rw e (refl, refl)
 
 pub relevant-refused :
-    (problem plan : List ℕ) (y : Refusal) → read_task version1 problem plan ≡ refusal y → (s : ℕ) (before : List ℕ) →
+    (problem plan : List ℕ) (y : Refusal) → read_task (limits_of problem) problem plan ≡ refusal y → (s : ℕ) (before : List ℕ) →
     Leaves problem plan s before (refusal y) before
 unfolding reached_task Answer.◌>>=◌
 relevant-refused problem plan y e s before = leaves-refused problem plan s before (fault_number y.fault) y.place (rw e)
@@ -112,7 +111,7 @@ module _ (T : Task) (n≤w : T.facts ≤ T.width) (within : WithinTask T) (c d :
 
 -- ---- the answer of a task that was read
 
-module _ (problem plan : List ℕ) (T : Task) (read : read_task version1 problem plan ≡ answered T) (s : ℕ) (before : List ℕ) where
+module _ (problem plan : List ℕ) (T : Task) (read : read_task (limits_of problem) problem plan ≡ answered T) (s : ℕ) (before : List ℕ) where
   abbrev room : ℕ
   room = length before
 
@@ -124,7 +123,7 @@ module _ (problem plan : List ℕ) (T : Task) (read : read_task version1 problem
     shows : Shows c (state_of T.width T.facts s)
     shows = H.cases 0 (omega arith) ∙ case-known T.width T.facts s
 
-    checked : reached_task version1 problem plan s room ≡ when_reached (run_of T s) (cond (ltb room (work_bytes T)) (refused 42 0) (answered T))
+    checked : reached_task (limits_of problem) problem plan s room ≡ when_reached (run_of T s) (cond (ltb room (work_bytes T)) (refused 42 0) (answered T))
     unfolding reached_task Answer.◌>>=◌
     checked = rw (read, H.is) refl
 
@@ -140,7 +139,7 @@ module _ (problem plan : List ℕ) (T : Task) (read : read_task version1 problem
       reaches = is-reached (run_of T s) (ran (Ok u) R)
 
       module _ (need : ℕ) (need-is : need ≡ work_bytes T) where
-        tests-room : reached_task version1 problem plan s room ≡ cond (ltb room need) (refused 42 0) (answered T)
+        tests-room : reached_task (limits_of problem) problem plan s room ≡ cond (ltb room need) (refused 42 0) (answered T)
         tests-room = checked ∙ rw (reaches, need-is) refl
 
         pub relevant-short : (y : Refusal) → ChecksRoom need room (Err y) → Leaves problem plan s before (refusal y) before
@@ -163,11 +162,11 @@ module _ (t : tasks.Task) (p : problems.Problem) (e : t.problem.now ≡ p) where
       let k : length t.steps.now + 1 ≡ suc (length (task t).plan) = omega (arith, plan-length t) in
       ap₂ (λ (x y : ℕ). x * y) k facts-is
 
-  -- the rows of a run of version 1
-  pub need-small : p.limits ≡ version1 → length (task t).plan ≤ max_steps → (length t.steps.now + 1) * p.facts ≤ 12336
-  need-small v l =
+  -- the rows of a run, over however many facts a version has
+  pub need-small : length (task t).plan ≤ max_steps → (length t.steps.now + 1) * p.facts ≤ 16448
+  need-small l =
       let a : length t.steps.now + 1 ≤ 257 = omega (arith, plan-length t) in
-      let few : p.facts ≤ 48 = subst (λ (F : Limits). p.facts ≤ F.facts) v p.few_facts in
+      let few : p.facts ≤ 64 = omega (arith, p.few_facts, p.sensible.facts) in
       le_trans (mul-le-mul_right p.facts a) (mul-le-mul_left 257 few)
 
   pub has-rows : (room : ℕ) → ChecksRoom ((length t.steps.now + 1) * p.facts) room (Ok tt) → suc (length t.steps.now) * p.facts ≤ room

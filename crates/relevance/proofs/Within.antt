@@ -8,7 +8,7 @@ use native.Mathlib.Omega.{arith}
 use lib.ListN.{length, get_or, length-map}
 use borrow.Author.Tests.{eqb-true}
 use Rattle.model.specs.declared.Limits.{Limits}
-use Rattle.model.specs.Limits.{version1, max_depth, max_steps}
+use Rattle.model.specs.Limits.{limits_of, max_depth, max_steps}
 use Rattle.model.specs.Formula.{Literal, fact, denial, Formula, Formulas, lit, all, any, none, more}
 use Rattle.model.specs.Action.{Effect, Action, same_literal, condition_in}
 use Rattle.model.specs.Answer.{answered}
@@ -20,7 +20,7 @@ use Rattle.model.specs.WellFormed.{Bytes, Each, Formed, FormedAll, EffectsOk, Ac
 use Rattle.model.specs.Operations.{task_of, read_task}
 use Rattle.model.proofs.Laws.Truth.{or_cases}
 use Rattle.model.proofs.Laws.Tasks.{answer-then}
-use Rattle.model.proofs.Guarantees.{version1-holds}
+use Rattle.model.proofs.Guarantees.{guarantees-of}
 use Rattle.blocks.proofs.Tasks.{step-action}
 use Rattle.backward.specs.Rows.{WithinAction, WithinTask}
 
@@ -67,8 +67,8 @@ each-at P [] i d e h = absurd (omega arith)
 each-at P (x ∷ l) zero d e h = e.0
 each-at P (x ∷ l) (suc i) d e h = each-at P l i d e.1 (omega arith)
 
-module _ (p : Problem) (steps : List ℕ) (ok : ProblemOk version1 p) (fine : PlanOk (length p.actions) steps) where
-  task-within : WithinTask (task_of version1 p steps)
+module _ (F : Limits) (p : Problem) (steps : List ℕ) (ok : ProblemOk F p) (fine : PlanOk (length p.actions) steps) where
+  task-within : WithinTask (task_of F p steps)
   unfolding task_of action_at
   task-within =
       record {
@@ -77,20 +77,20 @@ module _ (p : Problem) (steps : List ℕ) (ok : ProblemOk version1 p) (fine : Pl
             λ i l.
             let h : i < length steps = omega (arith, length-map steps (action_at p.actions)) in
             subst (WithinAction p.facts) (sym (step-action p.actions steps i h))
-            (action-within version1 p.facts _ (each-at (ActionOk version1 p.facts) p.actions _ _ ok.actions (each-at (λ b. b < length p.actions) steps i 0 fine.actions h)));
+            (action-within F p.facts _ (each-at (ActionOk F p.facts) p.actions _ _ ok.actions (each-at (λ b. b < length p.actions) steps i 0 fine.actions h)));
       }
 
-  task-short : length (task_of version1 p steps).plan ≤ max_steps
+  task-short : length (task_of F p steps).plan ≤ max_steps
   unfolding task_of
   task-short = omega (arith, length-map steps (action_at p.actions), fine.count)
 
 pub read-within :
-    (problem plan : List ℕ) → Bytes problem → Bytes plan → (T : Task) → read_task version1 problem plan ≡ answered T → WithinTask T × (length T.plan ≤ max_steps)
+    (problem plan : List ℕ) → Bytes problem → Bytes plan → (T : Task) → read_task (limits_of problem) problem plan ≡ answered T → WithinTask T × (length T.plan ≤ max_steps)
 unfolding read_task
 read-within problem plan b d T h =
     answer-then h λ p e h₁.
     answer-then h₁ λ steps k h₂.
-    let t : task_of version1 p steps ≡ T = cc in
-    let ok = (version1-holds.all_input.problem_sound problem b p e).0 in
-    let fine = (version1-holds.all_input.plan_sound plan d (length p.actions) steps k).0 in
-    subst (λ (x : Task). WithinTask x × (length x.plan ≤ max_steps)) t (task-within p steps ok fine, task-short p steps ok fine)
+    let t : task_of (limits_of problem) p steps ≡ T = cc in
+    let ok = ((guarantees-of problem).all_input.problem_sound problem b p e).0 in
+    let fine = ((guarantees-of problem).all_input.plan_sound plan d (length p.actions) steps k).0 in
+    subst (λ (x : Task). WithinTask x × (length x.plan ≤ max_steps)) t (task-within (limits_of problem) p steps ok fine, task-short (limits_of problem) p steps ok fine)

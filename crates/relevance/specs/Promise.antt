@@ -1,6 +1,6 @@
 -- What an answer of `relevant_facts` promises, and every byte of the work area with it.
 use Rattle.std.specs.Prelude.{◌≡◌, ◌≢◌, ◌⊎◌, List, ℕ, ◌≤◌, ◌<◌, length, take, drop}
-use Rattle.model.specs.Limits.{version1}
+use Rattle.model.specs.Limits.{limits_of}
 use Rattle.model.specs.Answer.{Answer, refused, answered}
 use Rattle.model.specs.Run.{reached}
 use Rattle.model.specs.Case.{bit, Task, run_of, IsState}
@@ -9,13 +9,13 @@ use Rattle.model.specs.Operations.{read_task, run_state}
 
 -- the problem and the plan are read as T, and s is a state of it
 pub record Runs (problem plan : List ℕ) (s : ℕ) (T : Task) : Type 0 where
-  pub read : read_task version1 problem plan ≡ answered T
+  pub read : read_task (limits_of problem) problem plan ≡ answered T
   pub state : IsState T s
 
 -- what a refusal is of: the run's own, 41 or 42
 abbrev pub RefusedFor : List ℕ → List ℕ → ℕ → ℕ → ℕ → ℕ → Type 0
 RefusedFor problem plan s room n q =
-    (run_state version1 problem plan s ≡ refused n q) ⊎
+    (run_state (limits_of problem) problem plan s ≡ refused n q) ⊎
     (((T : Task) × Runs problem plan s T × (run_of T s ≢ reached) × (n ≡ 41) × (q ≡ 0)) ⊎
     ((T : Task) × Runs problem plan s T × (run_of T s ≡ reached) × (room < work_bytes T) × (n ≡ 42) × (q ≡ 0)))
 
@@ -28,7 +28,7 @@ pub record Rests (problem plan : List ℕ) (s : ℕ) (T : Task) (m : ℕ) (befor
   -- a declared fact's bit in it is whether the fact matters before the run
   pub each_bit : (f : ℕ) → f < T.facts → bit T.width m f ≡ is_relevant T s f
   -- from any state that has the same values of these facts the goal is reached too
-  pub reached_too : (t : ℕ) → IsState T t → AgreeOn T m s t → run_state version1 problem plan t ≡ answered reached
+  pub reached_too : (t : ℕ) → IsState T t → AgreeOn T m s t → run_state (limits_of problem) problem plan t ≡ answered reached
   -- the first rows hold the states of the run, and the rest is unchanged
   pub fits : work_bytes T ≤ length before
   pub holds : take (work_bytes T) after ≡ run_rows T s

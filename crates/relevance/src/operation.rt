@@ -1,6 +1,6 @@
 // Tell which start facts an outcome rests on.
 ghost use Rattle.std.specs.Prelude.{◌≡◌, suc, ◌*◌, ◌≤◌, length};
-ghost use Rattle.model.specs.Limits.{version1};
+ghost use Rattle.model.specs.Limits.{limits_of};
 ghost use Rattle.model.specs.Operations.{relevant_facts};
 ghost use Rattle.model.specs.Answers.{plain_answer};
 ghost use Rattle.blocks.specs.Values.{task as task_of};
@@ -16,7 +16,7 @@ use model::{Fault, Plan, Problem as Bounds, Refusal};
 use runs::state_cases;
 
 // The rows of the longest run, of as many facts as there may be.
-const MOST_ROWS: usize = (Plan::MAX_STEPS + 1) * Bounds::MAX_FACTS as usize;
+const MOST_ROWS: usize = (Plan::MAX_STEPS + 1) * Bounds::MAX_FACTS_V2 as usize;
 
 // Refuses the run of the state that the cases have, unless it reaches the goal: then the rows have it, and the cases its last state.
 fn check_run(task: &Task, cases: &mut Cases, rows: &mut [u8]) -> Result<(), Refusal>
@@ -60,8 +60,8 @@ pub fn relevant_facts(
     state: u64,
     work: &mut [u8],
 ) -> Result<u64, Refusal>
-    ensures answer { plain_answer result ≡ (relevant_facts version1 problem.now plan.now state work.old).answer }
-    ensures buffer { work.new ≡ (relevant_facts version1 problem.now plan.now state work.old).buffer }
+    ensures answer { plain_answer result ≡ (relevant_facts (limits_of problem.now) problem.now plan.now state work.old).answer }
+    ensures buffer { work.new ≡ (relevant_facts (limits_of problem.now) problem.now plan.now state work.old).buffer }
     ensures promised { RelevantPromised problem.now plan.now state work.old (plain_answer result) work.new }
 {
     let found = Problem::read(problem)?;

@@ -2,14 +2,14 @@
 use Rattle.std.proofs.Common.{◌≡◌, sym, ap, ◌∙◌, List, ℕ, ◌≤◌, ◌<◌, length, Result, arith}
 use Rattle.model.specs.declared.Limits.{Limits}
 use Rattle.model.specs.declared.Refusal.{Refusal}
-use Rattle.model.specs.Limits.{version1, max_length, max_plans}
+use Rattle.model.specs.Limits.{limits_of, max_length, max_plans}
 use Rattle.model.specs.Answer.{refused, answered}
 use Rattle.model.specs.Answers.{refusal}
 use Rattle.model.specs.ProblemBytes.{problem_of}
 use Rattle.model.specs.Search as Search
 use Rattle.model.specs.Search.{plan_count, none_right}
 use Rattle.model.specs.Operations.{task_of, plans_in, search_plans}
-use Rattle.model.proofs.Guarantees.{version1-sensible, version1-holds}
+use Rattle.model.proofs.Guarantees.{limits-sensible, guarantees-of}
 use Rattle.model.proofs.Laws.Plans.{enumerates}
 use Rattle.model.proofs.Laws.Searching.{answers}
 use Rattle.blocks.specs.declared.problem.Problem.{Problem}
@@ -28,23 +28,23 @@ comes-to p longest grant r t x e = e ∙ sym (rw (action-count p) t.is)
 -- ---- the answer
 
 module _ (s : List ℕ) (longest grant : ℕ) where
-  pub search-refused : (y : Refusal) → refusal y ≡ problem_of version1 s → refusal y ≡ search_plans version1 s longest grant
-  search-refused y e = sym (version1-holds.all_input.problem_refuses_first s longest grant _ _ (sym e))
+  pub search-refused : (y : Refusal) → refusal y ≡ problem_of (limits_of s) s → refusal y ≡ search_plans (limits_of s) s longest grant
+  search-refused y e = sym ((guarantees-of s).all_input.problem_refuses_first s longest grant _ _ (sym e))
 
-  module _ (p : Problem) (read : answered (problem p) ≡ problem_of version1 s) where
-    pub search-over : max_length < longest → refused 43 0 ≡ search_plans version1 s longest grant
-    search-over l = sym ((version1-holds.searching s (problem p) (sym read)).over_length longest grant l)
+  module _ (p : Problem) (read : answered (problem p) ≡ problem_of (limits_of s) s) where
+    pub search-over : max_length < longest → refused 43 0 ≡ search_plans (limits_of s) s longest grant
+    search-over l = sym (((guarantees-of s).searching s (problem p) (sym read)).over_length longest grant l)
 
     module _ (l : longest ≤ max_length) (count : ℕ) (c : count ≡ plan_count p.actions longest) where
       counts : count ≡ length (plans_in (problem p) longest)
       counts = c ∙ ap (λ (m : ℕ). plan_count m longest) (sym (action-count p)) ∙ sym (enumerates (length (problem p).actions) longest).counted
 
-      pub search-many : max_plans < count → refused 44 0 ≡ search_plans version1 s longest grant
-      search-many m = sym ((version1-holds.searching s (problem p) (sym read)).too_many longest grant l (omega (arith, counts)))
+      pub search-many : max_plans < count → refused 44 0 ≡ search_plans (limits_of s) s longest grant
+      search-many m = sym (((guarantees-of s).searching s (problem p) (sym read)).too_many longest grant l (omega (arith, counts)))
 
       pub search-came :
-          count ≤ max_plans → p.limits ≡ version1 → {came : Search.Search} → came ≡ Search.search (task_with p) grant (plans_in (problem p) longest) 0 →
-          answered came ≡ search_plans version1 s longest grant
+          count ≤ max_plans → p.limits ≡ (limits_of s) → {came : Search.Search} → came ≡ Search.search (task_with p) grant (plans_in (problem p) longest) 0 →
+          answered came ≡ search_plans (limits_of s) s longest grant
       search-came m v {came} t =
           ap answered (t ∙ ap (λ (F : Limits). Search.search (task_of F (problem p)) grant (plans_in (problem p) longest) 0) v) ∙
-          sym (answers version1 version1-sensible s (problem p) (sym read) longest grant l (omega (arith, counts)))
+          sym (answers (limits_of s) (limits-sensible s) s (problem p) (sym read) longest grant l (omega (arith, counts)))

@@ -12,7 +12,7 @@ use cases::{Cases, ONES};
 use model::ShortPlan;
 use runs::{Looks, reached_lanes};
 use step::{Conditions, obey};
-use walk::{Stopped, Unkept, walk_first};
+use walk::{Stopped, Unkept, walk_block};
 
 // The plans that begin so: their first steps, the lanes of the first block that go on after them, and the cases there then.
 #[derive(Clone, Copy)]
@@ -38,7 +38,8 @@ impl Begun<'_> {
             empty: ONES ^ root.starts,
             carries: reached_lanes(root.problem, self.cases, self.alive),
         };
-        match walk_first(&task, root.first, looks, left, &mut Unkept, conditions) {
+        let block = root.first.of_task(&task, looks);
+        match walk_block(&block, left, &mut Unkept, conditions) {
             Ok(closed) => Err(Ended::Right {
                 plan: self.plan,
                 left: closed.left,

@@ -1,6 +1,6 @@
 // Try every short plan, in order.
 ghost use Rattle.std.specs.Prelude.{◌≡◌, ◌≤◌};
-ghost use Rattle.model.specs.Limits.{version1, max_actions, max_length};
+ghost use Rattle.model.specs.Limits.{limits_of, max_actions, max_length};
 ghost use Rattle.model.specs.Search.{plan_count, search};
 ghost use Rattle.model.specs.Operations.{plans_in, search_plans};
 ghost use Rattle.model.specs.Answers.{search_end, search_answer};
@@ -51,7 +51,7 @@ fn search_problem(problem: &Problem, longest: usize, grant: u64) -> Search
 // Try every plan up to a length: the problem's refusals; 43 for a length over 4; 44 for more than 1,000,000 plans; or the first right plan,
 // that none is right, or undecided with the first plan whose walk needs more than the visits left.
 pub fn search_plans(problem: &[u8], longest: u64, grant: u64) -> Result<Search, Refusal>
-    ensures answer { search_answer result ≡ search_plans version1 problem.now longest grant }
+    ensures answer { search_answer result ≡ search_plans (limits_of problem.now) problem.now longest grant }
     ensures promised { SearchPromised problem.now longest grant (search_answer result) }
 {
     let found = Problem::read(problem)?;

@@ -3,6 +3,8 @@ use Rattle.std.specs.Prelude.{List, [], ◌∷◌, ◌++◌, ℕ, zero, suc, ◌
 use Prim.Native.String.{String}
 use Rattle.model.specs.Limits.{version1}
 use Rattle.model.specs.Answer.{answered}
+use Rattle.model.specs.Run.{missed}
+use Rattle.model.specs.Read.{block}
 use Rattle.model.specs.Walk.{right, wrong}
 use Rattle.model.specs.Text.{hex}
 use Rattle.model.specs.Trials.{Hold, read-problem, judge_with, cover-after, relevant-facts, desk, number, verdict, text, Row, ◌⇒◌, wrote, no_step, step-0, grant, block1, accepts, refuses, initially, stalls_at, idle}
@@ -56,6 +58,18 @@ quarter v =
 abbrev single_numbers : List ℕ
 single_numbers = block1 (hex "01 30 000000000000 01 30 000000000001 01 2f 000000000002")
 
+-- 64 facts that are all true at the start; the last of them at the goal, or its denial; and no action
+abbrev all_true : List ℕ
+all_true =
+    hex "0042 80 40 00 01 02 03 04 05 06 07 08 09 0a 0b 0c 0d 0e 0f 10 11 12 13 14 15 16 17 18 19 1a 1b 1c 1d 1e 1f" ++
+    hex "20 21 22 23 24 25 26 27 28 29 2a 2b 2c 2d 2e 2f 30 31 32 33 34 35 36 37 38 39 3a 3b 3c 3d 3e 3f"
+
+abbrev deep2 : List ℕ
+deep2 = block 2 (hex "40 00" ++ (all_true ++ hex "0001 3f"))
+
+abbrev never2 : List ℕ
+never2 = block 2 (hex "40 00" ++ (all_true ++ hex "0001 7f"))
+
 -- 16, 17 and 22 at their edges; 48 facts and 256 steps; a fact 47 that is set and cleared at once; pages whose numbers have three digits; the running
 -- value after lines that fix all of 48 facts, and after one that fixes none; the relevant facts of runs over 48 facts, none or the last
 abbrev pub sizes : List Row
@@ -77,6 +91,11 @@ sizes =
     ∷ (relevant-facts wide step-0 0 (replicate 97 7) ⇒ wrote 0 (replicate 95 0 ++ (1 ∷ 7 ∷ [])))
     ∷ (relevant-facts wide no_step 1 (replicate 48 7) ⇒ wrote 1 (replicate 47 0 ++ (1 ∷ [])))
     ∷ (relevant-facts deep no_step 0xffffffffffff (replicate 48 7) ⇒ wrote 1 (replicate 48 1))
+    -- version 2: 128 effects; verdicts over 64 facts, at the highest state; the relevant facts of a run over 64
+    ∷ (read-problem (block 2 (hex "40 01 0001 00 0001 00 0001 00 80" ++ (rising 64 0 ++ rising 64 64))) ⇒ accepts 64 1)
+    ∷ (judge_with deep2 no_step grant ⇒ verdict (answered (right 65 129)))
+    ∷ (judge_with never2 no_step grant ⇒ verdict (answered (wrong 0xffffffffffffffff missed 129)))
+    ∷ (relevant-facts deep2 no_step 0xffffffffffffffff (replicate 64 7) ⇒ wrote 1 (replicate 64 1))
     ∷ []
 
 pub record SizesHold : Type 0 where

@@ -4,16 +4,17 @@ use mathlib.Core.List.{List, [], ◌∷◌}
 use Prim.Native.Nat.{ℕ, zero, suc, ◌+◌, ◌-◌, ◌*◌, ◌/◌, ◌%◌, ◌≤◌, ◌<◌}
 use native.Mathlib.Nat.{div-add-mod', div-le_of_le-mul, mul-div_cancel, mul-mod_left, suc-mul, zero-mul, mul_comm, mul-le-mul_right}
 use native.Mathlib.Omega.{arith}
-use lib.ListN.{length, length-append}
+use lib.ListN.{length, get_or, length-append}
 use borrow.Author.Tests.{eqb-true}
 use Rattle.model.specs.declared.Limits.{Limits}
 use Rattle.model.specs.Answer.{answered}
 use Rattle.model.specs.Walk.{Line}
-use Rattle.model.specs.Read.{and_then, ◌>>◌, done, require, answer_of, bytes_of}
-use Rattle.model.specs.ListBytes.{line_at, lines_from, case_list, list_of, line_bytes, lines_bytes, encode_list}
+use Rattle.model.specs.Limits.{is_version}
+use Rattle.model.specs.Read.{and_then, ◌>>◌, done, require, answer_of, of_version, bytes_of}
+use Rattle.model.specs.ListBytes.{line_at, lines_from, of_the_problem, case_list, list_of, line_bytes, lines_bytes, encode_list}
 use Rattle.model.specs.WellFormed.{Bytes, Each, LineOk, ListOk, Sensible}
 use Rattle.model.proofs.Laws.Spans.{Span, nothing, next}
-use Rattle.model.proofs.Laws.Reading.{answer-got, Gives, gives, reads, tests, first, join, split, span-length, length-bytes_of, number-got, number_ok, length-block, header-gives, header_ok}
+use Rattle.model.proofs.Laws.Reading.{answer-got, Gives, gives, reads, tests, first, join, split, span-length, length-bytes_of, number-got, number_ok, length-block, Lets, lets-version, header-gives, header_ok}
 
 module _ (F : Limits) (sense : Sensible F) (s : List ℕ) where
   pub length-line : (l : Line) → length (line_bytes F l) ≡ F.line
@@ -62,10 +63,20 @@ module _ (F : Limits) (sense : Sensible F) (s : List ℕ) where
   length-lines (l ∷ ls) =
       rw (length-append (line_bytes F l) (lines_bytes F ls), length-line l, length-lines ls) (omega (arith, suc-mul (length ls) F.line))
 
+  -- the list's version is the problem's, which is a version
+  lets-problem : Lets s F.version (of_the_problem F s)
+  unfolding of_the_problem ◌>>◌ and_then require
+  lets-problem =
+      let own = lets-version s F.version 71 in
+      record {
+        only = λ p. tests (is_version (get_or s 0 0)) 62 0 p (λ _. of_version s F.version 71) λ _. own.only p;
+        passes = λ e p. rw (e, sense.version) (own.passes e p);
+      }
+
   list-gives : Bytes s → Gives (case_list F s 0) (λ ls q. ListOk F ls × (s ≡ encode_list F ls))
   unfolding case_list ◌>>◌ done encode_list
   list-gives sound =
-      reads (header-gives s 60 (5 + F.line * F.lines) F.version 0 sound) λ _ o (i, l, z, law).
+      reads (header-gives s 60 (5 + F.line * F.lines) F.version _ lets-problem 0 sound) λ _ o (i, l, z, law).
       tests _ _ _ _ _ λ t.
       let n = (length s - 5) / F.line in
       let e : n * F.line ≡ length s - 5 = omega (arith, div-add-mod' (length s - 5) F.line, eqb-true ((length s - 5) % F.line) 0 t) in
@@ -83,7 +94,7 @@ module _ (F : Limits) (sense : Sensible F) (s : List ℕ) where
       let j : length s - 5 ≡ length ls * F.line = omega (arith, length-lines ls) in
       let m = mul-le-mul_right F.line k.count in
       let l : length s ≤ 5 + F.line * F.lines = omega (arith, length-lines ls, mul_comm F.lines F.line) in
-      let (h, w) = header_ok s 60 (5 + F.line * F.lines) F.version 0 (lines_bytes F ls) e l (omega (arith, sense.lines)) in
+      let (h, w) = header_ok s 60 (5 + F.line * F.lines) F.version _ lets-problem 0 (lines_bytes F ls) e l (omega (arith, sense.lines)) in
       rw (
         h,
         j,

@@ -14,7 +14,7 @@ use Rattle.model.specs.FormulaBytes.{literal_byte, encode_formula}
 use Rattle.model.specs.ProblemBytes.{Problem, effect, effects, effect_list, action, actions, ending, parts, body, problem, problem_of, steps, plan, plan_of, effects_bytes, action_bytes, actions_bytes, encode_problem, encode_plan}
 use Rattle.model.specs.WellFormed.{Bytes, Each, Declared, FormulaOk, EffectsOk, ActionOk, ProblemOk, PlanOk, Sensible}
 use Rattle.model.proofs.Laws.Spans.{Span, nothing, next}
-use Rattle.model.proofs.Laws.Reading.{Gives, gives, reads, ends, tests, empty, first, join, split, span-length, span-end, byte-gives, byte-ok, length-block, header-gives, header_ok, count_gives, count-ok}
+use Rattle.model.proofs.Laws.Reading.{Gives, gives, reads, ends, tests, empty, first, join, split, span-length, span-end, byte-gives, byte-ok, length-block, lets-version, header-gives, header_ok, count_gives, count-ok}
 use Rattle.model.proofs.Laws.FormulaCodec.{literal-got, literal-ok, formula-gives, formula-ok}
 
 module _ (s : List ℕ) (facts : ℕ) (most : facts ≤ 64) where
@@ -113,7 +113,7 @@ module _ (F : Limits) (sense : Sensible F) (s : List ℕ) where
   pub problem-gives : Bytes s → Gives (problem F s 0) (λ x q. ProblemOk F x × (s ≡ encode_problem F x))
   unfolding problem body parts ending ◌>>=◌ ◌>>◌ and_then position done encode_problem
   problem-gives sound =
-      reads (header-gives s 10 max_problem_bytes F.version 0 sound) λ _ m (i, l, z, law).
+      reads (header-gives s 10 max_problem_bytes F.version _ (lets-version s F.version 12) 0 sound) λ _ m (i, l, z, law).
       reads (count_gives s 15 1 F.facts m) λ facts m₁ (f₀, f₁, rf).
       reads (count_gives s 16 0 max_actions m₁) λ n m₂ (_, a₁, ra).
       let most : facts ≤ 64 = omega (arith, sense.facts) in
@@ -134,7 +134,7 @@ module _ (F : Limits) (sense : Sensible F) (s : List ℕ) where
   problem-ok x k e =
       let most : x.facts ≤ 64 = omega (arith, k.facts, sense.facts) in
       let l : length s ≤ max_problem_bytes = subst (λ (xs : List ℕ). length xs ≤ max_problem_bytes) (sym e) k.short in
-      let (h, w) = header_ok s 10 max_problem_bytes F.version 0 _ e l (omega arith) in
+      let (h, w) = header_ok s 10 max_problem_bytes F.version _ (lets-version s F.version 12) 0 _ e l (omega arith) in
       let (_, _, w₁) = first w in
       let (_, _, w₂) = first w₁ in
       split (encode_formula x.initial) w₂ λ m a r.
@@ -173,7 +173,7 @@ module _ (s : List ℕ) where
   pub plan-gives : (m : ℕ) → Bytes s → Gives (plan s m 0) (λ bs q. PlanOk m bs × (s ≡ encode_plan bs) × (q ≡ length s))
   unfolding plan ◌>>◌ encode_plan
   plan-gives m sound =
-      reads (header-gives s 30 (5 + max_steps) 1 0 sound) λ _ o (i, l, z, law).
+      reads (header-gives s 30 (5 + max_steps) 1 _ (lets-version s 1 32) 0 sound) λ _ o (i, l, z, law).
       ends (steps-give m (length s - 5) o (omega arith)) λ bs q (a, b, c).
       let e : q ≡ length s = omega arith in
       (record { count = omega (arith, span-length b); actions = a }, law bs (rw (i, e) at b), e)
@@ -182,6 +182,6 @@ module _ (s : List ℕ) where
   unfolding plan_of answer_of plan ◌>>◌ encode_plan and_then
   plan-ok m bs k e =
       let l = ap length e ∙ length-block 1 bs in
-      let (h, w) = header_ok s 30 (5 + max_steps) 1 0 bs e (omega (arith, k.count)) (omega arith) in
+      let (h, w) = header_ok s 30 (5 + max_steps) 1 _ (lets-version s 1 32) 0 bs e (omega (arith, k.count)) (omega arith) in
       let n : length s - 5 ≡ length bs = omega (arith, span-length w) in
       rw (h, n, steps-ok m bs 5 (length s) k.actions w)

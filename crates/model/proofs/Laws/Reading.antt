@@ -11,10 +11,10 @@ use lib.ListN.{length, get_or, take, drop, length-append}
 use lib.Seq.{drop-cons, take_all, take-length}
 use lib.Arith.{mod-mul}
 use lib.Pow.{pow-add}
-use lib.Dec.{leb, lit<}
+use lib.Dec.{eqb, leb, lit<}
 use borrow.Author.Tests.{leb-true, eqb-true, lt-ltb, le-ltb, le-leb, eq-eqb}
 use Rattle.model.specs.Answer.{answered}
-use Rattle.model.specs.Read.{Read, reject, got, Reader, and_then, ◌>>=◌, ◌>>◌, done, position, require, answer_of, big_endian_from, big_endian, bytes_of, block, byte, header, count}
+use Rattle.model.specs.Read.{Read, reject, got, Reader, and_then, ◌>>=◌, ◌>>◌, done, position, require, answer_of, big_endian_from, big_endian, bytes_of, block, byte, of_version, header, count}
 use Rattle.model.specs.WellFormed.{Bytes}
 use Rattle.model.proofs.Laws.Spans.{Span, nothing, next}
 use Rattle.model.proofs.Laws.Truth.{and-true}
@@ -58,6 +58,12 @@ module _ {B : Type 0} {Q : B → ℕ → Type 0} where
   pub tests :
       (t : Bool) (n o p : ℕ) (k : Unit {0} → Reader B) → (t ≡ true → Gives (k tt p) Q) → Gives (and_then (require t n o p) k) Q
   tests t n o p k f = record { of = λ b q e. needed t n o p k e λ i e₁. (f i).of b q e₁ }
+
+-- a test alone
+pub passed : {Q : Unit {0} → ℕ → Type 0} (t : Bool) (n o p : ℕ) → (t ≡ true → Q tt p) → Gives (require t n o p) Q
+unfolding require
+passed true n o p f = gives (f refl)
+passed false n o p f = record { of = λ b q e. let z : ◌≡◌ {A = ℕ} 0 1 = cc in absurd (omega arith) }
 
 pub answer-got : {A : Type 0} {a : A} (x : Read A) → answer_of x ≡ answered a → (q : ℕ) × (x ≡ got a q)
 unfolding answer_of
@@ -190,16 +196,29 @@ pub length-block : (version : ℕ) (body : List ℕ) → length (block version b
 unfolding block
 length-block version body = rw (length-append (bytes_of 4 (length body)) body, length-bytes_of) (omega arith)
 
-module _ (s : List ℕ) (number most version p : ℕ) where
+-- a test of the version lets that version pass, and no other
+pub record Lets (s : List ℕ) (version : ℕ) (versions : Reader (Unit {0})) : Type 0 where
+  pub only : (p : ℕ) → Gives (versions p) (λ _ q. get_or s 0 0 ≡ version)
+  pub passes : get_or s 0 0 ≡ version → (p : ℕ) → versions p ≡ got tt p
+
+pub lets-version : (s : List ℕ) (version number : ℕ) → Lets s version (of_version s version number)
+unfolding of_version require
+lets-version s version number =
+    record {
+      only = λ p. passed (eqb (get_or s 0 0) version) number 0 p (eqb-true _ _);
+      passes = λ e p. rw (eq-eqb (get_or s 0 0) version e);
+    }
+
+module _ (s : List ℕ) (number most version : ℕ) (versions : Reader (Unit {0})) (lets : Lets s version versions) (p : ℕ) where
   pub header-gives :
       Bytes s →
-      Gives (header s number most version p) λ _ q.
+      Gives (header s number most versions p) λ _ q.
       (q ≡ 5) × (length s ≤ most) × (5 ≤ length s) × ((body : List ℕ) → Span s (length s) 5 body (length s) → s ≡ block version body)
   unfolding header ◌>>◌ block
   header-gives sound =
       tests _ _ _ _ _ λ t₁.
       tests _ _ _ _ _ λ t₂.
-      tests _ _ _ _ _ λ t₃.
+      reads (lets.only p) λ _ m v.
       tests _ _ _ _ _ λ t₄.
       let l = leb-true 5 (length s) t₂ in
       let o : 0 < length s = omega arith in
@@ -210,12 +229,12 @@ module _ (s : List ℕ) (number most version p : ℕ) where
         l,
         λ body k.
             let e : big_endian (take 4 (drop 1 s)) ≡ length body = omega (arith, span-length k) in
-            whole_is (next o (eqb-true _ _ t₃) (join (rw e at (number-got s 4 1 5 sound (omega arith) l).1) k)),
+            whole_is (next o v (join (rw e at (number-got s 4 1 5 sound (omega arith) l).1) k)),
       )
 
   pub header_ok :
       (body : List ℕ) → s ≡ block version body → length s ≤ most → most < 5 + 256 ^ 4 →
-      (header s number most version p ≡ got tt 5) × Span s (length s) 5 body (length s)
+      (header s number most versions p ≡ got tt 5) × Span s (length s) 5 body (length s)
   unfolding header ◌>>◌ block and_then require
   header_ok body e l k =
       let (o, v, r) = first (subst (λ (xs : List ℕ). Span s (length s) 0 xs (length s)) e is_whole) in
@@ -226,7 +245,7 @@ module _ (s : List ℕ) (number most version p : ℕ) where
         rw (
           le-leb (length s) most l,
           le-leb 5 (length s) (omega arith),
-          eq-eqb (get_or s 0 0) version v,
+          lets.passes v p,
           eq-eqb (big_endian (take 4 (drop 1 s))) (length s - 5) n,
         ),
         rw i at c,

@@ -1,6 +1,6 @@
 use Rattle.std.proofs.Common.{◌≡◌, ◌+◌, sym}
 use Rattle.model.specs.Limits.{max_steps}
-use Rattle.model.specs.Read.{head_bytes, header, ◌>>◌, and_then}
+use Rattle.model.specs.Read.{head_bytes, of_version, header, ◌>>◌, and_then}
 use Rattle.model.specs.ProblemBytes.{plan}
 use Rattle.formula.specs.Readings.{forgotten}
 use Rattle.fields.proofs.Readers.{header-got}
@@ -10,7 +10,7 @@ use Rattle.blocks.proofs.plan.check_plan.Goals as goal
 pub returns-in_err-at : goal.returns-in_err-at
 unfolding plan ◌>>◌ and_then forgotten
 returns-in_err-at c =
-    let head : _ ≡ header c.args.s.now 30 (head_bytes + max_steps) 1 0 = c.in_err-at.ensures in
+    let head : _ ≡ header c.args.s.now 30 (head_bytes + max_steps) (of_version c.args.s.now 1 32) 0 = c.in_err-at.ensures in
     rw (returned c.from_residual.result c.from_residual.ensures.1) (rw (← head))
 
 pub check_steps-requires : goal.check_steps-requires

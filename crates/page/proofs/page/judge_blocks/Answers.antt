@@ -7,16 +7,16 @@ pub returns-in-Err : goal.returns-in-Err
 returns-in-Err c =
     let r = c.refused.ensures in
     record {
-      room = rw r.limits c.requires;
-      text = rw r.answer (refused-text c.refused.result.facts.limits c.refused.result.facts.count _ _ c.args.list.now _ (read_task-refused _ _ c.args.plan.now _ c.in-Err.ensures.read));
+      room = rw (r.limits, c.of-limits.ensures) c.requires;
+      text = rw r.answer (refused-text c.refused.result.facts.limits c.refused.result.facts.count c.args.problem.now c.args.plan.now c.args.list.now _ (read_task-refused _ _ c.args.plan.now _ c.in-Err.ensures.read));
     }
 
 pub returns-in-Err-plan : goal.returns-in-Err-plan
 returns-in-Err-plan c =
     let r = c.refused-in-Err-plan.ensures in
     record {
-      room = rw r.limits c.requires;
-      text = rw r.answer (refused-text c.refused-in-Err-plan.result.facts.limits c.refused-in-Err-plan.result.facts.count _ _ c.args.list.now _ (read_task-from _ _ c.args.plan.now c.in-Ok.ensures.read c.in-Ok.ensures.limits c.in-Err-plan.ensures.read));
+      room = rw (r.limits, c.of-limits.ensures) c.requires;
+      text = rw r.answer (refused-text c.refused-in-Err-plan.result.facts.limits c.refused-in-Err-plan.result.facts.count c.args.problem.now c.args.plan.now c.args.list.now _ (read_task-from _ _ c.args.plan.now c.in-Ok.ensures.read c.in-Ok.ensures.limits c.in-Err-plan.ensures.read));
     }
 
 pub returns : goal.returns
@@ -26,6 +26,6 @@ returns c =
     record {
       room = rw c.in-Ok.ensures.limits (omega (arith, c.requires));
       text =
-          judged-text _ _ _ (omega (arith, c.requires)) c.in-Ok-plan.task _ c.in-Ok-plan.ensures.problem c.in-Ok.ensures.limits read _ _ _ c.judge_task-verdict.ensures refl
+          judged-text c.args.problem.now c.args.plan.now _ (omega (arith, c.requires)) c.in-Ok-plan.task _ c.in-Ok-plan.ensures.problem c.in-Ok.ensures.limits read _ _ _ c.judge_task-verdict.ensures refl
           (search rules);
     }

@@ -16,15 +16,15 @@ pub returns-in_err-found : goal.returns-in_err-found
 returns-in_err-found c =
     let p = err_from_is_err_and c.from_residual.result c.from_residual.ensures.1 in
     let e = read_task-refused _ _ c.args.plan.now _ c.in_err-found.ensures.read in
-    let l = relevant-refused _ _ _ e c.args.state c.args.work.now in
-    rw (p.1, p.2) (record { answer = l.0; buffer = l.1; promised = relevant-promised _ _ _ _ l })
+    let l = relevant-refused c.args.problem.now c.args.plan.now _ e c.args.state c.args.work.now in
+    rw (p.1, p.2) (record { answer = l.0; buffer = l.1; promised = relevant-promised c.args.problem.now c.args.plan.now c.args.state c.args.work.now l })
 
 pub returns-in_err-task : goal.returns-in_err-task
 returns-in_err-task c =
     let p = err_from_is_err_and c.from_residual-in_err-task.result c.from_residual-in_err-task.ensures.1 in
     let e = read_task-from _ _ c.args.plan.now c.in_ok-found.ensures.read c.in_ok-found.ensures.limits c.in_err-task.ensures.read in
-    let l = relevant-refused _ _ _ e c.args.state c.args.work.now in
-    rw (p.1, p.2) (record { answer = l.0; buffer = l.1; promised = relevant-promised _ _ _ _ l })
+    let l = relevant-refused c.args.problem.now c.args.plan.now _ e c.args.state c.args.work.now in
+    rw (p.1, p.2) (record { answer = l.0; buffer = l.1; promised = relevant-promised c.args.problem.now c.args.plan.now c.args.state c.args.work.now l })
 
 pub returns-in_err-cases : goal.returns-in_err-cases
 returns-in_err-cases c =
@@ -32,8 +32,8 @@ returns-in_err-cases c =
     let t = c.in_ok-task.task in
     let k = c.in_ok-task.ensures.problem in
     let e = read_task-from _ _ c.args.plan.now c.in_ok-found.ensures.read c.in_ok-found.ensures.limits c.in_ok-task.ensures.read in
-    let l = relevant-no-state _ _ (task t) e c.args.state c.args.work.now _ c.in_err-cases.ensures.state in
-    rw (p.1, p.2) (record { answer = l.0; buffer = l.1; promised = relevant-promised _ _ _ _ l })
+    let l = relevant-no-state c.args.problem.now c.args.plan.now (task t) e c.args.state c.args.work.now _ c.in_err-cases.ensures.state in
+    rw (p.1, p.2) (record { answer = l.0; buffer = l.1; promised = relevant-promised c.args.problem.now c.args.plan.now c.args.state c.args.work.now l })
 
 pub returns-in_err-check_run : goal.returns-in_err-check_run
 returns-in_err-check_run c =
@@ -41,16 +41,16 @@ returns-in_err-check_run c =
     let t = c.in_ok-task.task in
     let k = c.in_ok-task.ensures.problem in
     let e = read_task-from _ _ c.args.plan.now c.in_ok-found.ensures.read c.in_ok-found.ensures.limits c.in_ok-task.ensures.read in
-    let l = relevant-unrun _ _ (task t) e c.args.state c.args.work.now _ c.in_ok-cases.ensures.state _ c.in_err-check_run.ensures.checks in
-    rw (p.1, p.2) (record { answer = l.0; buffer = l.1; promised = relevant-promised _ _ _ _ l })
+    let l = relevant-unrun c.args.problem.now c.args.plan.now (task t) e c.args.state c.args.work.now _ c.in_ok-cases.ensures.state _ c.in_err-check_run.ensures.checks in
+    rw (p.1, p.2) (record { answer = l.0; buffer = l.1; promised = relevant-promised c.args.problem.now c.args.plan.now c.args.state c.args.work.now l })
 
 -- the rows of the run fit apart
-small : (c : In_ok-cases) → (length c.in_ok-task.task.steps.now + 1) * c.in_ok-found.found.facts ≤ 12336
+small : (c : In_ok-cases) → (length c.in_ok-task.task.steps.now + 1) * c.in_ok-found.found.facts ≤ 16448
 small c =
     let t = c.in_ok-task.task in
     let e = read_task-from _ _ c.args.plan.now c.in_ok-found.ensures.read c.in_ok-found.ensures.limits c.in_ok-task.ensures.read in
-    let w = read-within _ _ (of-slice c.args.problem.now c.type_inv.problem) (of-slice c.args.plan.now c.type_inv.plan) _ e in
-    need-small t _ c.in_ok-task.ensures.problem c.in_ok-found.ensures.limits w.1
+    let w = read-within c.args.problem.now c.args.plan.now (of-slice c.args.problem.now c.type_inv.problem) (of-slice c.args.plan.now c.type_inv.plan) _ e in
+    need-small t _ c.in_ok-task.ensures.problem w.1
 
 pub overflow_mul-need : goal.overflow_mul-need
 overflow_mul-need c = omega (arith, small (goal.at.overflow_mul-need c).In_ok-cases)
@@ -65,16 +65,16 @@ returns-in_err-check_room c =
     let k = c.in_ok-task.ensures.problem in
     let e = read_task-from _ _ c.args.plan.now c.in_ok-found.ensures.read c.in_ok-found.ensures.limits c.in_ok-task.ensures.read in
     let l =
-    relevant-short _ _ (task t) e c.args.state c.args.work.now _ c.in_ok-cases.ensures.state _ c.in_ok-check_run.ensures.checks _
+    relevant-short c.args.problem.now c.args.plan.now (task t) e c.args.state c.args.work.now _ c.in_ok-cases.ensures.state _ c.in_ok-check_run.ensures.checks _
     (need-is t _ k) _ c.in_err-check_room.ensures
     in
-    rw (p.1, p.2) (record { answer = l.0; buffer = l.1; promised = relevant-promised _ _ _ _ l })
+    rw (p.1, p.2) (record { answer = l.0; buffer = l.1; promised = relevant-promised c.args.problem.now c.args.plan.now c.args.state c.args.work.now l })
 
 -- and of as many facts as the cases have
 facts-is : (c : In_ok-cases) → c.in_ok-cases.cases.facts ≡ c.in_ok-found.found.facts
 facts-is c = c.in_ok-cases.ensures.facts ∙ ap (λ (p : problems.Problem). p.facts) c.in_ok-task.ensures.problem
 
-fits : (c : In_ok-cases) → suc (length c.in_ok-task.task.steps.now) * c.in_ok-cases.cases.facts ≤ 12336
+fits : (c : In_ok-cases) → suc (length c.in_ok-task.task.steps.now) * c.in_ok-cases.cases.facts ≤ 16448
 fits c =
     let k : suc (length c.in_ok-task.task.steps.now) ≡ length c.in_ok-task.task.steps.now + 1 = omega arith in
     rw (k, facts-is c) (small c)
@@ -84,7 +84,7 @@ check_run-requires-clause-room c = fits (goal.at.check_run-requires-clause-room 
 
 -- the part of the rows that is copied
 part :
-    (c : In_ok-cases) (rows : List ℕ) → length rows ≡ 12336 →
+    (c : In_ok-cases) (rows : List ℕ) → length rows ≡ 16448 →
     length (take ((length c.in_ok-task.task.steps.now + 1) * c.in_ok-found.found.facts) rows) ≡ (length c.in_ok-task.task.steps.now + 1) * c.in_ok-found.found.facts
 part c rows e =
     let need = (length c.in_ok-task.task.steps.now + 1) * c.in_ok-found.found.facts in
@@ -111,11 +111,11 @@ returns c =
     let t = c.in_ok-task.task in
     let k = c.in_ok-task.ensures.problem in
     let e = read_task-from _ _ c.args.plan.now c.in_ok-found.ensures.read c.in_ok-found.ensures.limits c.in_ok-task.ensures.read in
-    let w = read-within _ _ (of-slice c.args.problem.now c.type_inv.problem) (of-slice c.args.plan.now c.type_inv.plan) _ e in
-    let room : work_bytes (task t) ≤ 12336 = rw (← need-is t _ k) (small (goal.at.returns c).In_ok-cases) in
+    let w = read-within c.args.problem.now c.args.plan.now (of-slice c.args.problem.now c.type_inv.problem) (of-slice c.args.plan.now c.type_inv.plan) _ e in
+    let room : work_bytes (task t) ≤ 16448 = rw (← need-is t _ k) (small (goal.at.returns c).In_ok-cases) in
     let l =
-    relevant-found _ _ (task t) e c.args.state c.args.work.now _ c.in_ok-cases.ensures.state _ c.in_ok-check_run.ensures.checks _
+    relevant-found c.args.problem.now c.args.plan.now (task t) e c.args.state c.args.work.now _ c.in_ok-cases.ensures.state _ c.in_ok-check_run.ensures.checks _
     (need-is t _ k) _ c.in_ok-check_room.ensures _ _
     (traces-task (task t) (facts-fit t) w.0 c.in_ok-cases.cases c.check_run.new.cases _ c.check_run.new.rows room c.check_run.ensures.puts _ c.trace_rows.ensures _ _ _ (need-is t _ k) c.copy_from_slice.ensures.after)
     in
-    record { answer = l.0; buffer = l.1; promised = relevant-promised _ _ _ _ l }
+    record { answer = l.0; buffer = l.1; promised = relevant-promised c.args.problem.now c.args.plan.now c.args.state c.args.work.now l }

@@ -4,7 +4,7 @@ use Rattle.model.specs.Read.{head_bytes}
 use Rattle.blocks.specs.Values.{task as task_of}
 use Rattle.follow.specs.Follows.{end_of_lines}
 use Rattle.follow.proofs.Following.{from-line}
-use Rattle.follow.proofs.operations.follow_lines.Given as goal
+use Rattle.follow.proofs.operations.follow_lines_by.Given as goal
 
 abbrev pub invariant-loop-reader : goal.invariant-loop-reader
 invariant-loop-reader l =

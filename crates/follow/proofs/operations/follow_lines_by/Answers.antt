@@ -2,7 +2,7 @@ use Rattle.std.proofs.Common.{ap, refl, sym, ◌∙◌}
 use Rattle.std.proofs.lemmas.Result.{err_from_is_err_and}
 use Rattle.blocks.specs.Values.{task}
 use Rattle.follow.proofs.Following.{from-line, stands, here-line, all-lines, line-refused, line-passed, no-line}
-use Rattle.follow.proofs.operations.follow_lines.Goals as goal
+use Rattle.follow.proofs.operations.follow_lines_by.Goals as goal
 
 pub loop-reader-init : goal.loop-reader-init
 loop-reader-init c =
