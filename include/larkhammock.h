@@ -13,6 +13,10 @@
  *
  * Where the length is 0, any pointer will do, also a null pointer, such as that
  * of an empty vector in C++: nothing is read or written there.
+ *
+ * A problem is of version 1 or 2, by its first byte, and a case list has the
+ * version of its problem. A plan is of version 1 whatever its problem is. Every
+ * function takes problems of both versions.
  */
 #ifndef LARKHAMMOCK_H
 #define LARKHAMMOCK_H
@@ -42,9 +46,64 @@ typedef struct {
 } larkhammock_answer;
 
 /*
+ * What the versions differ in: the most facts of a problem, the most effects of
+ * an action, the bits of a state's number, the bytes of a line, the most lines
+ * of a list, the bytes of the longest list (a buffer for any list), and the
+ * bytes of the longest run's states (a work area for any run).
+ */
+#define LARKHAMMOCK_V1_MOST_FACTS 48
+#define LARKHAMMOCK_V1_MOST_EFFECTS 96
+#define LARKHAMMOCK_V1_STATE_BITS 48
+#define LARKHAMMOCK_V1_LINE_BYTES 8
+#define LARKHAMMOCK_V1_MOST_LINES 8191
+#define LARKHAMMOCK_V1_LONGEST_LIST 65533
+#define LARKHAMMOCK_V1_LONGEST_WORK 12336
+
+#define LARKHAMMOCK_V2_MOST_FACTS 64
+#define LARKHAMMOCK_V2_MOST_EFFECTS 128
+#define LARKHAMMOCK_V2_STATE_BITS 64
+#define LARKHAMMOCK_V2_LINE_BYTES 10
+#define LARKHAMMOCK_V2_MOST_LINES 6553
+#define LARKHAMMOCK_V2_LONGEST_LIST 65535
+#define LARKHAMMOCK_V2_LONGEST_WORK 16448
+
+/*
+ * A state is a number with a bit for each fact that its problem's version can
+ * have, fact 0 at the top; the bits past the problem's facts are 0. The state 0
+ * has no fact true. The two functions below read and change a fact of a state,
+ * so that no caller has to shift bits. version is the problem's: its first
+ * byte. No byte but 1 and 2 is a version, and a version has no fact from
+ * ..MOST_FACTS on: then the first answers 0, and the second the state as it is.
+ */
+static inline unsigned larkhammock_most_facts(unsigned version)
+{
+    return version == 1   ? LARKHAMMOCK_V1_MOST_FACTS
+           : version == 2 ? LARKHAMMOCK_V2_MOST_FACTS
+                          : 0;
+}
+
+/* 1 where the fact is true in the state, and 0 where it is not. */
+static inline int larkhammock_get_fact(
+    unsigned version, uint64_t state, unsigned fact)
+{
+    const unsigned facts = larkhammock_most_facts(version);
+    return fact < facts && (state >> (facts - 1 - fact) & 1) != 0;
+}
+
+/* The state with the fact made true (value is not 0) or false (value is 0). */
+static inline uint64_t larkhammock_set_fact(
+    unsigned version, uint64_t state, unsigned fact, int value)
+{
+    const unsigned facts = larkhammock_most_facts(version);
+    const uint64_t bit =
+        fact < facts ? (uint64_t)1 << (facts - 1 - fact) : 0;
+    return value ? state | bit : state & ~bit;
+}
+
+/*
  * Read a problem. Refusals 10 to 25.
  *   word[0]  1 read
- *   word[1]  the number of facts, 1 to 48
+ *   word[1]  the number of facts, 1 to 48; in version 2, 1 to 64
  *   word[2]  the number of actions, 0 to 64
  */
 larkhammock_answer larkhammock_read_problem(
@@ -60,8 +119,9 @@ larkhammock_answer larkhammock_read_plan(
     const uint8_t *plan, size_t plan_len);
 
 /*
- * Run a plan from one state, which need not be a start state. Fact 0 is bit 47
- * of the state, fact 1 bit 46, and so on. Refusals as for the plan, then 40.
+ * Run a plan from one state, which need not be a start state. Refusals as for
+ * the plan, then 40 where a bit is set that is of no fact of the problem's. In
+ * version 2 with 64 facts there is no such bit.
  *   word[0]  1 reached, 2 missed, 3 blocked
  *   word[1]  where blocked: the step, from 0
  *   word[2]  where blocked: the part of its action that blocks it. part: 0
@@ -82,7 +142,7 @@ larkhammock_answer larkhammock_run(
  *   word[0]  1 right, 2 wrong, 3 undecided
  *   word[1]  the visits used; where undecided, the grant
  *   word[2]  where right: the lines of the walk's list
- *            where wrong: the lowest start state that fails
+ *            where wrong: the lowest start state that fails, as a number
  *   word[3]  where wrong: the outcome of that state, 2 missed or 3 blocked
  *   word[4]  where wrong and blocked: the step, from 0
  *   word[5]  where wrong and blocked: the part, as in a run. part: 0 member,
@@ -97,7 +157,8 @@ larkhammock_answer larkhammock_judge(
 /*
  * Write the case list of a right plan, its certificate, to the front of out.
  * Bytes past the length written keep their values. Refusals as for the plan,
- * then 50 to 53. A buffer of 65,533 bytes holds any list.
+ * then 50 to 53. A buffer of 65,535 bytes holds any list, and one of 65,533
+ * bytes any list of version 1.
  *   word[0]  1 written
  *   word[1]  the length written, in bytes
  */
@@ -109,7 +170,8 @@ larkhammock_answer larkhammock_write_list(
 
 /*
  * Follow a case list, whoever wrote it: it passes only if the plan is right.
- * Refusals as for the plan, then 60 to 70.
+ * Refusals as for the plan, then 60 to 62, 71 where the list's version is not
+ * the problem's, and 63 to 70.
  *   word[0]  1 passes
  *   word[1]  the number of lines in the list
  */
@@ -122,8 +184,8 @@ larkhammock_answer larkhammock_follow_list(
  * Tell which start facts a reached run rests on: from any other state that
  * agrees with this one on them, the plan reaches the goal too. Refusals as for
  * the run, then, at place 0, 41 where it is not reached and 42 where work has
- * under (steps + 1) * facts bytes. A work area of 12,336 bytes is enough for
- * any run.
+ * under (steps + 1) * facts bytes. A work area of 16,448 bytes is enough for
+ * any run, and one of 12,336 bytes for any run of a version 1 problem.
  *   word[0]  1 told
  *   word[1]  the set, as the state in which exactly its facts are true
  * The front of work then holds the states of the run in order, the start state

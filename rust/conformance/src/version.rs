@@ -50,13 +50,30 @@ pub const VERSION_1: Version = Version {
     most_lines: 8_191,
 };
 
-/// Every version that a problem can have.
-pub const VERSIONS: [Version; 1] = [VERSION_1];
+pub const VERSION_2: Version = Version {
+    byte: 2,
+    most_facts: 64,
+    most_effects: 128,
+    width: 64,
+    line_bytes: 10,
+    most_lines: 6_553,
+};
+
+/// Every version that a problem or a list can have.
+pub const VERSIONS: [Version; 2] = [VERSION_1, VERSION_2];
 
 /// The version of every plan, whatever its problem's is.
 pub const PLAN_VERSION: Version = VERSION_1;
 
 impl Version {
+    /// The other of the two.
+    pub fn other(&self) -> Version {
+        match self.byte {
+            1 => VERSION_2,
+            _ => VERSION_1,
+        }
+    }
+
     /// The bytes of a line after kind and k.
     pub fn value_bytes(&self) -> usize {
         self.line_bytes - 2

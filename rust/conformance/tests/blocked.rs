@@ -2,13 +2,17 @@
 
 #[path = "cases/blocked.rs"]
 mod blocked;
+mod safe;
 mod support;
+#[macro_use]
+mod versions;
 
 use blocked::Blocked;
 use conformance::encode;
 use conformance::harness::Operation::{Judge, Run};
 use conformance::harness::{expect, Case};
 use conformance::oracle::Part;
+use conformance::version::Version;
 use larkhammock::{Outcome, Verdict};
 use support::Library;
 
@@ -32,40 +36,44 @@ fn words(part: Part) -> [u64; 2] {
     }
 }
 
-fn safe(part: Part) -> larkhammock::Part {
+fn safe_part(part: Part) -> larkhammock::Part {
     match part {
         Part::Member(member) => larkhammock::Part::Member(member),
         Part::Fact(fact) => larkhammock::Part::Fact(fact),
     }
 }
 
-#[test]
-fn the_run_names_the_part() {
-    for row in blocked::all() {
+of_each_version! {
+    the_run_names_the_part,
+    the_judge_names_the_part,
+    the_safe_crate_names_the_part,
+}
+
+fn the_run_names_the_part(version: &Version) {
+    for row in blocked::all(version) {
         let [part, number] = words(row.part);
         let named = [3, row.step, part, number];
         expect(&Library, Run, &case_of(&row), &named);
     }
 }
 
-#[test]
-fn the_judge_names_the_part() {
-    for row in blocked::all() {
+fn the_judge_names_the_part(version: &Version) {
+    for row in blocked::all(version) {
         let [part, number] = words(row.part);
         let named = [2, row.visits, row.state, 3, row.step, part, number];
         expect(&Library, Judge, &case_of(&row), &named);
     }
 }
 
-#[test]
-fn the_safe_crate_names_the_part() {
-    for row in blocked::all() {
+fn the_safe_crate_names_the_part(version: &Version) {
+    for row in blocked::all(version) {
         let Case { problem, plan, .. } = case_of(&row);
-        let Blocked { state, visits, .. } = row;
+        let visits = row.visits;
         let outcome = Outcome::Blocked {
             step: row.step,
-            part: safe(row.part),
+            part: safe_part(row.part),
         };
+        let state = safe::state(&row.problem, row.state);
         assert_eq!(larkhammock::run(&problem, &plan, state), Ok(outcome));
         let wrong = Verdict::Wrong {
             state,

@@ -1,11 +1,15 @@
 //! The header and the archive as a C program meets them.
 
 mod gcc;
+#[macro_use]
+mod versions;
 
 use std::ffi::OsStr;
 use std::fs;
 use std::path::{Path, PathBuf};
 use std::process::Command;
+
+use conformance::version::Version;
 
 fn root() -> PathBuf {
     Path::new(env!("CARGO_MANIFEST_DIR")).join("../..")
@@ -15,10 +19,15 @@ fn root() -> PathBuf {
 /// ends the program.
 const SANITIZED: [&str; 2] = ["-fsanitize=address,undefined", "-fno-sanitize-recover=all"];
 
-/// What the program prints, compiled with these flags and linked with the
+/// What the program prints, compiled as C with these flags and linked with the
 /// archive.
 #[track_caller]
 fn printed(source: &Path, name: &str, flags: &[&str]) -> String {
+    printed_by(gcc::C, source, name, flags)
+}
+
+#[track_caller]
+fn printed_by(compiler: [&str; 2], source: &Path, name: &str, flags: &[&str]) -> String {
     let program = Path::new(env!("CARGO_TARGET_TMPDIR")).join(name);
     let include = root().join("include");
     let mut arguments: Vec<&OsStr> = flags.iter().map(OsStr::new).collect();
@@ -27,7 +36,7 @@ fn printed(source: &Path, name: &str, flags: &[&str]) -> String {
         include.as_os_str(),
         larkhammock::raw::ARCHIVE.as_ref(),
     ]);
-    gcc::compile(source, &program, &arguments);
+    gcc::compile(compiler, source, &program, &arguments);
 
     let run = Command::new(&program)
         .output()
@@ -38,22 +47,55 @@ fn printed(source: &Path, name: &str, flags: &[&str]) -> String {
     said.into_owned()
 }
 
-#[test]
-fn a_c_program_gets_the_same_words() {
-    let source = gcc::source("check.c");
-    let said = "30 answers as they should be\n";
-    assert_eq!(printed(&source, "check", &[]), said);
-    assert_eq!(printed(&source, "check-sanitized", &SANITIZED), said);
+/// A C program of each version, with these flags and then with the sanitizers too.
+#[track_caller]
+fn prints(name: &str, version: &Version, said: &str) {
+    let source = gcc::source(&format!("{name}.c"));
+    let define = format!("-DVERSION={}", version.byte);
+    let program = format!("{name}-{}", version.byte);
+    assert_eq!(printed(&source, &program, &[&define]), said);
+    let flags = [&[&define[..]], &SANITIZED[..]].concat();
+    assert_eq!(
+        printed(&source, &format!("{program}-sanitized"), &flags),
+        said
+    );
+}
+
+of_each_version! {
+    a_c_program_gets_the_same_words,
+    no_call_touches_a_byte_outside_its_slices,
+}
+
+fn a_c_program_gets_the_same_words(version: &Version) {
+    prints("check", version, "31 answers as they should be\n");
 }
 
 /// Null and live pointers beside length 0, one byte, and buffers that end or
 /// begin where nobody may touch a byte.
+fn no_call_touches_a_byte_outside_its_slices(version: &Version) {
+    // A longer list can be cut at more places.
+    let answers = match version.byte {
+        1 => 540,
+        _ => 558,
+    };
+    let said = format!("{answers} answers as they should be\n");
+    prints("slices", version, &said);
+}
+
+/// The header's own functions, which are for C++ too.
 #[test]
-fn no_call_touches_a_byte_outside_its_slices() {
-    let source = gcc::source("slices.c");
-    let said = "540 answers as they should be\n";
-    assert_eq!(printed(&source, "slices", &[]), said);
-    assert_eq!(printed(&source, "slices-sanitized", &SANITIZED), said);
+fn facts_of_states_in_c_and_in_cpp() {
+    let source = gcc::source("states.c");
+    let said = printed(&source, "states", &[]);
+    assert!(said.ends_with(" facts as they should be\n"), "{said}");
+    assert_eq!(printed(&source, "states-sanitized", &SANITIZED), said);
+    // The compiler goes by the name of the file.
+    let copy = Path::new(env!("CARGO_TARGET_TMPDIR")).join("states.cpp");
+    fs::copy(&source, &copy).expect("the folder for tests can be written");
+    for standard in ["-std=c++11", "-std=c++20"] {
+        let name = format!("states-{}", &standard[5..]);
+        assert_eq!(printed_by(["g++", standard], &copy, &name, &[]), said);
+    }
 }
 
 /// The README's call, on the library's small example.

@@ -4,6 +4,8 @@
 #[path = "cases/apart.rs"]
 mod apart;
 mod support;
+#[macro_use]
+mod versions;
 
 use apart::Right;
 use conformance::encode;
@@ -11,7 +13,7 @@ use conformance::harness::Operation::{FollowList, Judge, Run, WriteList};
 use conformance::harness::{expect, Case};
 use conformance::model::Line;
 use conformance::oracle::holds;
-use conformance::version::VERSION_1;
+use conformance::version::Version;
 use larkhammock::Verdict;
 use support::Library;
 
@@ -22,18 +24,18 @@ fn case_of(row: &Right) -> Case {
         problem: encode::problem(&row.problem),
         plan: encode::plan(&row.steps),
         grant: u64::MAX,
-        room: VERSION_1.most_bytes(),
+        room: row.problem.version.most_bytes(),
         ..Case::default()
     }
 }
 
-fn row(name: &str) -> Right {
-    let mut rows = apart::all().into_iter();
+fn row(version: &Version, name: &str) -> Right {
+    let mut rows = apart::all(version).into_iter();
     rows.find(|row| row.name == name).expect("it is a row")
 }
 
 /// The list block of lines as the desk program prints them.
-fn block<Text: AsRef<str>>(lines: &[Text]) -> Vec<u8> {
+fn block<Text: AsRef<str>>(version: &Version, lines: &[Text]) -> Vec<u8> {
     let line = |text: &Text| {
         let (kind, marks) = text.as_ref().split_once(' ').expect("a kind and marks");
         let fixed: Vec<bool> = marks
@@ -44,16 +46,23 @@ fn block<Text: AsRef<str>>(lines: &[Text]) -> Vec<u8> {
         Line {
             kind: u8::from(kind == "carries"),
             k: fixed.len() as u8,
-            value: VERSION_1.number(&fixed),
+            value: version.number(&fixed),
         }
     };
     let lines: Vec<Line> = lines.iter().map(line).collect();
-    encode::list(&VERSION_1, &lines)
+    encode::list(version, &lines)
 }
 
-#[test]
-fn the_judge_counts_what_an_unknown_conflict_costs() {
-    for row in apart::all() {
+of_each_version! {
+    the_judge_counts_what_an_unknown_conflict_costs,
+    the_list_is_written_and_followed,
+    a_line_that_leaves_a_conflict_unknown_is_refused,
+    no_start_state_is_blocked,
+    other_states_may_be_blocked,
+}
+
+fn the_judge_counts_what_an_unknown_conflict_costs(version: &Version) {
+    for row in apart::all(version) {
         let case = case_of(&row);
         let lines = row.list.len() as u64;
         let visits = 2 * lines - 1;
@@ -70,11 +79,10 @@ fn the_judge_counts_what_an_unknown_conflict_costs() {
     }
 }
 
-#[test]
-fn the_list_is_written_and_followed() {
-    for row in apart::all() {
+fn the_list_is_written_and_followed(version: &Version) {
+    for row in apart::all(version) {
         let case = case_of(&row);
-        let list = block(&row.list);
+        let list = block(version, &row.list);
         expect(&Library, WriteList, &case, &[1, list.len() as u64]);
         let mut out = vec![0; list.len()];
         let length = larkhammock::write_list(&case.problem, &case.plan, u64::MAX, &mut out);
@@ -85,15 +93,14 @@ fn the_list_is_written_and_followed() {
     }
 }
 
-#[test]
-fn a_line_that_leaves_a_conflict_unknown_is_refused() {
+fn a_line_that_leaves_a_conflict_unknown_is_refused(version: &Version) {
     let refused = |name: &str, list: Vec<u8>, line: u64| {
-        let case = case_of(&row(name));
+        let case = case_of(&row(version, name));
         expect(&Library, FollowList, &Case { list, ..case }, &[0, 69, line]);
     };
     let carries = |cases: &[&str]| {
         let lines: Vec<String> = cases.iter().map(|case| format!("carries {case}")).collect();
-        block(&lines)
+        block(version, &lines)
     };
     refused("copy", carries(&["??"]), 0);
     refused("copy-the-last", carries(&["000", "001", "01?", "1??"]), 2);
@@ -103,19 +110,22 @@ fn a_line_that_leaves_a_conflict_unknown_is_refused() {
     refused("elsewhere", carries(&["0??", "1??"]), 1);
     refused("set-always", carries(&["??"]), 0);
 
-    let mut lines = row("copy-of-48").list;
-    lines.truncate(46);
-    lines.push(format!("carries {}??", "1".repeat(46)));
-    refused("copy-of-48", block(&lines), 46);
+    let mut lines = row(version, "copy-of-all").list;
+    let fixed = usize::from(version.most_facts - 2);
+    lines.truncate(fixed);
+    lines.push(format!("carries {}??", "1".repeat(fixed)));
+    refused("copy-of-all", block(version, &lines), fixed as u64);
 }
 
 /// Every start state is run to its end, be the fact true or false before.
-#[test]
-fn no_start_state_is_blocked() {
-    for row in apart::all().into_iter().filter(|row| row.problem.facts < 4) {
-        let unused = VERSION_1.width - u32::from(row.problem.facts);
+fn no_start_state_is_blocked(version: &Version) {
+    for row in apart::all(version)
+        .into_iter()
+        .filter(|row| row.problem.facts < 4)
+    {
+        let unused = version.width - u32::from(row.problem.facts);
         for state in (0..1u64 << row.problem.facts).map(|n| n << unused) {
-            let values = VERSION_1.values(state, row.problem.facts);
+            let values = version.values(state, row.problem.facts);
             if holds(&row.problem.initial, &values) {
                 let case = case_of(&row);
                 expect(&Library, Run, &Case { state, ..case }, &[1]);
@@ -125,14 +135,14 @@ fn no_start_state_is_blocked() {
 }
 
 /// A state that is no start may be blocked, and the plan is right all the same.
-#[test]
-fn other_states_may_be_blocked() {
-    let blocked = |name: &str, state: u64, fact: u64| {
-        let case = case_of(&row(name));
+fn other_states_may_be_blocked(version: &Version) {
+    let blocked = |name: &str, values: &[bool], fact: u64| {
+        let state = version.number(values);
+        let case = case_of(&row(version, name));
         expect(&Library, Run, &Case { state, ..case }, &[3, 0, 1, fact]);
     };
-    blocked("elsewhere", 0b110 << 45, 2);
-    blocked("elsewhere", 0b111 << 45, 2);
-    blocked("set-always", 0b10 << 46, 1);
-    blocked("set-always", 0b11 << 46, 1);
+    blocked("elsewhere", &[true, true, false], 2);
+    blocked("elsewhere", &[true, true, true], 2);
+    blocked("set-always", &[true, false], 1);
+    blocked("set-always", &[true, true], 1);
 }

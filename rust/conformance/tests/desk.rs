@@ -2,6 +2,8 @@
 
 mod cases;
 mod gcc;
+#[macro_use]
+mod versions;
 
 use std::ffi::OsStr;
 use std::fs::{self, File};
@@ -12,6 +14,7 @@ use conformance::desk::printed;
 use conformance::encode;
 use conformance::examples;
 use conformance::trial;
+use conformance::version::{Version, VERSION_1};
 
 const NO_PROBLEM: &str = "refused problem 11 at 0\n";
 const NO_PLAN: &str = "refused plan 31 at 0\n";
@@ -65,14 +68,19 @@ fn folder(name: &str) -> PathBuf {
     folder
 }
 
+/// The name of a folder for a version.
+fn named(name: &str, version: &Version) -> String {
+    format!("{name}-{}", version.byte)
+}
+
 fn file(folder: &Path, name: &str, bytes: &[u8]) -> PathBuf {
     let path = folder.join(name);
     fs::write(&path, bytes).expect("a file can be written");
     path
 }
 
-fn case(name: &str) -> cases::Case {
-    let mut all = cases::all().into_iter();
+fn case(version: &Version, name: &str) -> cases::Case {
+    let mut all = cases::all(version).into_iter();
     all.find(|case| case.name == name).expect("it is a case")
 }
 
@@ -85,7 +93,8 @@ struct Reads {
 impl Reads {
     fn new(folder: &Path, problem: &[u8], plan: &[u8]) -> Reads {
         let library = folder.join("reads.so");
-        gcc::compile(&gcc::source("reads.c"), &library, &["-shared", "-fPIC"]);
+        let source = gcc::source("reads.c");
+        gcc::compile(gcc::C, &source, &library, &["-shared", "-fPIC"]);
         let arguments = [file(folder, "problem", problem), file(folder, "plan", plan)];
         Reads { library, arguments }
     }
@@ -104,18 +113,23 @@ impl Reads {
     }
 }
 
-#[test]
-fn the_page_of_the_trial_problem() {
-    let folder = folder("trial");
-    let problem = file(&folder, "problem", &trial::problem());
+of_each_version! {
+    the_page_of_the_trial_problem,
+    each_case,
+    each_example,
+    a_long_print_goes_to_a_file_too,
+}
+
+fn the_page_of_the_trial_problem(version: &Version) {
+    let folder = folder(&named("trial", version));
+    let problem = file(&folder, "problem", &trial::problem(version));
     let plan = file(&folder, "plan", &encode::plan(&[0, 1]));
     prints("P", &[problem, plan], trial::PRINT.as_bytes());
 }
 
-#[test]
-fn each_case() {
-    let folder = folder("cases");
-    for case in cases::all() {
+fn each_case(version: &Version) {
+    let folder = folder(&named("cases", version));
+    for case in cases::all(version) {
         let problem = file(&folder, &format!("{} problem", case.name), &case.problem);
         let plan = file(&folder, &format!("{} plan", case.name), &case.plan);
         let expected = printed(&case.problem, &case.plan);
@@ -124,12 +138,14 @@ fn each_case() {
     }
 }
 
-#[test]
-fn each_example() {
+fn each_example(version: &Version) {
     let root = Path::new(env!("CARGO_MANIFEST_DIR")).join("../../examples");
     for example in examples::all() {
         let at = |name: &str| root.join(example.folder).join(name);
         for trial in &example.trials {
+            if trial.problem.1[0] != version.byte {
+                continue;
+            }
             let expected = fs::read(at(trial.output)).expect("the print is there");
             let name = format!("{}/{}", example.folder, trial.output);
             prints(&name, &[at(trial.problem.0), at(trial.plan.0)], &expected);
@@ -140,7 +156,7 @@ fn each_example() {
 #[test]
 fn names_that_are_missing() {
     let folder = folder("missing");
-    let problem = file(&folder, "problem", &trial::problem());
+    let problem = file(&folder, "problem", &trial::problem(&VERSION_1));
     let unsound = file(&folder, "unsound", &[1, 0, 0]);
     prints::<&str>("no name", &[], NO_PROBLEM.as_bytes());
     prints("a problem only", &[&problem], NO_PLAN.as_bytes());
@@ -151,7 +167,7 @@ fn names_that_are_missing() {
 #[test]
 fn files_that_cannot_be_read() {
     let folder = folder("unreadable");
-    let problem = file(&folder, "problem", &trial::problem());
+    let problem = file(&folder, "problem", &trial::problem(&VERSION_1));
     let plan = file(&folder, "plan", &encode::plan(&[0, 1]));
     let empty = file(&folder, "empty", &[]);
     let nowhere = folder.join("nowhere");
@@ -169,7 +185,7 @@ fn files_that_cannot_be_read() {
 /// counts for nothing. The last number is past them all, and nothing fails.
 #[test]
 fn a_read_that_fails() {
-    let (problem, plan) = (trial::problem(), encode::plan(&[0, 1]));
+    let (problem, plan) = (trial::problem(&VERSION_1), encode::plan(&[0, 1]));
     let whole = printed(&problem, &plan);
     let desk = Reads::new(&folder("a-read-that-fails"), &problem, &plan);
     for most in [1, 3, 7, 36, 37, 100] {
@@ -189,7 +205,7 @@ fn a_read_that_fails() {
 fn short_reads_are_put_together() {
     let folder = folder("short-reads");
     for name in ["32768-bytes", "32769-bytes", "256-steps"] {
-        let case = case(name);
+        let case = case(&VERSION_1, name);
         let desk = Reads::new(&folder, &case.problem, &case.plan);
         let expected = printed(&case.problem, &case.plan);
         for most in [1, 255, 4_096, 32_768] {
@@ -211,7 +227,7 @@ fn a_long_file_is_read_no_further() {
     problem(32_769).prints(32_769, 2, over);
     problem(32_768).prints(32_769, 2, NO_PROBLEM.as_bytes());
 
-    let plan = |len: usize| Reads::new(&folder, &trial::problem(), &vec![1; len]);
+    let plan = |len: usize| Reads::new(&folder, &trial::problem(&VERSION_1), &vec![1; len]);
     let over = b"refused plan 30 at 261\n";
     plan(300).prints(262, 4, over);
     plan(262).prints(262, 4, over);
@@ -222,8 +238,8 @@ fn a_long_file_is_read_no_further() {
 #[test]
 fn names_of_other_kinds() {
     let folder = folder("names");
-    file(&folder, "problem", &trial::problem());
-    let expected = printed(&trial::problem(), &trial::problem());
+    file(&folder, "problem", &trial::problem(&VERSION_1));
+    let expected = printed(&trial::problem(&VERSION_1), &trial::problem(&VERSION_1));
     let run = desk(&["problem", "./problem"])
         .current_dir(&folder)
         .output()
@@ -232,10 +248,10 @@ fn names_of_other_kinds() {
 }
 
 /// A pipe takes a part at a time, a file takes all: both get the same.
-#[test]
-fn a_long_print_goes_to_a_file_too() {
-    let folder = folder("to-a-file");
-    let case = case("8191-lines");
+fn a_long_print_goes_to_a_file_too(version: &Version) {
+    let folder = folder(&named("to-a-file", version));
+    let most = version.most_lines;
+    let case = case(version, &format!("{most}-lines"));
     let problem = file(&folder, "problem", &case.problem);
     let plan = file(&folder, "plan", &case.plan);
     let output = folder.join("output");

@@ -4,16 +4,18 @@ mod former;
 mod rules;
 mod searches;
 mod support;
+#[macro_use]
+mod versions;
 
 use conformance::answer::{self, words, Answer};
 use conformance::encode;
 use conformance::families;
 use conformance::gen::{case_of_round, sound_case, Rng};
 use conformance::harness::{check, expected, Arena, Case, Operation, Subject};
-use conformance::model::{Action, Formula, Kind, Problem};
+use conformance::model::{Action, Formula, Kind, Line, Problem};
 use conformance::oracle::{self, conflicts, holds, states, walk, Task};
 use conformance::trial;
-use conformance::version::{HEADER, VERSION_1};
+use conformance::version::{Version, HEADER, VERSION_1};
 use former::{with_sets_winning, MOVES};
 use rules::Rule;
 use searches::Searcher;
@@ -77,11 +79,19 @@ impl Subject for Tampered {
     }
 }
 
-#[test]
-fn each_word_of_each_answer_is_compared() {
+of_each_version! {
+    each_word_of_each_answer_is_compared,
+    each_wrong_idea_is_found_out,
+    each_wrong_idea_of_versions_is_found_out,
+    each_wrong_search_is_found_out,
+    each_byte_of_the_buffers_and_their_guards_is_compared,
+    the_oracle_without_a_fault_is_not_found_out,
+}
+
+fn each_word_of_each_answer_is_compared(version: &Version) {
     let mut rng = Rng::new(0x307d);
     for round in 0..60 {
-        let case = case_of_round(&mut rng, &VERSION_1, round);
+        let case = case_of_round(&mut rng, version, round);
         for operation in Operation::ALL {
             check(&Library, operation, &case).expect("the library is as it should be");
             for word in 0..8 {
@@ -170,6 +180,20 @@ fn ask(
     (effect.answer, effect.arena)
 }
 
+/// The version of a problem; where there is none, some version.
+fn version_of(problem: &[u8]) -> Version {
+    oracle::read_problem(problem).map_or(VERSION_1, |problem| problem.version)
+}
+
+/// A block with the other version's byte.
+fn of_the_other(block: &[u8]) -> Vec<u8> {
+    let mut block = block.to_vec();
+    if let Some(byte @ (1 | 2)) = block.first_mut() {
+        *byte = 3 - *byte;
+    }
+    block
+}
+
 /// The oracle with one wrong idea.
 #[derive(Clone, Copy, Debug)]
 enum Fault {
@@ -211,7 +235,30 @@ enum Fault {
     StatesBackward,
     LastStateForgotten,
     WrittenThoughRefused,
+    /// The end of a full cover is taken for that of no line.
+    FullCoverIsEmpty,
+    EmptyListPasses,
+    OtherVersionPasses,
+    /// 71 comes after 63.
+    LengthBeforeVersion,
+    /// 71 comes before 60.
+    VersionBeforeSize,
+    SizeOfTheOtherVersion,
+    LimitsOfTheOtherVersion,
+    StatesOfTheOtherVersion,
 }
+
+/// What one may get wrong where the versions differ.
+const WRONG_VERSIONS: [Fault; 8] = [
+    Fault::FullCoverIsEmpty,
+    Fault::EmptyListPasses,
+    Fault::OtherVersionPasses,
+    Fault::LengthBeforeVersion,
+    Fault::VersionBeforeSize,
+    Fault::SizeOfTheOtherVersion,
+    Fault::LimitsOfTheOtherVersion,
+    Fault::StatesOfTheOtherVersion,
+];
 
 const WRONG_IDEAS: [Fault; 32] = [
     Fault::NoProblemIsSound,
@@ -251,6 +298,7 @@ const WRONG_IDEAS: [Fault; 32] = [
 impl Subject for Fault {
     fn read_problem(&self, problem: &[u8]) -> Answer {
         match (self, Oracle.read_problem(problem)) {
+            (Fault::LimitsOfTheOtherVersion, _) => Oracle.read_problem(&of_the_other(problem)),
             (Fault::NoProblemIsSound, [1, ..]) => words(&[0, 12, 0]),
             (_, answer) => answer,
         }
@@ -267,6 +315,7 @@ impl Subject for Fault {
         let answer = Oracle.run(problem, plan, state);
         let reached = |yes| words(&[if yes { 1 } else { 2 }]);
         match (self, answer) {
+            (Fault::StatesOfTheOtherVersion, _) => Oracle.run(&of_the_other(problem), plan, state),
             (_, [0, ..]) => answer,
             (Fault::RunIsNeverMissed, [2, ..]) => words(&[1]),
             (Fault::GoalReadAtTheStart, [1 | 2, ..]) => {
@@ -296,7 +345,7 @@ impl Subject for Fault {
                 let Some(task) = with_sets_winning(&task) else {
                     return answer;
                 };
-                let mut start = VERSION_1.values(state, task.problem.facts / 2);
+                let mut start = task.problem.version.values(state, task.problem.facts / 2);
                 start.resize(task.problem.facts.into(), false);
                 let [tag, step, rest @ ..] = answer::run(&Ok(oracle::outcome(&task, &start)));
                 words(&[&[tag, step / u64::from(MOVES)], &rest[..]].concat())
@@ -312,7 +361,7 @@ impl Subject for Fault {
             }
             (Fault::HighestFact, [3, step, 1, ..]) => {
                 let task = Task::parse(problem, plan).expect("both are sound");
-                let start = VERSION_1.values(state, task.problem.facts);
+                let start = task.problem.version.values(state, task.problem.facts);
                 let before = &states(&task, &start)[step as usize];
                 let action = usize::from(task.plan[step as usize]);
                 let facts = conflicts(&task.problem.actions[action], before);
@@ -346,7 +395,7 @@ impl Subject for Fault {
         match (self, answer) {
             (Fault::AllPlansWrong, [1, visits, ..]) => words(&[2, visits, 0, 2]),
             (Fault::AlwaysTheSameState, [2, visits, _, outcome @ ..]) => {
-                words(&[&[2, visits, VERSION_1.bit(0)], &outcome[..]].concat())
+                words(&[&[2, visits, version_of(problem).bit(0)], &outcome[..]].concat())
             }
             (Fault::VisitsMadeUp, [1, visits, lines, ..]) => words(&[1, visits + lines - 1, lines]),
             (Fault::FailingStateNeedNotBeAStart, [2, ..]) => {
@@ -388,16 +437,44 @@ impl Subject for Fault {
 
     fn follow_list(&self, problem: &[u8], plan: &[u8], list: &[u8]) -> Answer {
         let answer = Oracle.follow_list(problem, plan, list);
-        let passes = words(&[1, (list.len() / VERSION_1.line_bytes) as u64]);
+        let version = version_of(problem);
+        let passes = words(&[1, (list.len() / version.line_bytes) as u64]);
         match (self, answer) {
             (Fault::NoListPasses, [1, ..]) => words(&[0, 69, 0]),
             (Fault::EveryListPasses, [0, 65..=70, ..]) => passes,
             (Fault::OnlyLine0IsTested, [0, 65..=70, place, ..]) if place > 0 => passes,
             (Fault::EndIsNotTested, [0, 70, ..]) => passes,
+            (Fault::EmptyListPasses, [0, 70, 0, ..]) => passes,
+            (Fault::FullCoverIsEmpty, [0, 68, place, ..]) => {
+                let before = &list[HEADER..version.list_bytes(place as usize)];
+                let rest = &list[version.list_bytes(place as usize)..];
+                let follow =
+                    |lines| Oracle.follow_list(problem, plan, &encode::block(&version, lines));
+                match (follow(before), follow(rest)) {
+                    ([1, ..], [1, ..]) => passes,
+                    _ => answer,
+                }
+            }
+            (Fault::OtherVersionPasses, [0, 71, ..]) => passes,
+            (Fault::LengthBeforeVersion, [0, 71, ..]) => {
+                match Oracle.follow_list(problem, plan, &of_the_other(list)) {
+                    refused @ [0, 63, ..] => refused,
+                    _ => answer,
+                }
+            }
+            (Fault::VersionBeforeSize, [0, 60, ..]) if list[0] == version.other().byte => {
+                words(&[0, 71])
+            }
+            (Fault::SizeOfTheOtherVersion, [0, 60, ..]) => words(&[0, 62]),
+            (Fault::SizeOfTheOtherVersion, [0, 61..=71, ..] | [1, ..])
+                if list.len() > version.other().most_bytes() =>
+            {
+                words(&[0, 60, version.other().most_bytes() as u64])
+            }
             (Fault::EmptyCarriesToo, [0, 69, line, ..]) => {
                 // The line claims that it carries, and is empty.
                 let mut empty = list.to_vec();
-                let kind = std::mem::take(&mut empty[VERSION_1.list_bytes(line as usize)]);
+                let kind = std::mem::take(&mut empty[version.list_bytes(line as usize)]);
                 match Oracle.follow_list(problem, plan, &empty) {
                     [0, 69, again, ..] if again == line => answer,
                     _ if kind == 1 => passes,
@@ -429,16 +506,18 @@ impl Subject for Fault {
             }
             (Fault::WrittenThoughRefused, [0, 41 | 42, ..]) => {
                 let task = Task::parse(problem, plan).expect("both are sound");
-                let start = VERSION_1.values(state, task.problem.facts);
+                let start = task.problem.version.values(state, task.problem.facts);
                 for (byte, value) in arena.out().iter_mut().zip(start) {
                     *byte = u8::from(value);
                 }
             }
             (Fault::Relevant(rule), [1, ..]) => {
                 let task = Task::parse(problem, plan).expect("both are sound");
-                let start = VERSION_1.values(state, task.problem.facts);
+                let Problem { version, facts, .. } = task.problem;
+                let start = version.values(state, facts);
                 let facts = rule.relevant(&task, &states(&task, &start));
-                return words(&[1, facts.into_iter().map(|f| VERSION_1.bit(f)).sum()]);
+                let bits = facts.into_iter().map(|fact| version.bit(fact));
+                return words(&[1, bits.sum()]);
             }
             (Fault::NoRunIsTold, [1, ..]) => {
                 *arena = before;
@@ -463,13 +542,12 @@ impl Subject for Fault {
     }
 }
 
-#[test]
-fn each_wrong_idea_is_found_out() {
+fn each_wrong_idea_is_found_out(version: &Version) {
     let rules = Rule::WRONG.map(Fault::Relevant);
     for fault in WRONG_IDEAS.into_iter().chain(rules) {
         let mut rng = Rng::new(0xfa17);
         let found = (0..2_000).any(|_| {
-            let case = sound_case(&mut rng, &VERSION_1);
+            let case = sound_case(&mut rng, version);
             let wrong = |operation: &Operation| check(&fault, *operation, &case).is_err();
             Operation::ALL.iter().any(wrong)
         });
@@ -477,9 +555,54 @@ fn each_wrong_idea_is_found_out() {
     }
 }
 
+/// Cases in which it matters of which version a block is.
+fn cases_of_versions(version: &Version) -> Vec<Case> {
+    let other = version.other();
+    let whole = Line {
+        kind: 1,
+        k: 0,
+        value: 0,
+    };
+    let lists = [
+        encode::list(version, &[]),
+        encode::list(version, &[whole; 2]),
+        encode::list(&other, &[whole]),
+        vec![other.byte; HEADER],
+        vec![other.byte; 65_536],
+        vec![9; 65_534],
+    ];
+    // 49 facts are too many in version 1.
+    let problems = [families::idle(*version, 1), families::idle(*version, 49)];
+    let case = |problem: &Problem, list: &Vec<u8>| Case {
+        problem: encode::problem(problem),
+        plan: encode::plan(&[]),
+        list: list.clone(),
+        state: version.bit(0),
+        ..Case::default()
+    };
+    let cases = |problem| lists.iter().map(move |list| case(problem, list));
+    problems.iter().flat_map(cases).collect()
+}
+
+fn each_wrong_idea_of_versions_is_found_out(version: &Version) {
+    let cases = cases_of_versions(version);
+    for fault in WRONG_VERSIONS {
+        let found = cases.iter().any(|case| {
+            let wrong = |operation: &Operation| check(&fault, *operation, case).is_err();
+            Operation::ALL.iter().any(wrong)
+        });
+        assert!(found, "{fault:?} gets past");
+    }
+    for case in &cases {
+        for operation in Operation::ALL {
+            check(&Oracle, operation, case).expect("the same twice");
+        }
+    }
+}
+
 /// Searches with as many actions as may be and one more, which are few among the
 /// generated: no visit is granted, so that they end at once.
-fn searches_at_the_edge() -> Vec<Case> {
+fn searches_at_the_edge(version: &Version) -> Vec<Case> {
     let idle = Action {
         precondition: Formula::always(),
         effects: Vec::new(),
@@ -487,7 +610,7 @@ fn searches_at_the_edge() -> Vec<Case> {
     let search = |actions: usize, longest| {
         let problem = Problem {
             actions: vec![idle.clone(); actions],
-            ..families::idle(VERSION_1, 1)
+            ..families::idle(*version, 1)
         };
         Case {
             problem: encode::problem(&problem),
@@ -498,13 +621,12 @@ fn searches_at_the_edge() -> Vec<Case> {
     vec![search(31, 4), search(32, 4), search(32, 5)]
 }
 
-#[test]
-fn each_wrong_search_is_found_out() {
+fn each_wrong_search_is_found_out(version: &Version) {
     for searcher in Searcher::WRONG {
         let fault = Fault::Searches(searcher);
         let mut rng = Rng::new(0xfa18);
-        let generated = (0..2_000).map(|_| sound_case(&mut rng, &VERSION_1));
-        let mut cases = searches_at_the_edge().into_iter().chain(generated);
+        let generated = (0..2_000).map(|_| sound_case(&mut rng, version));
+        let mut cases = searches_at_the_edge(version).into_iter().chain(generated);
         let found = cases.any(|case| check(&fault, Operation::SearchPlans, &case).is_err());
         assert!(found, "{searcher:?} gets past 2,000 cases");
     }
@@ -520,13 +642,12 @@ fn each_byte_is_compared(operation: Operation, case: &Case, lent: usize) {
     }
 }
 
-#[test]
-fn each_byte_of_the_buffers_and_their_guards_is_compared() {
+fn each_byte_of_the_buffers_and_their_guards_is_compared(version: &Version) {
     // A list that fits with bytes to spare, one that does not, a wrong plan.
     for (room, steps) in [(40, &[0, 1][..]), (28, &[0, 1]), (40, &[0])] {
         let case = Case {
             room,
-            ..trial::with_plan(steps)
+            ..trial::with_plan(version, steps)
         };
         each_byte_is_compared(Operation::WriteList, &case, room);
     }
@@ -534,8 +655,8 @@ fn each_byte_of_the_buffers_and_their_guards_is_compared() {
     for (work, steps) in [(12, &[0, 1][..]), (8, &[0, 1]), (12, &[0])] {
         let case = Case {
             work,
-            state: VERSION_1.bit(1),
-            ..trial::with_plan(steps)
+            state: version.bit(1),
+            ..trial::with_plan(version, steps)
         };
         each_byte_is_compared(Operation::RelevantFacts, &case, work);
     }
@@ -543,11 +664,10 @@ fn each_byte_of_the_buffers_and_their_guards_is_compared() {
 
 /// The oracle made into a subject is itself: so it is each fault alone that is
 /// found out above.
-#[test]
-fn the_oracle_without_a_fault_is_not_found_out() {
+fn the_oracle_without_a_fault_is_not_found_out(version: &Version) {
     let mut rng = Rng::new(0xfa17);
     for _ in 0..500 {
-        let case = sound_case(&mut rng, &VERSION_1);
+        let case = sound_case(&mut rng, version);
         for operation in Operation::ALL {
             check(&Oracle, operation, &case).expect("the same twice");
         }
@@ -556,13 +676,13 @@ fn the_oracle_without_a_fault_is_not_found_out() {
         let search = Fault::Searches(Searcher::AsWritten);
         check(&search, Operation::SearchPlans, &case).expect("the search is as written");
     }
-    let list = trial::list();
-    let state = VERSION_1.number(&[false, true, true]);
+    let list = trial::list(version);
+    let state = version.number(&[false, true, true]);
     let case = Case {
         list,
         state,
         longest: 2,
-        ..trial::with_plan(&[0, 1])
+        ..trial::with_plan(version, &[0, 1])
     };
     let answers = Operation::ALL.map(|operation| expected(operation, &case).answer[0]);
     assert_eq!(answers, [1; 8]);

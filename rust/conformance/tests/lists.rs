@@ -2,13 +2,15 @@
 //! nothing shorter passes.
 
 mod support;
+#[macro_use]
+mod versions;
 
 use conformance::encode;
 use conformance::gen::{altered, cover, every_cover, refined, right_task, task, Alteration, Rng};
 use conformance::harness::{check, Case, Operation};
 use conformance::model::Line;
 use conformance::oracle::{lowest_failing, Task, ENUMERABLE};
-use conformance::version::VERSION_1;
+use conformance::version::Version;
 use support::Library;
 
 /// The blocks of a task, with all the grant there is.
@@ -42,13 +44,13 @@ fn follow(case: &Case, list: Vec<u8>) -> Option<u64> {
 
 /// The list that the library writes, in a buffer that is longer by a few bytes.
 /// Nothing where the plan is wrong.
-fn written(case: &Case) -> Option<Vec<u8>> {
+fn written(version: &Version, case: &Case) -> Option<Vec<u8>> {
     let lines = match larkhammock::judge(&case.problem, &case.plan, case.grant) {
         Ok(larkhammock::Verdict::Right { lines, .. }) => lines as usize,
         Ok(larkhammock::Verdict::Wrong { .. }) => return None,
         other => panic!("{other:?}"),
     };
-    let room = VERSION_1.list_bytes(lines) + 3;
+    let room = version.list_bytes(lines) + 3;
     let case = Case {
         room,
         ..case.clone()
@@ -64,12 +66,12 @@ fn written(case: &Case) -> Option<Vec<u8>> {
 }
 
 /// A task whose states can be enumerated.
-fn small_task(rng: &mut Rng, right: bool) -> Task {
+fn small_task(rng: &mut Rng, version: &Version, right: bool) -> Task {
     loop {
         let task = if right {
-            right_task(rng, &VERSION_1)
+            right_task(rng, version)
         } else {
-            task(rng, &VERSION_1)
+            task(rng, version)
         };
         if task.problem.facts <= ENUMERABLE && lowest_failing(&task).is_none() == right {
             return task;
@@ -77,15 +79,20 @@ fn small_task(rng: &mut Rng, right: bool) -> Task {
     }
 }
 
-#[test]
-fn what_is_written_passes_and_nothing_shorter_does() {
+of_each_version! {
+    what_is_written_passes_and_nothing_shorter_does,
+    no_list_passes_for_a_wrong_plan,
+    every_cover_of_three_facts,
+}
+
+fn what_is_written_passes_and_nothing_shorter_does(version: &Version) {
     let mut rng = Rng::new(0x115ed);
     let mut passed = [0; Alteration::ALL.len()];
     let mut refused = [0; Alteration::ALL.len()];
     for _ in 0..3_000 {
-        let task = small_task(&mut rng, true);
+        let task = small_task(&mut rng, version, true);
         let case = case_of(&task);
-        let list = written(&case).expect("no state fails");
+        let list = written(version, &case).expect("no state fails");
         let lines: Vec<Line> = cover(&task);
         assert_eq!(list, block(&task, &lines), "the walk's closed cases");
         assert_eq!(follow(&case, list), Some(lines.len() as u64));
@@ -126,13 +133,12 @@ fn what_is_written_passes_and_nothing_shorter_does() {
     }
 }
 
-#[test]
-fn no_list_passes_for_a_wrong_plan() {
+fn no_list_passes_for_a_wrong_plan(version: &Version) {
     let mut rng = Rng::new(0x2bad);
     for _ in 0..3_000 {
-        let task = small_task(&mut rng, false);
+        let task = small_task(&mut rng, version, false);
         let case = case_of(&task);
-        assert_eq!(written(&case), None);
+        assert_eq!(written(version, &case), None);
         // Every claim that can be so is so: only the failing states' are not.
         let mut lines = cover(&task);
         assert_eq!(follow(&case, block(&task, &lines)), None);
@@ -146,17 +152,14 @@ fn no_list_passes_for_a_wrong_plan() {
 }
 
 /// For up to three facts, every list that could be a cover at all.
-#[test]
-fn every_cover_of_three_facts() {
+fn every_cover_of_three_facts(version: &Version) {
     let mut rng = Rng::new(0xc03e5);
-    let covers: Vec<_> = (0..=3)
-        .map(|facts| every_cover(&VERSION_1, facts))
-        .collect();
+    let covers: Vec<_> = (0..=3).map(|facts| every_cover(version, facts)).collect();
     assert_eq!(covers[3].len(), 1_446);
     let mut right = 0;
     for _ in 0..250 {
         let task = loop {
-            let task = right_task(&mut rng, &VERSION_1);
+            let task = right_task(&mut rng, version);
             if task.problem.facts <= 3 {
                 break task;
             }
@@ -168,7 +171,7 @@ fn every_cover_of_three_facts() {
             .filter(|list| follow(&case, list.clone()).is_some());
         let shortest = passing.map(|list| list.len()).min();
         // The written list is among them, and is the shortest; without it none.
-        assert_eq!(shortest, written(&case).map(|list| list.len()));
+        assert_eq!(shortest, written(version, &case).map(|list| list.len()));
         assert_eq!(shortest.is_some(), lowest_failing(&task).is_none());
         right += u32::from(shortest.is_some());
     }

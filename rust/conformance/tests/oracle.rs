@@ -1,6 +1,8 @@
 //! The oracle against itself: its walk against every case there is.
 
 mod former;
+#[macro_use]
+mod versions;
 
 use conformance::encode;
 use conformance::gen::{right_task, task, Rng};
@@ -8,7 +10,7 @@ use conformance::model::{Action, Formula, Line, Literal};
 use conformance::oracle::{
     self, closes, conditions, lowest_failing, walk, End, Outcome, Part, Task, Verdict,
 };
-use conformance::version::{Version, VERSION_1};
+use conformance::version::{Version, VERSION_2};
 use former::{with_sets_winning, MOVES};
 
 /// Every case, each before the ones that it splits into, no before yes.
@@ -44,20 +46,25 @@ fn visited(task: &Task) -> Vec<Vec<bool>> {
 }
 
 /// Mostly right in even rounds.
-fn any_task(rng: &mut Rng, round: usize) -> Task {
+fn any_task(rng: &mut Rng, version: &Version, round: usize) -> Task {
     if round.is_multiple_of(2) {
-        right_task(rng, &VERSION_1)
+        right_task(rng, version)
     } else {
-        task(rng, &VERSION_1)
+        task(rng, version)
     }
 }
 
-#[test]
-fn the_walk_visits_the_cases_whose_parents_are_open() {
+of_each_version! {
+    the_walk_visits_the_cases_whose_parents_are_open,
+    sound_blocks_are_read_back,
+    no_conflict_is_a_precondition,
+}
+
+fn the_walk_visits_the_cases_whose_parents_are_open(version: &Version) {
     let mut rng = Rng::new(0x0ac1e);
     let mut rights = 0;
     for round in 0..2_000 {
-        let task = any_task(&mut rng, round);
+        let task = any_task(&mut rng, version, round);
         if task.problem.facts > 8 || task.plan.len() > 20 {
             continue;
         }
@@ -83,11 +90,10 @@ fn the_walk_visits_the_cases_whose_parents_are_open() {
     assert!(rights > 300, "{rights} right plans");
 }
 
-#[test]
-fn sound_blocks_are_read_back() {
+fn sound_blocks_are_read_back(version: &Version) {
     let mut rng = Rng::new(0xbac4);
     for _ in 0..2_000 {
-        let task = task(&mut rng, &VERSION_1);
+        let task = task(&mut rng, version);
         let (problem, plan) = (encode::problem(&task.problem), encode::plan(&task.plan));
         assert_eq!(oracle::read_problem(&problem), Ok(task.problem));
         assert_eq!(
@@ -101,21 +107,16 @@ fn sound_blocks_are_read_back() {
     }
 }
 
-/// Where a state is a whole word, the end of a full cover is no word, and no
-/// shift or sum may lose it.
+/// In version 2 a state is a whole word. So the end of a full cover is no word, and
+/// no shift or sum may lose it.
 #[test]
 fn a_state_can_be_a_whole_word() {
-    let wide = Version {
-        most_facts: 64,
-        width: 64,
-        ..VERSION_1
-    };
-    assert_eq!(wide.numbers(), u128::from(u64::MAX) + 1);
-    assert_eq!(wide.covered(0), wide.numbers());
-    assert_eq!(wide.covered(64), 1);
-    assert_eq!((wide.bit(0), wide.bit(63)), (1 << 63, 1));
-    assert_eq!(wide.number(&[true; 64]), u64::MAX);
-    assert_eq!(wide.values(u64::MAX, 64), [true; 64]);
+    assert_eq!(VERSION_2.numbers(), u128::from(u64::MAX) + 1);
+    assert_eq!(VERSION_2.covered(0), VERSION_2.numbers());
+    assert_eq!(VERSION_2.covered(64), 1);
+    assert_eq!((VERSION_2.bit(0), VERSION_2.bit(63)), (1 << 63, 1));
+    assert_eq!(VERSION_2.number(&[true; 64]), u64::MAX);
+    assert_eq!(VERSION_2.values(u64::MAX, 64), [true; 64]);
 }
 
 /// What a formula denies.
@@ -133,7 +134,7 @@ fn denial(formula: &Formula) -> Formula {
 
 /// Each fact with both entries, and its conditions.
 fn pairs(action: &Action) -> Vec<(u8, [&Formula; 2])> {
-    (0..VERSION_1.most_facts)
+    (0..64)
         .filter_map(|fact| match conditions(action, fact) {
             [Some(set), Some(clear)] => Some((fact, [set, clear])),
             _ => None,
@@ -156,12 +157,11 @@ fn asking(action: &Action) -> Action {
 
 /// That no fact is set and cleared at once is as good as a precondition: the same cases
 /// are closed, and the first false member of that precondition names the fact.
-#[test]
-fn no_conflict_is_a_precondition() {
+fn no_conflict_is_a_precondition(version: &Version) {
     let mut rng = Rng::new(0xa5c);
     let (mut rights, mut facts_named) = (0, 0);
     for round in 0..2_000 {
-        let task = any_task(&mut rng, round);
+        let task = any_task(&mut rng, version, round);
         if task.problem.facts > 8 || task.plan.len() > 20 {
             continue;
         }
@@ -177,7 +177,7 @@ fn no_conflict_is_a_precondition() {
             rights += 1;
             continue;
         };
-        let mut start = VERSION_1.values(state, task.problem.facts);
+        let mut start = version.values(state, task.problem.facts);
         start.resize(former.problem.facts.into(), false);
         match (outcome, oracle::outcome(&former, &start)) {
             (Outcome::Missed, Outcome::Missed) => {}

@@ -3,8 +3,11 @@
 #[path = "cases/relevant.rs"]
 mod relevant;
 mod rules;
+mod safe;
 mod support;
 mod timing;
+#[macro_use]
+mod versions;
 
 use std::cell::RefCell;
 use std::hint::black_box;
@@ -17,25 +20,32 @@ use conformance::harness::Operation::RelevantFacts;
 use conformance::harness::{check, expect, Case};
 use conformance::model::Formula;
 use conformance::oracle::{after, conditions, holds, outcome, states, Outcome, Task};
-use conformance::version::{MOST_STEPS, VERSION_1};
+use conformance::version::{Version, MOST_STEPS};
 use relevant::Relevant;
 use rules::Rule;
 use support::Library;
 use timing::ratio;
 
 /// The state of so many marks.
-fn number(marks: &str) -> u64 {
+fn number(version: &Version, marks: &str) -> u64 {
     let values: Vec<bool> = marks.chars().map(|mark| mark == '1').collect();
-    VERSION_1.number(&values)
+    version.number(&values)
 }
 
-fn set(facts: &[u8]) -> u64 {
-    facts.iter().map(|fact| VERSION_1.bit(*fact)).sum()
+fn set(version: &Version, facts: &[u8]) -> u64 {
+    facts.iter().map(|fact| version.bit(*fact)).sum()
 }
 
-#[test]
-fn worked_out_by_hand() {
-    for row in relevant::all() {
+of_each_version! {
+    worked_out_by_hand,
+    every_state_that_agrees_on_the_set_is_reached,
+    a_rule_that_leaves_facts_out_has_a_state_that_is_not_reached,
+    twice_the_steps_take_at_most_three_times_as_long,
+    running_again_takes_more_than_three_times_as_long,
+}
+
+fn worked_out_by_hand(version: &Version) {
+    for row in relevant::all(version) {
         let Relevant { states, facts, .. } = row;
         // It is shown where the test fails.
         println!("{}", row.name);
@@ -43,7 +53,7 @@ fn worked_out_by_hand() {
         let case = Case {
             problem: encode::problem(&row.problem),
             plan: encode::plan(row.steps),
-            state: number(states[0]),
+            state: number(version, states[0]),
             ..Case::default()
         };
         for work in [exact, exact + 5] {
@@ -51,7 +61,7 @@ fn worked_out_by_hand() {
                 work,
                 ..case.clone()
             };
-            expect(&Library, RelevantFacts, &case, &[1, set(facts)]);
+            expect(&Library, RelevantFacts, &case, &[1, set(version, facts)]);
         }
         let short = Case {
             work: exact - 1,
@@ -61,7 +71,8 @@ fn worked_out_by_hand() {
 
         let mut work = vec![7; exact];
         let Case { problem, plan, .. } = &case;
-        let run = larkhammock::relevant_facts(problem, plan, case.state, &mut work)
+        let start = safe::state(&row.problem, case.state);
+        let run = larkhammock::relevant_facts(problem, plan, start, &mut work)
             .expect("the work area is long enough");
         assert!(run.facts.iter().eq(facts.iter().copied().map(u64::from)));
         let marks = |state: &[u8]| -> String { state.iter().map(u8::to_string).collect() };
@@ -72,17 +83,17 @@ fn worked_out_by_hand() {
 
 /// Every state of the task's facts.
 fn every_state(task: &Task) -> impl Iterator<Item = u64> {
-    let unused = VERSION_1.width - u32::from(task.problem.facts);
+    let unused = task.problem.version.width - u32::from(task.problem.facts);
     (0..1u64 << task.problem.facts).map(move |n| n << unused)
 }
 
 /// A task whose states can be enumerated.
-fn small_task(rng: &mut Rng, round: usize) -> Task {
+fn small_task(rng: &mut Rng, version: &Version, round: usize) -> Task {
     loop {
         let task = if round.is_multiple_of(2) {
-            right_task(rng, &VERSION_1)
+            right_task(rng, version)
         } else {
-            task(rng, &VERSION_1)
+            task(rng, version)
         };
         if task.problem.facts <= 10 {
             return task;
@@ -98,7 +109,7 @@ struct Reached {
 
 impl Reached {
     fn number(&self) -> u64 {
-        VERSION_1.number(&self.start)
+        self.task.problem.version.number(&self.start)
     }
 
     /// The states that agree with the start on these facts.
@@ -112,22 +123,23 @@ impl Reached {
         let problem = encode::problem(&self.task.problem);
         let plan = encode::plan(&self.task.plan);
         let run = |state| {
+            let state = safe::state(&self.task.problem, state);
             let outcome = larkhammock::run(&problem, &plan, state);
-            assert_eq!(outcome, Ok(larkhammock::Outcome::Reached), "{state:x}");
+            assert_eq!(outcome, Ok(larkhammock::Outcome::Reached), "{state}");
         };
         self.agreeing(set).map(run).count()
     }
 }
 
 /// Runs that reach the goal, of generated problems: a few for each.
-fn reached_runs(seed: u64, rounds: usize) -> Vec<Reached> {
+fn reached_runs(version: &Version, seed: u64, rounds: usize) -> Vec<Reached> {
     let mut rng = Rng::new(seed);
     let mut runs = Vec::new();
     for round in 0..rounds {
-        let task = small_task(&mut rng, round);
+        let task = small_task(&mut rng, version, round);
         let states: Vec<u64> = every_state(&task).collect();
         for _ in 0..4 {
-            let start = VERSION_1.values(rng.pick(&states), task.problem.facts);
+            let start = version.values(rng.pick(&states), task.problem.facts);
             if outcome(&task, &start) == Outcome::Reached {
                 let task = task.clone();
                 runs.push(Reached { task, start });
@@ -188,10 +200,9 @@ impl Met {
 
 /// "Prove that any other state which agrees on that set is also reached": here
 /// every such state is run.
-#[test]
-fn every_state_that_agrees_on_the_set_is_reached() {
+fn every_state_that_agrees_on_the_set_is_reached(version: &Version) {
     let mut met = Met::default();
-    for run in reached_runs(0xa93e, 2_000) {
+    for run in reached_runs(version, 0xa93e, 2_000) {
         let case = Case {
             problem: encode::problem(&run.task.problem),
             plan: encode::plan(&run.task.plan),
@@ -223,15 +234,14 @@ fn every_state_that_agrees_on_the_set_is_reached() {
 
 /// What the test above is to catch, it would: a rule that leaves facts out has a
 /// state that agrees on its set and is not reached. The others name too many.
-#[test]
-fn a_rule_that_leaves_facts_out_has_a_state_that_is_not_reached() {
+fn a_rule_that_leaves_facts_out_has_a_state_that_is_not_reached(version: &Version) {
     let sound = [
         Rule::AsWritten,
         Rule::SetIsNeverTrue,
         Rule::FactItselfAlwaysKept,
         Rule::ClearSettles,
     ];
-    let runs = reached_runs(0xa93f, 2_000);
+    let runs = reached_runs(version, 0xa93f, 2_000);
     for rule in Rule::WRONG.into_iter().chain([Rule::AsWritten]) {
         let found = runs.iter().any(|run| {
             let Reached { task, start } = run;
@@ -239,9 +249,9 @@ fn a_rule_that_leaves_facts_out_has_a_state_that_is_not_reached() {
                 .relevant(task, &states(task, start))
                 .into_iter()
                 .collect();
-            let mut agreeing = run.agreeing(set(&facts));
+            let mut agreeing = run.agreeing(set(version, &facts));
             agreeing.any(|state| {
-                let values = VERSION_1.values(state, task.problem.facts);
+                let values = version.values(state, task.problem.facts);
                 outcome(task, &values) != Outcome::Reached
             })
         });
@@ -254,27 +264,30 @@ fn a_rule_that_leaves_facts_out_has_a_state_that_is_not_reached() {
 fn the_library_says_the_same_as_the_examples() {
     let trials = examples::all().into_iter().flat_map(|e| e.trials);
     let told = trials.filter_map(|trial| {
-        let state = trial.start.as_ref()?.state;
+        let number = trial.start.as_ref()?.state;
         let (problem, plan) = (&trial.problem.1, &trial.plan.1);
+        let task = Task::parse(problem, plan).expect("both are sound");
+        let state = safe::state(&task.problem, number);
         let mut work = [0; larkhammock::LONGEST_WORK];
         let run = larkhammock::relevant_facts(problem, plan, state, &mut work);
         let facts = run.expect("it is reached").facts;
-        let told = trial.relevant_facts(state);
+        let told = trial.relevant_facts(number);
         assert!(facts.iter().eq(told.into_iter().map(u64::from)));
-        let task = Task::parse(problem, plan).expect("both are sound");
-        let start = VERSION_1.values(state, task.problem.facts);
-        Some(Reached { task, start }.all_reached_that_agree(facts.number()))
+        let start = task.problem.version.values(number, task.problem.facts);
+        let reached = Reached { task, start };
+        Some(reached.all_reached_that_agree(facts.state().number()))
     });
     assert_eq!(told.collect::<Vec<_>>(), [64]);
 }
 
 /// 48 facts and so many steps, each of them applicable.
-fn long_run(steps: usize) -> Reached {
+fn long_run(version: &Version, steps: usize) -> Reached {
     let store = Store {
         carriages: 12,
         aisles: 3,
     };
     let mut problem = store.problem();
+    problem.version = *version;
     problem.goal = Formula::all((0..48).map(Formula::either));
     Reached {
         start: vec![true; 48],
@@ -286,16 +299,16 @@ fn long_run(steps: usize) -> Reached {
 }
 
 /// Time grows with the steps: each is gone through once in each direction.
-#[test]
-fn twice_the_steps_take_at_most_three_times_as_long() {
+fn twice_the_steps_take_at_most_three_times_as_long(version: &Version) {
     let [long, short] = [MOST_STEPS, MOST_STEPS / 2].map(|steps| {
-        let run = long_run(steps);
+        let run = long_run(version, steps);
         let problem = encode::problem(&run.task.problem);
         let plan = encode::plan(&run.task.plan);
         let work = RefCell::new([0; larkhammock::LONGEST_WORK]);
         move || {
             let work = &mut *work.borrow_mut();
-            let told = larkhammock::relevant_facts(black_box(&problem), &plan, run.number(), work);
+            let start = safe::state(&run.task.problem, run.number());
+            let told = larkhammock::relevant_facts(black_box(&problem), &plan, start, work);
             assert!(black_box(told).is_ok());
         }
     });
@@ -305,10 +318,9 @@ fn twice_the_steps_take_at_most_three_times_as_long() {
 
 /// What the test above is to catch, it would: to run from the start again for
 /// each state, as it is asked for backward, takes four times as long.
-#[test]
-fn running_again_takes_more_than_three_times_as_long() {
+fn running_again_takes_more_than_three_times_as_long(version: &Version) {
     let [long, short] = [MOST_STEPS, MOST_STEPS / 2].map(|steps| {
-        let Reached { task, start } = long_run(steps);
+        let Reached { task, start } = long_run(version, steps);
         move || {
             for count in (0..=task.plan.len()).rev() {
                 let steps = task.plan[..count].iter();

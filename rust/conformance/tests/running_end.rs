@@ -2,6 +2,8 @@
 
 mod support;
 mod timing;
+#[macro_use]
+mod versions;
 
 use std::hint::black_box;
 
@@ -11,20 +13,25 @@ use conformance::gen::{cover, even_cover, refined, task, Rng};
 use conformance::harness::{check, Case, Operation};
 use conformance::model::Line;
 use conformance::oracle::Task;
-use conformance::version::VERSION_1;
+use conformance::version::Version;
 use larkhammock::{raw, Refusal};
 use support::Library;
 use timing::ratio;
 
+of_each_version! {
+    six_thousand_lines_and_their_first_three_thousand,
+    adding_up_again_takes_more_than_three_times_as_long,
+    the_next_line_begins_at_the_end_of_what_is_covered,
+}
+
 /// "In a test with the empty plan, following 6,000 sound lines takes at most
 /// three times as long as their first 3,000."
-#[test]
-fn six_thousand_lines_and_their_first_three_thousand() {
-    let problem = encode::problem(&idle(VERSION_1, 13));
+fn six_thousand_lines_and_their_first_three_thousand(version: &Version) {
+    let problem = encode::problem(&idle(*version, 13));
     let plan = encode::plan(&[]);
-    let lines = even_cover(&VERSION_1, 6_000);
-    let whole = encode::list(&VERSION_1, &lines);
-    let half = encode::list(&VERSION_1, &lines[..3_000]);
+    let lines = even_cover(version, 6_000);
+    let whole = encode::list(version, &lines);
+    let half = encode::list(version, &lines[..3_000]);
     let follow = |list: &[u8]| larkhammock::follow_list(&problem, &plan, list);
     let short = Refusal {
         number: 70,
@@ -42,37 +49,36 @@ fn six_thousand_lines_and_their_first_three_thousand() {
 
 /// Whether each line begins where those before it end, which is added up again
 /// at every line.
-fn adds_up_again(lines: &[Line]) -> bool {
+fn adds_up_again(version: &Version, lines: &[Line]) -> bool {
     lines.iter().enumerate().all(|(i, line)| {
-        let covered = lines[..i].iter().map(|line| VERSION_1.covered(line.k));
+        let covered = lines[..i].iter().map(|line| version.covered(line.k));
         u128::from(line.value) == covered.sum()
     })
 }
 
 /// What the test above is to catch, it would: four times as long.
-#[test]
-fn adding_up_again_takes_more_than_three_times_as_long() {
-    let lines = even_cover(&VERSION_1, 6_000);
-    assert!(adds_up_again(&lines));
+fn adding_up_again_takes_more_than_three_times_as_long(version: &Version) {
+    let lines = even_cover(version, 6_000);
+    assert!(adds_up_again(version, &lines));
     let adding = |lines: &[Line]| {
-        black_box(adds_up_again(black_box(lines)));
+        black_box(adds_up_again(version, black_box(lines)));
     };
     let ratio = ratio(40, [&|| adding(&lines), &|| adding(&lines[..3_000])]);
     assert!(ratio > 3.0, "{ratio} times as long");
 }
 
 /// The number of a state of so many facts, the lowest being 0.
-fn number(facts: u8, state: usize) -> u64 {
-    (state as u64) << (VERSION_1.width - u32::from(facts))
+fn number(version: &Version, facts: u8, state: usize) -> u64 {
+    (state as u64) << (version.width - u32::from(facts))
 }
 
 /// How often each state of so many facts is covered by the lines, which are
 /// sound.
-fn times_covered(facts: u8, lines: &[Line]) -> Vec<u32> {
+fn times_covered(version: &Version, facts: u8, lines: &[Line]) -> Vec<u32> {
     let covers = |line: &Line, state| {
-        let number = u128::from(number(facts, state));
+        let number = u128::from(number(version, facts, state));
         let begin = u128::from(line.value);
-        (begin..begin + VERSION_1.covered(line.k)).contains(&number)
+        (begin..begin + version.covered(line.k)).contains(&number)
     };
     (0..1 << facts)
         .map(|state| lines.iter().filter(|line| covers(line, state)).count() as u32)
@@ -81,9 +87,9 @@ fn times_covered(facts: u8, lines: &[Line]) -> Vec<u32> {
 
 /// A task of few facts, and lines that cover all its states: where the plan is
 /// wrong, some of them claim what is not so.
-fn covered_task(rng: &mut Rng) -> (Task, Vec<Line>) {
+fn covered_task(rng: &mut Rng, version: &Version) -> (Task, Vec<Line>) {
     loop {
-        let task = task(rng, &VERSION_1);
+        let task = task(rng, version);
         if task.problem.facts <= 5 {
             let lines = cover(&task);
             let lines = refined(rng, &task, &lines);
@@ -100,9 +106,9 @@ fn next_line_begins_at(end: usize, task: &Task, case: &Case, lines: &[Line]) {
         let next = Line {
             kind: 1,
             k,
-            value: number(k, state),
+            value: number(&task.problem.version, k, state),
         };
-        let list = encode::list(&VERSION_1, &[lines, &[next]].concat());
+        let list = encode::list(&task.problem.version, &[lines, &[next]].concat());
         let answer = raw::follow_list(&case.problem, &case.plan, &list).word;
         let elsewhere = answer[..3] == [0, 68, lines.len() as u64];
         assert_eq!(elsewhere, state != end, "{answer:?}");
@@ -112,12 +118,11 @@ fn next_line_begins_at(end: usize, task: &Task, case: &Case, lines: &[Line]) {
 /// Whatever the lines, and however many of them are without a fault: the states
 /// that these cover are those up to some end, each covered once, and that end is
 /// where the next line has to begin.
-#[test]
-fn the_next_line_begins_at_the_end_of_what_is_covered() {
+fn the_next_line_begins_at_the_end_of_what_is_covered(version: &Version) {
     let mut rng = Rng::new(0xc0e4);
     let (mut prefixes, mut full, mut faulty) = (0, 0, 0);
     for _ in 0..800 {
-        let (task, all) = covered_task(&mut rng);
+        let (task, all) = covered_task(&mut rng, version);
         let mut case = Case {
             problem: encode::problem(&task.problem),
             plan: encode::plan(&task.plan),
@@ -125,13 +130,13 @@ fn the_next_line_begins_at_the_end_of_what_is_covered() {
         };
         for count in 0..=all.len() {
             let lines = &all[..count];
-            case.list = encode::list(&VERSION_1, lines);
+            case.list = encode::list(version, lines);
             let answer = check(&Library, Operation::FollowList, &case).expect("as the oracle does");
             if answer[..2] == [0, 69] {
                 faulty += 1;
                 break;
             }
-            let times = times_covered(task.problem.facts, lines);
+            let times = times_covered(version, task.problem.facts, lines);
             let end = times.iter().filter(|times| **times > 0).count();
             assert!(times[..end].iter().all(|times| *times == 1));
             let passes = end == times.len();

@@ -3,6 +3,8 @@
 #[path = "cases/searched.rs"]
 mod searched;
 mod support;
+#[macro_use]
+mod versions;
 
 use std::collections::BTreeSet;
 
@@ -14,7 +16,7 @@ use conformance::harness::Operation::SearchPlans;
 use conformance::harness::{check, expect, Case};
 use conformance::model::Problem;
 use conformance::oracle::{plans, Search};
-use conformance::version::VERSION_1;
+use conformance::version::Version;
 use larkhammock::{raw, Verdict};
 use searched::Searched;
 use support::Library;
@@ -34,9 +36,16 @@ fn by_hand(row: &Searched, grant: u64) -> Vec<u64> {
     }
 }
 
-#[test]
-fn worked_out_by_hand() {
-    for row in searched::all() {
+of_each_version! {
+    worked_out_by_hand,
+    the_library_searches_as_the_oracle_does,
+    the_library_searches_as_it_judges,
+    only_the_grant_leaves_it_undecided,
+    a_longer_search_goes_on_where_a_shorter_ends,
+}
+
+fn worked_out_by_hand(version: &Version) {
+    for row in searched::all(version) {
         // It is shown where the test fails.
         println!("{}", row.name);
         let visits: u64 = row.walks.iter().map(|(_, visits)| visits).sum();
@@ -76,12 +85,12 @@ fn the_oracle_tries_each_plan_once_and_in_order() {
 }
 
 /// A problem of few facts and actions: at most 781 plans of 511 visits.
-fn small_problem(rng: &mut Rng, round: usize) -> Problem {
+fn small_problem(rng: &mut Rng, version: &Version, round: usize) -> Problem {
     loop {
         let problem = match round % 3 {
-            0 => right_task(rng, &VERSION_1).problem,
-            1 => task(rng, &VERSION_1).problem,
-            _ => ordered_problem(rng, &VERSION_1),
+            0 => right_task(rng, version).problem,
+            1 => task(rng, version).problem,
+            _ => ordered_problem(rng, version),
         };
         if problem.facts <= 8 && problem.actions.len() <= 5 {
             return problem;
@@ -104,14 +113,13 @@ fn of_every_kind() -> Met {
 
 /// The oracle's whole answer, for every length and for grants that end in every
 /// part of the search.
-#[test]
-fn the_library_searches_as_the_oracle_does() {
+fn the_library_searches_as_the_oracle_does(version: &Version) {
     const MOST: u64 = 2_000;
     let mut rng = Rng::new(0x5ea7);
     let mut kinds = Met::new();
     let mut searches = 0;
     for round in 0..400 {
-        let problem = encode::problem(&small_problem(&mut rng, round));
+        let problem = encode::problem(&small_problem(&mut rng, version, round));
         for longest in 0..=4 {
             let whole = raw::search_plans(&problem, longest, MOST).word[1];
             let mut grants = BTreeSet::from([0, 1, whole - 1, whole, whole + 1]);
@@ -169,6 +177,7 @@ fn by_judging(problem: &[u8], actions: usize, longest: usize, grant: u64) -> Ans
                 break Search::Undecided { plan, visits };
             }
             Verdict::Wrong { visits, .. } => used += visits,
+            other => panic!("{other:?}"),
         }
         plan = next(&plan, actions);
         if plan.len() > longest || actions == 0 {
@@ -179,12 +188,11 @@ fn by_judging(problem: &[u8], actions: usize, longest: usize, grant: u64) -> Ans
 }
 
 /// What the library says of all plans together is what it says of each alone.
-#[test]
-fn the_library_searches_as_it_judges() {
+fn the_library_searches_as_it_judges(version: &Version) {
     let mut rng = Rng::new(0x5ea8);
     let mut kinds = Met::new();
     for round in 0..600 {
-        let tree = small_problem(&mut rng, round);
+        let tree = small_problem(&mut rng, version, round);
         let actions = tree.actions.len();
         let problem = encode::problem(&tree);
         for longest in 0..=4 {
@@ -221,12 +229,11 @@ fn last_place(actions: u64, longest: u64) -> [u64; 5] {
 /// An answer that is not undecided is the same with every larger grant. With a
 /// smaller one it is undecided: a plan is named that comes no earlier where more is
 /// granted, and none after the right one.
-#[test]
-fn only_the_grant_leaves_it_undecided() {
+fn only_the_grant_leaves_it_undecided(version: &Version) {
     let mut rng = Rng::new(0x5ea9);
     let mut kinds = Met::new();
     for round in 0..600 {
-        let tree = small_problem(&mut rng, round);
+        let tree = small_problem(&mut rng, version, round);
         let problem = encode::problem(&tree);
         let longest = rng.below(5) as u64;
         let search = |grant| raw::search_plans(&problem, longest, grant).word;
@@ -261,12 +268,11 @@ fn only_the_grant_leaves_it_undecided() {
 
 /// A longer search begins as a shorter one: it finds what that finds, and goes on
 /// where that found none.
-#[test]
-fn a_longer_search_goes_on_where_a_shorter_ends() {
+fn a_longer_search_goes_on_where_a_shorter_ends(version: &Version) {
     let mut rng = Rng::new(0x5eaa);
     let (mut kept, mut later, mut never) = (0, 0, 0);
     for round in 0..600 {
-        let tree = small_problem(&mut rng, round);
+        let tree = small_problem(&mut rng, version, round);
         let problem = encode::problem(&tree);
         let search = |longest| raw::search_plans(&problem, longest, u64::MAX).word;
         for longest in 0..4 {

@@ -1,47 +1,44 @@
 //! The text that the desk program is held to: by hand, and from the library.
 
 mod cases;
+#[macro_use]
+mod versions;
 
 use std::collections::BTreeMap;
 use std::fs;
+use std::iter::repeat;
 use std::path::Path;
 use std::process::Command;
 
 use conformance::desk::{printed, GRANT};
 use conformance::examples;
 use conformance::trial;
-use conformance::version::VERSION_1;
+use conformance::version::Version;
 use larkhammock::{Lines, Outcome, Part, Refusal, Verdict, LONGEST_LIST};
 
 /// The text as a desk over the real library would print it.
 fn by_library(problem: &[u8], plan: &[u8]) -> Result<String, Refusal> {
-    let facts = larkhammock::read_problem(problem)?.facts as u8;
-    let bits = |state: u64, k: u8| -> String {
-        let values = VERSION_1.values(state, k).into_iter();
-        values.map(|value| if value { '1' } else { '0' }).collect()
-    };
+    let facts = larkhammock::read_problem(problem)?.facts as usize;
     Ok(match larkhammock::judge(problem, plan, GRANT)? {
         Verdict::Undecided { visits } => format!("undecided visited {visits}\n"),
         Verdict::Wrong {
             state,
             outcome,
             visits,
-        } => {
-            let state = bits(state, facts);
-            match outcome {
-                Outcome::Blocked { step, part } => {
-                    let part = match part {
-                        Part::Member(member) => format!("member {member}"),
-                        Part::Fact(fact) => format!("fact {fact}"),
-                    };
-                    format!("wrong {state} at step {step} {part} visited {visits}\n")
-                }
-                outcome => {
-                    assert_eq!(outcome, Outcome::Missed);
-                    format!("wrong {state} at end visited {visits}\n")
-                }
+        } => match outcome {
+            Outcome::Blocked { step, part } => {
+                let part = match part {
+                    Part::Member(member) => format!("member {member}"),
+                    Part::Fact(fact) => format!("fact {fact}"),
+                    other => panic!("{other:?}"),
+                };
+                format!("wrong {state} at step {step} {part} visited {visits}\n")
             }
-        }
+            outcome => {
+                assert_eq!(outcome, Outcome::Missed);
+                format!("wrong {state} at end visited {visits}\n")
+            }
+        },
         Verdict::Right { lines, visits } => {
             let mut text = format!("right lines {lines} visited {visits}\n");
             let mut out = vec![0; LONGEST_LIST];
@@ -57,14 +54,15 @@ fn by_library(problem: &[u8], plan: &[u8]) -> Result<String, Refusal> {
                         } else {
                             "carries "
                         };
-                        text += &bits(line.value, line.k);
-                        text += &"?".repeat(usize::from(facts - line.k));
+                        let marks = line.fixed().map(|value| if value { '1' } else { '0' });
+                        text.extend(marks.chain(repeat('?')).take(facts));
                         text += "\n";
                     }
                 }
             }
             text
         }
+        other => panic!("{other:?}"),
     })
 }
 
@@ -82,15 +80,27 @@ fn agrees(name: &str, problem: &[u8], plan: &[u8]) {
     assert!(text == library, "{name}: {text:.400}{library:.400}");
 }
 
-#[test]
-fn the_page_of_the_trial_problem() {
-    let text = printed(&trial::problem(), &trial::with_plan(&[0, 1]).plan);
+of_each_version! {
+    the_page_of_the_trial_problem,
+    each_case_says_what_it_should,
+    the_library_says_the_same,
+    each_refusal_of_a_problem_or_a_plan_is_there,
+}
+
+fn the_page_of_the_trial_problem(version: &Version) {
+    let text = printed(
+        &trial::problem(version),
+        &trial::with_plan(version, &[0, 1]).plan,
+    );
     assert_eq!(String::from_utf8_lossy(&text), trial::PRINT);
 }
 
-#[test]
-fn each_case_says_what_it_should() {
-    for case in cases::all() {
+fn each_case_says_what_it_should(version: &Version) {
+    let one_too_many = match version.byte {
+        1 => "8192",
+        _ => "6554",
+    };
+    for case in cases::all(version) {
         let text = String::from_utf8(printed(&case.problem, &case.plan)).expect("it is ASCII");
         let mut lines = text.lines();
         assert_eq!(lines.next(), Some(&case.says[..]), "{}", case.name);
@@ -98,27 +108,30 @@ fn each_case_says_what_it_should() {
         let stated = case.says.strip_prefix("right lines ");
         match stated.and_then(|rest| rest.split(' ').next()) {
             None => assert!(more.is_empty(), "{}", case.name),
-            Some("8192") => assert_eq!(more, ["list too long"], "{}", case.name),
+            Some(count) if count == one_too_many => {
+                assert_eq!(more, ["list too long"], "{}", case.name);
+            }
             Some(count) => assert_eq!(more.len().to_string(), count, "{}", case.name),
         }
     }
 }
 
-#[test]
-fn the_library_says_the_same() {
-    for case in cases::all() {
+fn the_library_says_the_same(version: &Version) {
+    for case in cases::all(version) {
         agrees(&case.name, &case.problem, &case.plan);
     }
     for example in examples::all() {
         for trial in example.trials {
-            agrees(example.folder, &trial.problem.1, &trial.plan.1);
+            let (problem, plan) = (&trial.problem.1, &trial.plan.1);
+            if problem[0] == version.byte {
+                agrees(example.folder, problem, plan);
+            }
         }
     }
 }
 
-#[test]
-fn each_refusal_of_a_problem_or_a_plan_is_there() {
-    let cases = cases::all();
+fn each_refusal_of_a_problem_or_a_plan_is_there(version: &Version) {
+    let cases = cases::all(version);
     let says = |start: &str| cases.iter().any(|case| case.says.starts_with(start));
     for number in 10..=25 {
         assert!(says(&format!("refused problem {number} at ")), "{number}");

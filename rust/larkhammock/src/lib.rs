@@ -10,7 +10,8 @@
 //! where nobody has a plan it [tries](search_plans) every short one.
 //!
 //! Problems, plans and lists are blocks of bytes. Any bytes may be handed in:
-//! what is not sound is turned down with a [`Refusal`].
+//! what is not sound is turned down with a [`Refusal`]. A problem is of one of two
+//! [versions](Version), and so are its lists.
 //!
 //! ```
 //! use larkhammock::{example, judge, Outcome, Verdict};
@@ -22,9 +23,11 @@
 //! // Action 0 alone does not, if fact 1 was the true one.
 //! let short = [1, 0, 0, 0, 1, 0];
 //! let verdict = judge(example::PROBLEM, &short, u64::MAX)?;
-//! let state = 0b010 << 45;
-//! let outcome = Outcome::Missed;
-//! assert_eq!(verdict, Verdict::Wrong { state, outcome, visits: 5 });
+//! let Verdict::Wrong { state, outcome, visits } = verdict else {
+//!     panic!("it is wrong");
+//! };
+//! assert!(!state.get(0) && state.get(1) && !state.get(2));
+//! assert_eq!((outcome, visits), (Outcome::Missed, 5));
 //! # Ok::<(), larkhammock::Refusal>(())
 //! ```
 //!
@@ -41,19 +44,24 @@ pub mod raw;
 mod refusal;
 mod relevance;
 mod search;
+mod state;
+mod version;
 
 pub use lines::{Line, Lines};
 pub use refusal::Refusal;
-pub use relevance::{FactSet, ReachedRun, States};
+pub use relevance::{ReachedRun, States};
 pub use search::{Search, ShortPlan};
+pub use state::{FactSet, State};
+pub use version::Version;
 
-/// The length of the longest list block, in bytes: a buffer of this length
-/// holds what [`write_list`] writes for any plan.
-pub const LONGEST_LIST: usize = 65_533;
+/// The bytes of the longest list of any version: a buffer of this length holds what
+/// [`write_list`] writes for any plan. [`Version::longest_list`] has those of one.
+pub const LONGEST_LIST: usize = Version::V2.longest_list();
 
-/// The bytes of the longest run's states, those of 256 steps and 48 facts: a
-/// work area of this length is enough for [`relevant_facts`] of any run.
-pub const LONGEST_WORK: usize = (256 + 1) * 48;
+/// The bytes of the longest run's states of any version: a work area of this length
+/// is enough for [`relevant_facts`] of any run. [`Version::longest_work`] has those
+/// of one.
+pub const LONGEST_WORK: usize = Version::V2.longest_work();
 
 /// The most steps of a plan that [`search_plans`] tries.
 pub const LONGEST_SEARCHED: u64 = 4;
@@ -69,14 +77,32 @@ struct Readme;
 /// What a problem declares.
 #[derive(Clone, Copy, Debug, PartialEq, Eq, Hash)]
 pub struct Counts {
-    /// The number of facts, 1 to 48.
+    /// The version of the problem and of its lists.
+    pub version: Version,
+    /// The number of facts, 1 to [`Version::most_facts`].
     pub facts: u64,
     /// The number of actions, 0 to 64.
     pub actions: u64,
 }
 
+impl Counts {
+    /// The problem's state in which no fact is true.
+    ///
+    /// ```
+    /// use larkhammock::{example, read_problem};
+    ///
+    /// let state = read_problem(example::PROBLEM)?.state();
+    /// assert_eq!(state.to_string(), "000");
+    /// # Ok::<(), larkhammock::Refusal>(())
+    /// ```
+    pub const fn state(self) -> State {
+        State::new(self.version, self.facts)
+    }
+}
+
 /// How a run from one state ends.
 #[derive(Clone, Copy, Debug, PartialEq, Eq, Hash)]
+#[non_exhaustive]
 pub enum Outcome {
     /// Every step was applicable and the goal is true at the end.
     Reached,
@@ -95,7 +121,7 @@ pub enum Outcome {
 /// The part of an action that blocks a step. An unmet precondition comes first.
 ///
 /// ```
-/// use larkhammock::{run, Outcome, Part};
+/// use larkhammock::{read_problem, run, Outcome, Part};
 ///
 /// let problem = [
 ///     1, 0, 0, 0, 23, // version, length
@@ -105,11 +131,14 @@ pub enum Outcome {
 ///     0, 0, 2, 0x80, 0, // that it always sets 0
 ///     64, 0, 2, 0x80, 0, // and always clears 0
 /// ];
+/// let start = read_problem(&problem)?.state();
 /// let part = Part::Fact(0);
 /// let blocked = Outcome::Blocked { step: 0, part };
-/// assert_eq!(run(&problem, &[1, 0, 0, 0, 1, 0], 0), Ok(blocked));
+/// assert_eq!(run(&problem, &[1, 0, 0, 0, 1, 0], start), Ok(blocked));
+/// # Ok::<(), larkhammock::Refusal>(())
 /// ```
 #[derive(Clone, Copy, Debug, PartialEq, Eq, Hash)]
+#[non_exhaustive]
 pub enum Part {
     /// The precondition is not true. Where it is an "all", the first of its
     /// members, from 0, that is false in the state before the step. Otherwise 0.
@@ -121,6 +150,7 @@ pub enum Part {
 
 /// What the judge says of a plan.
 #[derive(Clone, Copy, Debug, PartialEq, Eq, Hash)]
+#[non_exhaustive]
 pub enum Verdict {
     /// The run of every start state is reached.
     Right {
@@ -131,8 +161,9 @@ pub enum Verdict {
     },
     /// There is a counterexample.
     Wrong {
-        /// The lowest start state whose run is not reached.
-        state: u64,
+        /// The lowest start state whose run is not reached: the first one, where
+        /// they are in order by fact 0, then by fact 1, and so on, false first.
+        state: State,
         /// How its run ends.
         outcome: Outcome,
         /// The cases looked at.
@@ -148,13 +179,16 @@ pub enum Verdict {
 /// Reads a problem.
 ///
 /// ```
-/// use larkhammock::{example, read_problem, Counts};
+/// use larkhammock::{example, read_problem, Counts, Version};
 ///
-/// assert_eq!(read_problem(example::PROBLEM), Ok(Counts { facts: 3, actions: 2 }));
+/// let version = Version::V1;
+/// let counts = Counts { version, facts: 3, actions: 2 };
+/// assert_eq!(read_problem(example::PROBLEM), Ok(counts));
 /// ```
 pub fn read_problem(problem: &[u8]) -> Result<Counts, Refusal> {
     let word = accepted(raw::read_problem(problem))?;
     Ok(Counts {
+        version: Version::of_block(problem).unwrap_or_else(|| broken(&word)),
         facts: word[1],
         actions: word[2],
     })
@@ -175,18 +209,42 @@ pub fn read_plan(problem: &[u8], plan: &[u8]) -> Result<u64, Refusal> {
     Ok(word[1])
 }
 
-/// Runs a plan from one state, which need not be a start state. Fact 0 is bit
-/// 47 of the state, fact 1 bit 46, and so on.
+/// Runs a plan from one state, which need not be a start state. A state of another
+/// version than the problem's, or of another number of facts, is refused with 40.
 ///
 /// ```
-/// use larkhammock::{example, run, Outcome};
+/// use larkhammock::{example, run, Outcome, State, Version};
 ///
-/// assert_eq!(run(example::PROBLEM, example::PLAN, 0b011 << 45), Ok(Outcome::Reached));
-/// assert_eq!(run(example::PROBLEM, example::PLAN, 0), Ok(Outcome::Missed));
+/// let state = State::of_values(Version::V1, &[false, true, true]);
+/// assert_eq!(run(example::PROBLEM, example::PLAN, state), Ok(Outcome::Reached));
+/// let state = State::new(Version::V1, 3);
+/// assert_eq!(run(example::PROBLEM, example::PLAN, state), Ok(Outcome::Missed));
+///
+/// for state in [State::new(Version::V1, 4), State::new(Version::V2, 3)] {
+///     let refusal = run(example::PROBLEM, example::PLAN, state).unwrap_err();
+///     assert_eq!(refusal.number, 40);
+/// }
 /// ```
-pub fn run(problem: &[u8], plan: &[u8], state: u64) -> Result<Outcome, Refusal> {
-    let word = decided(raw::run(problem, plan, state))?;
+pub fn run(problem: &[u8], plan: &[u8], state: State) -> Result<Outcome, Refusal> {
+    let number = number_in(problem, plan, state)?;
+    let word = decided(raw::run(problem, plan, number))?;
     Ok(outcome(&word, 0))
+}
+
+/// The number of a state that is one of the problem's. Where it is none, faults of
+/// the two blocks come first.
+fn number_in(problem: &[u8], plan: &[u8], state: State) -> Result<u64, Refusal> {
+    if state.is_of(problem) {
+        return Ok(state.number());
+    }
+    read_plan(problem, plan)?;
+    Err(Refusal::NO_STATE)
+}
+
+/// The state that a sound problem has by this number.
+fn state_of(problem: &[u8], number: u64) -> Option<State> {
+    let version = Version::of_block(problem)?;
+    State::of_number(version, u64::from(*problem.get(5)?), number)
 }
 
 /// Judges a plan, looking at no more cases than granted.
@@ -206,7 +264,7 @@ pub fn judge(problem: &[u8], plan: &[u8], grant: u64) -> Result<Verdict, Refusal
             visits,
         },
         2 => Verdict::Wrong {
-            state: word[2],
+            state: state_of(problem, word[2]).unwrap_or_else(|| broken(&word)),
             outcome: outcome(&word, 3),
             visits,
         },
@@ -269,35 +327,42 @@ pub fn follow_list(problem: &[u8], plan: &[u8], list: &[u8]) -> Result<u64, Refu
 /// refused.
 ///
 /// ```
-/// use larkhammock::{example, relevant_facts, run, Outcome, LONGEST_WORK};
+/// use larkhammock::{example, read_problem, relevant_facts, run, Outcome, LONGEST_WORK};
 ///
 /// let (problem, plan) = (example::PROBLEM, example::PLAN);
+/// let nothing = read_problem(problem)?.state();
+/// let mut start = nothing;
+/// start.set(1, true);
+/// start.set(2, true);
 /// let mut work = [0; LONGEST_WORK];
-/// let reached = relevant_facts(problem, plan, 0b011 << 45, &mut work)?;
+/// let reached = relevant_facts(problem, plan, start, &mut work)?;
 /// assert!(reached.states.eq([[0, 1, 1]; 3]));
 ///
 /// // Action 1 sets fact 2 if fact 1 is true, and it was: nothing else matters.
 /// assert!(reached.facts.iter().eq([1]));
-/// for state in [0b010, 0b110, 0b111] {
-///     assert_eq!(run(problem, plan, state << 45), Ok(Outcome::Reached));
+/// for fact in [0, 2] {
+///     let mut other = start;
+///     other.set(fact, !start.get(fact));
+///     assert_eq!(run(problem, plan, other), Ok(Outcome::Reached));
 /// }
 ///
-/// let refusal = relevant_facts(problem, plan, 0, &mut work).unwrap_err();
+/// let refusal = relevant_facts(problem, plan, nothing, &mut work).unwrap_err();
 /// assert_eq!(refusal.to_string(), "refused 41 at 0: the run does not reach the goal");
 /// # Ok::<(), larkhammock::Refusal>(())
 /// ```
 pub fn relevant_facts<'a>(
     problem: &[u8],
     plan: &[u8],
-    state: u64,
+    state: State,
     work: &'a mut [u8],
 ) -> Result<ReachedRun<'a>, Refusal> {
-    let word = accepted(raw::relevant_facts(problem, plan, state, work))?;
-    // Both blocks are sound: the fact count is the first byte of the problem's
-    // body, and the plan's body has a byte a step.
-    let (facts, steps) = (usize::from(problem[5]), plan.len() - 5);
+    let number = number_in(problem, plan, state)?;
+    let word = accepted(raw::relevant_facts(problem, plan, number, work))?;
+    let members = state_of(problem, word[1]).unwrap_or_else(|| broken(&word));
+    // The plan is sound: its body has a byte a step.
+    let (facts, steps) = (state.facts() as usize, plan.len() - 5);
     Ok(ReachedRun {
-        facts: FactSet::of_number(word[1]),
+        facts: FactSet::of_state(members),
         states: States::new(&work[..(steps + 1) * facts], facts),
     })
 }

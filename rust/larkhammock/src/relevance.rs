@@ -2,53 +2,17 @@
 
 use std::slice::ChunksExact;
 
-/// A set of facts.
-///
-/// ```
-/// use larkhammock::{example, relevant_facts, LONGEST_WORK};
-///
-/// let mut work = [0; LONGEST_WORK];
-/// let run = relevant_facts(example::PROBLEM, example::PLAN, 0b100 << 45, &mut work)?;
-/// assert_eq!(run.facts.number(), 0b110 << 45);
-/// assert!(run.facts.contains(1) && !run.facts.contains(2));
-/// assert!(run.facts.iter().eq([0, 1]));
-/// # Ok::<(), larkhammock::Refusal>(())
-/// ```
-#[derive(Clone, Copy, Debug, PartialEq, Eq, Hash)]
-pub struct FactSet(u64);
-
-impl FactSet {
-    /// The facts that are true in the state of this number.
-    pub(crate) fn of_number(number: u64) -> FactSet {
-        FactSet(number)
-    }
-
-    /// The number of the state in which exactly these facts are true: fact 0 is
-    /// bit 47, fact 1 bit 46, and so on. Two states agree on the set where these
-    /// bits of them are the same.
-    pub fn number(self) -> u64 {
-        self.0
-    }
-
-    /// Whether the set has this fact.
-    pub fn contains(self, fact: u64) -> bool {
-        fact < 48 && self.0 >> (47 - fact) & 1 == 1
-    }
-
-    /// Its facts, the lowest first.
-    pub fn iter(self) -> impl Iterator<Item = u64> {
-        (0..48).filter(move |fact| self.contains(*fact))
-    }
-}
+use crate::FactSet;
 
 /// An iterator over the states of a run, the start state first. A state has one
 /// byte for each fact, 1 where it is true and 0 where it is not.
 ///
 /// ```
-/// use larkhammock::{example, relevant_facts, LONGEST_WORK};
+/// use larkhammock::{example, relevant_facts, State, Version};
 ///
-/// let mut work = [0; LONGEST_WORK];
-/// let run = relevant_facts(example::PROBLEM, example::PLAN, 0b010 << 45, &mut work)?;
+/// let mut work = [0; Version::V1.longest_work()];
+/// let start = State::of_values(Version::V1, &[false, true, false]);
+/// let run = relevant_facts(example::PROBLEM, example::PLAN, start, &mut work)?;
 /// let states: Vec<&[u8]> = run.states.collect();
 /// assert_eq!(states, [[0, 1, 0], [0, 1, 0], [0, 1, 1]]);
 /// # Ok::<(), larkhammock::Refusal>(())

@@ -73,6 +73,7 @@ impl fmt::Display for ShortPlan {
 /// assert_eq!(said(2, 20).as_deref(), Ok("undecided 0 0 visited 20"));
 /// ```
 #[derive(Clone, Copy, Debug, PartialEq, Eq, Hash)]
+#[non_exhaustive]
 pub enum Search {
     /// A plan is right.
     Found {

@@ -1,6 +1,7 @@
 //! Problems with plans that can be tried at the desk, and the files they fill.
 
 mod grid;
+mod large_store;
 mod small_store;
 mod sorting;
 mod store;
@@ -10,8 +11,7 @@ use std::collections::BTreeMap;
 
 use crate::desk;
 use crate::encode;
-use crate::oracle::{self, Facts, Search};
-use crate::version::VERSION_1;
+use crate::oracle::{self, Facts, Search, Task};
 
 /// One problem or a few, with what they are about.
 pub struct Example {
@@ -111,8 +111,8 @@ impl Trial {
     /// The facts that the run from a state rests on.
     pub fn relevant_facts(&self, state: u64) -> Facts {
         let (problem, plan) = (&self.problem.1, &self.plan.1);
-        let work = VERSION_1.most_work_bytes();
-        let run = oracle::relevant_facts(problem, plan, state, work);
+        let task = Task::parse(problem, plan).expect("both are sound");
+        let run = oracle::relevant_facts(problem, plan, state, task.work_bytes());
         run.expect("the run reaches the goal").facts
     }
 }
@@ -122,6 +122,7 @@ pub fn all() -> Vec<Example> {
         trial::example(),
         store::example(),
         small_store::example(),
+        large_store::example(),
         sorting::example(),
         grid::example(),
     ]
@@ -153,6 +154,8 @@ Problems and plans for the desk program, `./larkhammock PROBLEM PLAN`:
 - [trial](trial/README.md): the smallest problem that needs two steps
 - [store](store/README.md): carriages brought home after a stoppage
 - [small-store](small-store/README.md): two of them, and a search for the plan
+- [large-store](large-store/README.md): nineteen of them, with 57 facts: a problem
+  of version 2
 - [sorting](sorting/README.md): a sorting network of 8 channels
 - [grid](grid/README.md): a robot that does not know where it is
 

@@ -5,9 +5,10 @@ use crate::encode;
 use crate::model::{Effect, Formula};
 use crate::oracle;
 use crate::trial;
+use crate::version::VERSION_1;
 
 pub fn example() -> Example {
-    let problem = trial::problem();
+    let problem = trial::problem(&VERSION_1);
     let mut guarded = oracle::read_problem(&problem).expect("P is sound");
     let mut stalling = guarded.clone();
     guarded.actions[0].precondition = Formula::fact(0);

@@ -1,9 +1,8 @@
 //! Bombs in the toilet: any of the packages may hold one. Dunking disarms a
 //! package and clogs the toilet, and flushing clears it.
 
-use super::action;
+use super::{action, version_for};
 use crate::model::{Action, Effect, Formula, Problem};
-use crate::version::VERSION_1;
 
 /// Fact i: package i holds a bomb. The last fact: the toilet is clogged.
 pub fn problem(packages: u8) -> Problem {
@@ -18,7 +17,7 @@ pub fn problem(packages: u8) -> Problem {
     let mut actions: Vec<Action> = (0..packages).map(dunk).collect();
     actions.push(action(vec![Effect::clears(clogged, Formula::always())]));
     Problem {
-        version: VERSION_1,
+        version: version_for(packages + 1),
         facts: packages + 1,
         initial: Formula::any((0..packages).map(Formula::fact)),
         goal: Formula::all((0..packages).map(Formula::not)),

@@ -1,9 +1,8 @@
 //! A robot on a square grid that does not know where it is. It must end in the
 //! centre.
 
-use super::{action, exactly_one, shift, shift_back, times};
+use super::{action, exactly_one, shift, shift_back, times, version_for};
 use crate::model::{Formula, Problem};
-use crate::version::VERSION_1;
 
 const NORTH: u8 = 0;
 const SOUTH: u8 = 1;
@@ -17,7 +16,7 @@ pub fn problem(side: u8) -> Problem {
     let mut somewhere = exactly_one(&rows);
     somewhere.extend(exactly_one(&columns));
     Problem {
-        version: VERSION_1,
+        version: version_for(2 * side),
         facts: 2 * side,
         initial: Formula::all(somewhere),
         goal: Formula::all([Formula::fact(side / 2), Formula::fact(side + side / 2)]),

@@ -8,7 +8,7 @@ pub mod store;
 
 use crate::encode;
 use crate::model::{Action, Effect, Formula, Problem};
-use crate::version::Version;
+use crate::version::{Version, VERSIONS};
 
 /// No action, and nothing to reach: every case carries the empty plan.
 pub fn idle(version: Version, facts: u8) -> Problem {
@@ -19,6 +19,40 @@ pub fn idle(version: Version, facts: u8) -> Problem {
         goal: Formula::always(),
         actions: Vec::new(),
     }
+}
+
+/// Nothing to do, and a goal that is true in every state. But a case is seen to carry
+/// only when it fixes all facts, or lies in one of a few wider cases: those are so
+/// chosen that the list of the empty plan has this many lines, at most one for each
+/// state.
+pub fn of_lines(version: Version, facts: u8, lines: u32) -> Problem {
+    let mut spared = (1 << facts) - lines;
+    let mut first = 0;
+    let mut members = vec![Formula::all((0..facts).map(Formula::either))];
+    for open in (1..=facts).rev() {
+        // So many states in one line.
+        let states = 1 << open;
+        while spared >= states - 1 {
+            spared -= states - 1;
+            let literal = |fact| match first >> (facts - 1 - fact) & 1 {
+                0 => Formula::not(fact),
+                _ => Formula::fact(fact),
+            };
+            members.push(Formula::all((0..facts - open).map(literal)));
+            first += states;
+        }
+    }
+    Problem {
+        goal: Formula::any(members),
+        ..idle(version, facts)
+    }
+}
+
+/// The first version in which a problem can have so many facts.
+fn version_for(facts: u8) -> Version {
+    let mut versions = VERSIONS.into_iter();
+    let version = versions.find(|version| facts <= version.most_facts);
+    version.expect("some version has so many facts")
 }
 
 /// An action that is always applicable. Its effects may come in any order.

@@ -1,9 +1,8 @@
 //! A sorting network. A network that sorts every row of bits sorts every row of
 //! numbers, so the facts are bits.
 
-use super::action;
+use super::{action, version_for};
 use crate::model::{Action, Effect, Formula, Problem};
-use crate::version::VERSION_1;
 
 /// Batcher's odd-even merge sort, each comparator as its two channels.
 pub fn comparators(channels: u8) -> Vec<(u8, u8)> {
@@ -37,7 +36,7 @@ fn comparator((upper, lower): (u8, u8)) -> Action {
 pub fn problem(channels: u8) -> Problem {
     let in_order = |i: u8| Formula::any([Formula::not(i), Formula::fact(i + 1)]);
     Problem {
-        version: VERSION_1,
+        version: version_for(channels),
         facts: channels,
         initial: Formula::always(),
         goal: Formula::all((0..channels - 1).map(in_order)),

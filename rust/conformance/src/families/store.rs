@@ -2,9 +2,8 @@
 //! knows in which, and nobody knows which carriages are loaded. Carriage c must
 //! end in its home, aisle c, and past the last aisle from aisle 0 on again.
 
-use super::{action, exactly_one, shift, shift_back, times};
+use super::{action, exactly_one, shift, shift_back, times, version_for};
 use crate::model::{Action, Effect, Formula, Problem};
-use crate::version::VERSION_1;
 
 #[derive(Clone, Copy)]
 pub struct Store {
@@ -52,9 +51,14 @@ impl Store {
         action(vec![Effect::clears(self.load(carriage), Formula::always())])
     }
 
+    /// The fact "carriage c is in its home".
+    fn at_home(self, carriage: u8) -> u8 {
+        self.places(carriage)[usize::from(self.home(carriage))]
+    }
+
     /// The carriage is in its home and nowhere else.
     fn is_home(self, carriage: u8) -> Vec<Formula> {
-        let home = self.places(carriage)[usize::from(self.home(carriage))];
+        let home = self.at_home(carriage);
         let place = |fact| {
             if fact == home {
                 Formula::fact(fact)
@@ -71,12 +75,29 @@ impl Store {
         actions.extend(each().map(|c| self.moves(c, shift_back(&self.places(c)))));
         actions.extend(each().map(|c| self.moves(c, shift(&self.places(c)))));
         actions.extend(each().map(|c| self.unloads(c)));
+        let facts = self.carriages * (self.aisles + 1);
         Problem {
-            version: VERSION_1,
-            facts: self.carriages * (self.aisles + 1),
+            version: version_for(facts),
+            facts,
             initial: Formula::all(each().flat_map(|c| exactly_one(&self.places(c)))),
             goal: Formula::all(each().flat_map(|c| self.is_home(c))),
             actions,
+        }
+    }
+
+    /// The same store when at most one carriage is out of its home. Nobody knows
+    /// which, nor where that one is.
+    pub fn problem_with_one_away(self) -> Problem {
+        let each = || 0..self.carriages;
+        let at_home = |c| Formula::fact(self.at_home(c));
+        let mut start: Vec<Formula> = each().flat_map(|c| exactly_one(&self.places(c))).collect();
+        for one in each() {
+            let others = one + 1..self.carriages;
+            start.extend(others.map(|other| Formula::any([at_home(one), at_home(other)])));
+        }
+        Problem {
+            initial: Formula::all(start),
+            ..self.problem()
         }
     }
 

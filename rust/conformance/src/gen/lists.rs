@@ -156,6 +156,18 @@ pub fn even_cover(version: &Version, lines: usize) -> Vec<Line> {
     below(version, lines, whole(1))
 }
 
+/// Lines that say in the other version what these say in this one, as far as it
+/// has the facts.
+pub fn in_other_version(version: &Version, lines: &[Line]) -> Vec<Line> {
+    let other = version.other();
+    let facts = version.most_facts.min(other.most_facts);
+    let line = |line: &Line| Line {
+        value: other.number(&version.values(line.value, facts)),
+        ..*line
+    };
+    lines.iter().map(line).collect()
+}
+
 /// One line for all states.
 fn whole(kind: u8) -> Line {
     Line {

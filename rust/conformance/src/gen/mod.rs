@@ -1,4 +1,5 @@
-//! Problems, plans and lists from a fixed seed: sound, damaged and arbitrary.
+//! Problems, plans and lists of each version from a fixed seed: sound, damaged and
+//! arbitrary.
 
 mod damage;
 mod formulas;
@@ -8,12 +9,13 @@ mod rng;
 
 use crate::encode;
 use crate::harness::Case;
+use crate::model::Line;
 use crate::oracle::{search_plans, walk, End, Search, Task};
 use crate::version::{Version, MOST_PLAN_BYTES, MOST_PROBLEM_BYTES, PLAN_VERSION};
 
 use damage::{arbitrary, damaged, scribbled, unsound};
 pub use formulas::formula_of_size;
-pub use lists::{altered, cover, even_cover, every_cover, refined, Alteration};
+pub use lists::{altered, cover, even_cover, every_cover, in_other_version, refined, Alteration};
 use problems::wide_task;
 pub use problems::{ordered_problem, right_task, task};
 pub use rng::Rng;
@@ -112,12 +114,20 @@ fn case_of(rng: &mut Rng, task: &Task) -> Case {
     let mut case = Case {
         problem: encode::problem(&task.problem),
         plan: encode::plan(&task.plan),
-        list: encode::list(version, &lines),
+        list: list_beside(rng, version, &lines),
         state: version.number(&values) | stray,
         ..Case::default()
     };
     settle(rng, &mut case, PATIENCE);
     case
+}
+
+/// The list of these lines, now and then of another version than its problem.
+fn list_beside(rng: &mut Rng, version: &Version, lines: &[Line]) -> Vec<u8> {
+    match rng.below(12) {
+        0 => encode::list(&version.other(), &in_other_version(version, lines)),
+        _ => encode::list(version, lines),
+    }
 }
 
 /// Chooses a grant and buffers that suit the blocks: near the edges, and never

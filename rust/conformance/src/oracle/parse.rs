@@ -8,7 +8,9 @@ use crate::version::{
 };
 
 pub fn problem(block: &[u8]) -> Result<Problem, Refusal> {
-    let (version, _) = header(block, MOST_PROBLEM_BYTES, 10, &VERSIONS)?;
+    let header = Header::read(block, MOST_PROBLEM_BYTES, 10, &VERSIONS)?;
+    header.body(13)?;
+    let version = header.version;
     let mut reader = Reader {
         block,
         at: HEADER,
@@ -42,7 +44,8 @@ pub fn problem(block: &[u8]) -> Result<Problem, Refusal> {
 }
 
 pub fn plan(block: &[u8], problem: &Problem) -> Result<Vec<u8>, Refusal> {
-    let (_, steps) = header(block, MOST_PLAN_BYTES, 30, &[PLAN_VERSION])?;
+    let header = Header::read(block, MOST_PLAN_BYTES, 30, &[PLAN_VERSION])?;
+    let steps = header.body(33)?;
     let strange = |step: &u8| usize::from(*step) >= problem.actions.len();
     match steps.iter().position(strange) {
         Some(step) => Refusal::at(34, HEADER + step),
@@ -50,8 +53,13 @@ pub fn plan(block: &[u8], problem: &Problem) -> Result<Vec<u8>, Refusal> {
     }
 }
 
+/// The lines of a list, whose version must be this one, its problem's.
 pub fn list(block: &[u8], version: &Version) -> Result<Vec<Line>, Refusal> {
-    let (_, body) = header(block, version.most_bytes(), 60, &[*version])?;
+    let header = Header::read(block, version.most_bytes(), 60, &VERSIONS)?;
+    if header.version != *version {
+        return Refusal::at(71, 0);
+    }
+    let body = header.body(63)?;
     if body.len() % version.line_bytes != 0 {
         return Refusal::at(64, block.len());
     }
@@ -71,28 +79,46 @@ fn big_endian(bytes: &[u8]) -> u64 {
     u64::from_be_bytes(word)
 }
 
-/// The version of a block, which must be one of these, and its body. The four
-/// faults of a header are numbered in a row.
-fn header<'a>(
-    block: &'a [u8],
-    longest: usize,
-    first: u64,
-    versions: &[Version],
-) -> Result<(Version, &'a [u8]), Refusal> {
-    if block.len() > longest {
-        return Refusal::at(first, longest);
+/// A block's five bytes, and all that follows them.
+struct Header<'a> {
+    version: Version,
+    length: u32,
+    rest: &'a [u8],
+}
+
+impl<'a> Header<'a> {
+    /// The version must be one of these. The three faults up to it are numbered
+    /// in a row.
+    fn read(
+        block: &'a [u8],
+        longest: usize,
+        first: u64,
+        versions: &[Version],
+    ) -> Result<Header<'a>, Refusal> {
+        if block.len() > longest {
+            return Refusal::at(first, longest);
+        }
+        let Some((head, rest)) = block.split_first_chunk::<HEADER>() else {
+            return Refusal::at(first + 1, block.len());
+        };
+        let [byte, length @ ..] = *head;
+        let Some(version) = versions.iter().find(|version| version.byte == byte) else {
+            return Refusal::at(first + 2, 0);
+        };
+        Ok(Header {
+            version: *version,
+            length: u32::from_be_bytes(length),
+            rest,
+        })
     }
-    let Some((head, body)) = block.split_first_chunk::<HEADER>() else {
-        return Refusal::at(first + 1, block.len());
-    };
-    let [byte, length @ ..] = *head;
-    let Some(version) = versions.iter().find(|version| version.byte == byte) else {
-        return Refusal::at(first + 2, 0);
-    };
-    if u32::from_be_bytes(length) as usize != body.len() {
-        return Refusal::at(first + 3, 1);
+
+    /// What follows, if the length field says as much.
+    fn body(&self, number: u64) -> Result<&'a [u8], Refusal> {
+        if self.length as usize != self.rest.len() {
+            return Refusal::at(number, 1);
+        }
+        Ok(self.rest)
     }
-    Ok((*version, body))
 }
 
 struct Reader<'a> {

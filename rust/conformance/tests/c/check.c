@@ -2,14 +2,14 @@
 #include "small.h"
 
 static const uint8_t guarded[] = {
-    1, 0, 0, 0, 0x22, 3, 2,
+    VERSION, 0, 0, 0, 0x22, 3, 2,
     0, 7, 0x80, 2, 0x81, 2, 0, 1, 0x42,
     0, 1, 2,
     0, 4, 0x80, 2, 2, 0, 1, 2, 0, 1, 0,           /* action 0: all of 2, 0 */
     0, 2, 0x80, 0, 1, 2, 0, 1, 1,
 };
 static const uint8_t stalling[] = {
-    1, 0, 0, 0, 0x26, 3, 2,
+    VERSION, 0, 0, 0, 0x26, 3, 2,
     0, 7, 0x80, 2, 0x81, 2, 0, 1, 0x42,
     0, 1, 2,
     0, 2, 0x80, 0, 2,                             /* action 0: */
@@ -22,8 +22,7 @@ static const uint8_t strange[] = {1, 0, 0, 0, 2, 0, 2};
 
 int main(void)
 {
-    const uint64_t s010 = (uint64_t)2 << 45, s011 = (uint64_t)3 << 45;
-    const uint64_t s100 = (uint64_t)4 << 45;
+    const uint64_t s010 = STATE(2), s011 = STATE(3), s100 = STATE(4);
     const uint64_t plenty = UINT64_MAX;
     const uint64_t wrong_blocked[8] = {2, 5, s010, 3, 1, 0, 1, 0};
     const uint64_t wrong_stalled[8] = {2, 5, s010, 3, 1, 1, 2, 0};
@@ -66,7 +65,8 @@ int main(void)
     memset(kept, 0xee, sizeof kept);
     memset(out, 0xee, sizeof out);
     is("write_list, short",
-       larkhammock_write_list(SLICE(problem), SLICE(both), plenty, out, 28),
+       larkhammock_write_list(SLICE(problem), SLICE(both), plenty, out,
+                              sizeof list - 1),
        0, 53, 3, 0);
     holds("write_list, short", SLICE(out), kept);
     is("write_list",
@@ -81,6 +81,9 @@ int main(void)
     is("follow_list, one plan",
        larkhammock_follow_list(SLICE(problem), SLICE(one), SLICE(list)),
        0, 69, 1, 0);
+    is("follow_list, other version",
+       larkhammock_follow_list(SLICE(problem), SLICE(both), SLICE(other_list)),
+       0, 71, 0, 0);
     is("follow_list, cut",
        larkhammock_follow_list(SLICE(problem), SLICE(both), out, 21),
        0, 63, 1, 0);

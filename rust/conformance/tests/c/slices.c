@@ -91,7 +91,7 @@ static void starts(const char *call, struct room room, size_t len,
 }
 
 static const uint64_t plenty = UINT64_MAX;
-static const uint64_t s010 = (uint64_t)2 << 45;
+static const uint64_t s010 = STATE(2);
 
 /* A problem that is cut to so few bytes that it has no whole header: every
    function refuses it. */

@@ -1,5 +1,5 @@
-/* The library's small example, and how an answer is compared: for the programs
-   of this folder, each of which includes it once. */
+/* The library's small example in the version that VERSION names, and how an answer
+   is compared: for the programs of this folder, each of which includes it once. */
 #ifndef SMALL_H
 #define SMALL_H
 
@@ -8,20 +8,43 @@
 
 #include "larkhammock.h"
 
+#ifndef VERSION
+#define VERSION 1
+#endif
+
 static const uint8_t problem[] = {
-    1, 0, 0, 0, 0x20, 3, 2,                       /* 3 facts, 2 actions */
+    VERSION, 0, 0, 0, 0x20, 3, 2,                      /* 3 facts, 2 actions */
     0, 7, 0x80, 2, 0x81, 2, 0, 1, 0x42,           /* initial */
     0, 1, 2,                                      /* goal */
     0, 2, 0x80, 0, 1, 2, 0, 1, 0,                 /* action 0 */
     0, 2, 0x80, 0, 1, 2, 0, 1, 1,                 /* action 1 */
 };
 static const uint8_t both[] = {1, 0, 0, 0, 2, 0, 1};
-static const uint8_t list[] = {
+static const uint8_t list_1[] = {
     1, 0, 0, 0, 0x18,
     0, 2, 0, 0, 0, 0, 0, 0,
     1, 2, 0x40, 0, 0, 0, 0, 0,
     1, 1, 0x80, 0, 0, 0, 0, 0,
 };
+static const uint8_t list_2[] = {
+    2, 0, 0, 0, 0x1e,
+    0, 2, 0, 0, 0, 0, 0, 0, 0, 0,
+    1, 2, 0x40, 0, 0, 0, 0, 0, 0, 0,
+    1, 1, 0x80, 0, 0, 0, 0, 0, 0, 0,
+};
+#if VERSION == 1
+#define list list_1
+#define other_list list_2
+#define STATE_BITS 48
+#else
+#define list list_2
+#define other_list list_1
+#define STATE_BITS 64
+#endif
+
+/* The state of P whose three facts are these bits. */
+#define STATE(bits) ((uint64_t)(bits) << (STATE_BITS - 3))
+
 static const uint8_t states[] = {                 /* from 010, with both */
     0, 1, 0,
     0, 1, 0,

@@ -2,7 +2,7 @@
 //! true both, and the lists that they need.
 
 use conformance::model::{Action, Effect, Formula, Problem};
-use conformance::version::VERSION_1;
+use conformance::version::{Version, VERSION_1};
 
 /// A problem, a right plan and its list as the desk program prints it.
 pub struct Right {
@@ -41,11 +41,17 @@ fn right(name: &'static str, problem: Problem, list: &[&str]) -> Right {
     }
 }
 
-pub fn all() -> Vec<Right> {
-    [one_entry(), unknown(), later_steps(), some_starts()]
-        .into_iter()
-        .flatten()
-        .collect()
+/// Those of a version.
+pub fn all(version: &Version) -> Vec<Right> {
+    let small = [one_entry(), unknown(), later_steps(), some_starts()];
+    let rows = small.into_iter().flatten().map(|row| Right {
+        problem: Problem {
+            version: *version,
+            ..row.problem
+        },
+        ..row
+    });
+    rows.chain([copy_of_the_most_facts(version)]).collect()
 }
 
 /// The set and the clear entry of a fact.
@@ -158,15 +164,6 @@ fn some_starts() -> Vec<Right> {
         initial: not(0),
         ..problem(2, vec![action(pair(1, Formula::always(), fact(0)))])
     };
-    // Fact 46 is the last that has to be fixed.
-    let of_48 = Problem {
-        initial: Formula::all((0..48).map(fact)),
-        ..problem(48, vec![copy(46, 47)])
-    };
-    let mut chain: Vec<String> = (0..47)
-        .map(|ones| format!("no-start {}0{}", "1".repeat(ones), "?".repeat(47 - ones)))
-        .collect();
-    chain.push(format!("carries {}?", "1".repeat(47)));
     vec![
         right(
             "elsewhere",
@@ -174,9 +171,24 @@ fn some_starts() -> Vec<Right> {
             &["carries 0??", "carries 10?", "no-start 11?"],
         ),
         right("set-always", always_set, &["carries 0?", "no-start 1?"]),
-        Right {
-            list: chain,
-            ..right("copy-of-48", of_48, &[])
-        },
     ]
+}
+
+/// The last fact but one is copied, and is the last that has to be fixed.
+fn copy_of_the_most_facts(version: &Version) -> Right {
+    let most = version.most_facts;
+    let all = Problem {
+        version: *version,
+        initial: Formula::all((0..most).map(Formula::fact)),
+        ..problem(most, vec![copy(most - 2, most - 1)])
+    };
+    let fixed = usize::from(most - 1);
+    let mut list: Vec<String> = (0..fixed)
+        .map(|ones| format!("no-start {}0{}", "1".repeat(ones), "?".repeat(fixed - ones)))
+        .collect();
+    list.push(format!("carries {}?", "1".repeat(fixed)));
+    Right {
+        list,
+        ..right("copy-of-all", all, &[])
+    }
 }

@@ -3,7 +3,7 @@
 
 use conformance::model::{Action, Effect, Formula, Problem};
 use conformance::oracle::Part;
-use conformance::version::VERSION_1;
+use conformance::version::{Version, VERSION_1};
 
 /// A problem with one start state, where the plan is blocked.
 pub struct Blocked {
@@ -37,15 +37,16 @@ fn blocked(name: &'static str, action: Action, steps: &[u8], step: u64, part: Pa
             actions: vec![turn, action],
         },
         steps: steps.to_vec(),
-        state: 0b100 << 45,
+        state: VERSION_1.bit(0),
         visits: 5,
         step,
         part,
     }
 }
 
-pub fn all() -> Vec<Blocked> {
-    [
+/// Those of a version.
+pub fn all(version: &Version) -> Vec<Blocked> {
+    let small = [
         no_all(),
         literals(),
         groups(),
@@ -54,11 +55,25 @@ pub fn all() -> Vec<Blocked> {
         conflicts_of_conditions(),
         conflicts_and_preconditions(),
         later_conflicts(),
-        conflicts_of_48_facts(),
-    ]
-    .into_iter()
-    .flatten()
-    .collect()
+    ];
+    let rows = small.into_iter().flatten();
+    rows.map(|row| in_version(version, row))
+        .chain(conflicts_of_the_most_facts(version))
+        .collect()
+}
+
+/// The same with the same values of all facts.
+fn in_version(version: &Version, row: Blocked) -> Blocked {
+    let problem = Problem {
+        version: *version,
+        ..row.problem
+    };
+    let values = row.problem.version.values(row.state, problem.facts);
+    Blocked {
+        problem,
+        state: version.number(&values),
+        ..row
+    }
 }
 
 /// True at the start.
@@ -277,27 +292,33 @@ fn later_conflicts() -> Vec<Blocked> {
     ]
 }
 
-/// The one start state has all of 48 facts true: each case beside it is empty.
-fn conflicts_of_48_facts() -> Vec<Blocked> {
+/// The one start state has all facts true: each case beside it is empty.
+fn conflicts_of_the_most_facts(version: &Version) -> Vec<Blocked> {
+    let most = version.most_facts;
+    let visits = match version.byte {
+        1 => 97,
+        _ => 129,
+    };
     let row = |name, facts: &[u8]| {
         let row = stalled(name, both(facts), &[1], 0, facts[0].into());
         let problem = Problem {
-            facts: 48,
-            initial: Formula::all((0..48).map(Formula::fact)),
+            version: *version,
+            facts: most,
+            initial: Formula::all((0..most).map(Formula::fact)),
             ..row.problem
         };
         Blocked {
             problem,
-            state: (1 << 48) - 1,
-            visits: 97,
+            state: version.number(&vec![true; most.into()]),
+            visits,
             ..row
         }
     };
-    let every: Vec<u8> = (0..48).collect();
+    let every: Vec<u8> = (0..most).collect();
     vec![
         row("conflict-of-fact-10", &[10]),
-        row("conflict-of-fact-47", &[47]),
-        row("conflicts-of-46-and-47", &[46, 47]),
-        row("conflicts-of-48-facts", &every),
+        row("conflict-of-the-last-fact", &[most - 1]),
+        row("conflicts-of-the-last-two", &[most - 2, most - 1]),
+        row("conflicts-of-all-facts", &every),
     ]
 }

@@ -3,7 +3,7 @@
 use conformance::model::{Action, Effect, Formula, Problem};
 use conformance::oracle;
 use conformance::trial;
-use conformance::version::VERSION_1;
+use conformance::version::{Version, VERSION_1};
 
 /// A plan, the states of its run as a mark for each fact, and the facts.
 pub struct Relevant {
@@ -40,8 +40,9 @@ fn problem<const N: usize>(facts: u8, goal: Formula, actions: [Action; N]) -> Pr
     }
 }
 
-pub fn all() -> Vec<Relevant> {
-    [
+/// Those of a version.
+pub fn all(version: &Version) -> Vec<Relevant> {
+    let rows = [
         trial_problem(),
         goals(),
         preconditions(),
@@ -49,15 +50,20 @@ pub fn all() -> Vec<Relevant> {
         clear_entries(),
         both_entries(),
         steps_in_turn(),
-    ]
-    .into_iter()
-    .flatten()
-    .collect()
+    ];
+    let in_version = |row: Relevant| Relevant {
+        problem: Problem {
+            version: *version,
+            ..row.problem
+        },
+        ..row
+    };
+    rows.into_iter().flatten().map(in_version).collect()
 }
 
 /// P: action 0 sets 2 if 0 is true, action 1 sets 2 if 1 is.
 fn trial_problem() -> Vec<Relevant> {
-    let problem = oracle::read_problem(&trial::problem()).expect("P is sound");
+    let problem = oracle::read_problem(&trial::problem(&VERSION_1)).expect("P is sound");
     let row = |name, states, facts| Relevant {
         name,
         problem: problem.clone(),

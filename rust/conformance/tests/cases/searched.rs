@@ -3,7 +3,7 @@
 use conformance::model::{Action, Effect, Formula, Problem};
 use conformance::oracle;
 use conformance::trial;
-use conformance::version::VERSION_1;
+use conformance::version::{Version, VERSION_1};
 
 /// The plans that are tried in turn, each with the visits of its walk: all are
 /// wrong, or the last of them is right.
@@ -16,14 +16,20 @@ pub struct Searched {
 }
 
 fn p() -> Problem {
-    oracle::read_problem(&trial::problem()).expect("P is sound")
+    oracle::read_problem(&trial::problem(&VERSION_1)).expect("P is sound")
 }
 
-pub fn all() -> Vec<Searched> {
-    [trial_problem(), variants_of_p(), preconditions()]
-        .into_iter()
-        .flatten()
-        .collect()
+/// Those of a version.
+pub fn all(version: &Version) -> Vec<Searched> {
+    let rows = [trial_problem(), variants_of_p(), preconditions()];
+    let in_version = |row: Searched| Searched {
+        problem: Problem {
+            version: *version,
+            ..row.problem
+        },
+        ..row
+    };
+    rows.into_iter().flatten().map(in_version).collect()
 }
 
 /// P: action 0 sets 2 if 0 is true, action 1 sets 2 if 1 is.

@@ -3,9 +3,11 @@
 use conformance::harness::Case;
 use conformance::harness::Operation::Judge;
 use conformance::model::{Formula, Problem};
+use conformance::version::Version;
 
 use crate::problems::{
-    last_of_48, longest, needs_fact_0_at_255, of_8191_lines, right_after_31, wide, wrong_after_6,
+    last_of_all, longest, needs_fact_0_at_255, of_a_line_too_many, of_most_lines, right_after_31,
+    wrong_after_6,
 };
 use crate::{case_of, expect};
 
@@ -14,38 +16,58 @@ fn judges(problem: &Problem, steps: &[u8], named: &[u64]) {
     expect(Judge, &case_of(problem, steps), named);
 }
 
-#[test]
-fn the_last_action_of_a_problem_of_32768_bytes() {
-    let (problem, last) = longest();
+of_each_version! {
+    the_last_action_of_a_problem_of_32768_bytes,
+    a_step_is_blocked_at_255,
+    states_of_the_most_facts,
+    lists_of_the_most_lines_and_one_more,
+    grants_at_the_edge_of_the_visits,
+}
+
+fn the_last_action_of_a_problem_of_32768_bytes(version: &Version) {
+    let (problem, last) = longest(version);
     judges(&problem, &last, &[2, 2, 0, 3, 0, 0, 0]);
 }
 
-#[test]
-fn a_step_is_blocked_at_255() {
-    let (problem, steps) = needs_fact_0_at_255();
+fn a_step_is_blocked_at_255(version: &Version) {
+    let (problem, steps) = needs_fact_0_at_255(version);
     judges(&problem, &steps, &[2, 2, 0, 3, 255, 0, 0]);
 }
 
-#[test]
-fn states_of_48_facts() {
+fn states_of_the_most_facts(version: &Version) {
+    let most = version.most_facts;
+    let (lines, highest) = match version.byte {
+        1 => (49, (1 << 48) - 1),
+        _ => (65, u64::MAX),
+    };
     // The walk goes down to the last fact before it knows.
-    let mut problem = last_of_48();
-    judges(&problem, &[], &[2, 49, 0, 2]);
-    problem.initial = Formula::all((0..48).map(Formula::fact));
-    judges(&problem, &[], &[1, 97, 49]);
-    problem.initial = Formula::all((0..47).map(Formula::fact));
-    let state = (1 << 48) - 2;
-    judges(&problem, &[], &[2, 96, state, 2]);
+    let mut problem = last_of_all(version);
+    judges(&problem, &[], &[2, lines, 0, 2]);
+    problem.initial = Formula::all((0..most).map(Formula::fact));
+    judges(&problem, &[], &[1, 2 * lines - 1, lines]);
+    problem.initial = Formula::all((0..most - 1).map(Formula::fact));
+    judges(&problem, &[], &[2, 2 * lines - 2, highest - 1, 2]);
+    // The highest state of all fails.
+    problem.goal = Formula::not(most - 1);
+    judges(&problem, &[], &[2, 2 * lines - 1, highest, 2]);
+    problem.initial = Formula::all((0..most).map(Formula::fact));
+    judges(&problem, &[], &[2, 2 * lines - 1, highest, 2]);
 }
 
-#[test]
-fn lists_of_8191_and_8192_lines() {
-    judges(&wide(13), &[], &[1, 16_383, 8_192]);
-    judges(&of_8191_lines(), &[], &[1, 16_381, 8_191]);
+fn lists_of_the_most_lines_and_one_more(version: &Version) {
+    let (lines, visits) = match version.byte {
+        1 => (8_191, 16_381),
+        _ => (6_553, 13_105),
+    };
+    judges(&of_most_lines(version), &[], &[1, visits, lines]);
+    judges(
+        &of_a_line_too_many(version),
+        &[],
+        &[1, visits + 2, lines + 1],
+    );
 }
 
-#[test]
-fn grants_at_the_edge_of_the_visits() {
+fn grants_at_the_edge_of_the_visits(version: &Version) {
     let judges = |problem: &Problem, grant: u64, named: &[u64]| {
         let case = Case {
             grant,
@@ -53,10 +75,10 @@ fn grants_at_the_edge_of_the_visits() {
         };
         expect(Judge, &case, named);
     };
-    let state = 0b0100 << 44;
+    let state = version.bit(1);
     for (problem, visits, named) in [
-        (right_after_31(), 31, &[1, 31, 16][..]),
-        (wrong_after_6(), 6, &[2, 6, state, 2]),
+        (right_after_31(version), 31, &[1, 31, 16][..]),
+        (wrong_after_6(version), 6, &[2, 6, state, 2]),
     ] {
         for grant in 0..visits {
             judges(&problem, grant, &[3, grant]);

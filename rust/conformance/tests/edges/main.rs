@@ -1,5 +1,9 @@
 //! Every limit, at its edge and one past it: a module for each operation.
 
+#[macro_use]
+#[path = "../versions/mod.rs"]
+mod versions;
+
 mod follow_list;
 mod judge;
 mod problems;
@@ -17,7 +21,7 @@ use conformance::harness::Operation::*;
 use conformance::harness::{self, Case, Operation};
 use conformance::model::Problem;
 use conformance::trial;
-use conformance::version::{HEADER, VERSION_1};
+use conformance::version::{Version, HEADER, VERSIONS};
 use support::Library;
 
 #[track_caller]
@@ -31,8 +35,8 @@ fn case_of(problem: &Problem, steps: &[u8]) -> Case {
         problem: encode::problem(problem),
         plan: encode::plan(steps),
         grant: u64::MAX,
-        room: VERSION_1.most_bytes(),
-        work: VERSION_1.most_work_bytes(),
+        room: problem.version.most_bytes(),
+        work: problem.version.most_work_bytes(),
         shared_grant: u64::MAX,
         ..Case::default()
     }
@@ -48,10 +52,68 @@ fn ended_early(block: &[u8]) -> impl Iterator<Item = (usize, Vec<u8>)> + '_ {
     })
 }
 
+of_each_version! {
+    the_problem_is_refused_before_the_plan_and_the_list,
+    the_limits_are_those_of_the_safe_crate,
+}
+
+/// Every number that the versions differ in, and what follows from it.
 #[test]
-fn the_problem_is_refused_before_the_plan_and_the_list() {
+fn the_limits_of_both_versions() {
+    let limits = VERSIONS.map(|version| {
+        let facts = [version.most_facts, version.most_effects].map(usize::from);
+        let list = [version.line_bytes, version.most_lines, version.most_bytes()];
+        (version.byte, facts, version.width, list)
+    });
+    let [first, second] = limits;
+    assert_eq!(first, (1, [48, 96], 48, [8, 8_191, 65_533]));
+    assert_eq!(second, (2, [64, 128], 64, [10, 6_553, 65_535]));
+    assert_eq!(VERSIONS.map(|v| v.most_work_bytes()), [12_336, 16_448]);
+}
+
+fn the_limits_are_those_of_the_safe_crate(version: &Version) {
+    let named = larkhammock::Version::of_byte(version.byte).expect("it is known");
+    assert_eq!(named.byte(), version.byte);
+    assert_eq!(named.most_facts(), version.most_facts.into());
+    assert_eq!(named.most_effects(), version.most_effects.into());
+    assert_eq!(named.state_bits(), version.width);
+    assert_eq!(named.line_bytes(), version.line_bytes);
+    assert_eq!(named.most_lines(), version.most_lines);
+    assert_eq!(named.longest_list(), version.most_bytes());
+    assert_eq!(named.longest_work(), version.most_work_bytes());
+}
+
+/// Whatever follows the byte, and where nothing does.
+#[test]
+fn versions_0_3_and_255() {
+    for byte in [0, 3, 255] {
+        for version in &VERSIONS {
+            let mut problem = trial::problem(version);
+            problem[0] = byte;
+            let mut longer = problem.clone();
+            longer.push(0);
+            for problem in [problem, longer, vec![byte, 0, 0, 0, 0], vec![byte; 5]] {
+                let case = Case {
+                    problem,
+                    ..trial::with_plan(version, &[0, 1])
+                };
+                for operation in Operation::ALL {
+                    expect(operation, &case, &[0, 12, 0]);
+                }
+            }
+        }
+        // In four bytes it does not come to that.
+        let case = Case {
+            problem: vec![byte; 4],
+            ..Case::default()
+        };
+        expect(ReadProblem, &case, &[0, 11, 4]);
+    }
+}
+
+fn the_problem_is_refused_before_the_plan_and_the_list(version: &Version) {
     let case = Case {
-        problem: vec![1, 0, 0],
+        problem: vec![version.byte, 0, 0],
         plan: vec![2],
         list: vec![3],
         state: u64::MAX,
@@ -61,7 +123,7 @@ fn the_problem_is_refused_before_the_plan_and_the_list() {
     for operation in Operation::ALL {
         expect(operation, &case, &[0, 11, 3]);
     }
-    let problem = trial::problem();
+    let problem = trial::problem(version);
     let case = Case { problem, ..case };
     for operation in [ReadPlan, Run, Judge, WriteList, FollowList, RelevantFacts] {
         expect(operation, &case, &[0, 31, 1]);

@@ -7,7 +7,7 @@ use conformance::harness::Case;
 use conformance::harness::Operation::ReadProblem;
 use conformance::model::Problem;
 use conformance::trial;
-use conformance::version::VERSION_1;
+use conformance::version::{Version, DENIAL};
 use larkhammock::raw;
 
 use crate::problems::{clearing_all, longest, nested, plain, problem_of_size};
@@ -27,38 +27,58 @@ fn reads_bytes(problem: Vec<u8>, named: &[u64]) {
     expect(ReadProblem, &case, named);
 }
 
-#[test]
-fn facts_0_1_48_49() {
-    reads(&plain(0, 0), &[0, 15, 5]);
-    reads(&plain(1, 0), &[1, 1, 0]);
-    reads(&plain(48, 0), &[1, 48, 0]);
-    reads(&plain(49, 0), &[0, 15, 5]);
-    reads(&plain(255, 0), &[0, 15, 5]);
+of_each_version! {
+    facts_0_1_the_most_and_one_more,
+    actions_64_65,
+    effects_the_most_and_one_more,
+    effect_literals_are_declared_and_rise,
+    formula_lengths_0_1_1024_1025,
+    depth_8_9,
+    what_comes_first_at_a_group_mark,
+    formula_bytes_that_are_not_allowed,
+    literals_of_the_most_facts,
+    a_problem_cut_anywhere_ends_inside_a_field,
+    nothing_past_a_length_is_read,
+    problem_of_32768_and_32769_bytes,
 }
 
-#[test]
-fn actions_64_65() {
-    reads(&plain(1, 64), &[1, 1, 64]);
-    reads(&plain(1, 65), &[0, 16, 6]);
+fn facts_0_1_the_most_and_one_more(version: &Version) {
+    reads(&plain(version, 0, 0), &[0, 15, 5]);
+    reads(&plain(version, 1, 0), &[1, 1, 0]);
+    let most = match version.byte {
+        1 => 48,
+        _ => 64,
+    };
+    reads(&plain(version, most, 0), &[1, most.into(), 0]);
+    reads(&plain(version, most + 1, 0), &[0, 15, 5]);
+    reads(&plain(version, 255, 0), &[0, 15, 5]);
 }
 
-#[test]
-fn effects_96_97() {
-    let mut problem = clearing_all();
-    reads(&problem, &[1, 48, 1]);
-    let one_more = problem.actions[0].effects[95].clone();
+fn actions_64_65(version: &Version) {
+    reads(&plain(version, 1, 64), &[1, 1, 64]);
+    reads(&plain(version, 1, 65), &[0, 16, 6]);
+}
+
+fn effects_the_most_and_one_more(version: &Version) {
+    let (facts, effects) = match version.byte {
+        1 => (48, 96),
+        _ => (64, 128),
+    };
+    let mut problem = clearing_all(version);
+    assert_eq!(problem.actions[0].effects.len(), effects);
+    reads(&problem, &[1, facts, 1]);
+    let one_more = problem.actions[0].effects[effects - 1].clone();
     problem.actions[0].effects.push(one_more);
     reads(&problem, &[0, 22, 19]);
 }
 
-#[test]
-fn effect_literals_are_declared_and_rise() {
+fn effect_literals_are_declared_and_rise(version: &Version) {
     let with = |literals: &[u8]| {
         let mut body = vec![3, 1, 0, 1, 0, 0, 1, 0, 0, 1, 0, literals.len() as u8];
         for literal in literals {
             body.extend([*literal, 0, 1, 0]);
         }
-        encode::block(&VERSION_1, &body)
+        encode::block(version, &body)
     };
     reads_bytes(with(&[0, 1, 2, 64, 65, 66]), &[1, 3, 1]);
     reads_bytes(with(&[2, 64]), &[1, 3, 1]);
@@ -71,13 +91,12 @@ fn effect_literals_are_declared_and_rise() {
     }
 }
 
-#[test]
-fn formula_lengths_0_1_1024_1025() {
+fn formula_lengths_0_1_1024_1025(version: &Version) {
     let with = |length: u16, bytes: usize| {
         let mut body = vec![1, 0];
         body.extend(length.to_be_bytes());
         body.extend(vec![0; bytes]);
-        encode::block(&VERSION_1, &body)
+        encode::block(version, &body)
     };
     reads_bytes(with(0, 0), &[0, 17, 7]);
     reads_bytes(with(1_025, 1_025), &[0, 17, 7]);
@@ -86,16 +105,15 @@ fn formula_lengths_0_1_1024_1025() {
     reads_bytes(with(1_024, 1_023), &[0, 14, 1_032]);
     reads_bytes(with(1_024, 1_024), &[0, 21, 10]);
     for size in [1, 2, 3, 4, 5, 255, 256, 257, 258, 259, 260, 1_023, 1_024] {
-        let mut problem = plain(1, 0);
+        let mut problem = plain(version, 1, 0);
         problem.goal = formula_of_size(size);
         assert_eq!(encode::bare(&problem.goal).len(), size);
         reads(&problem, &[1, 1, 0]);
     }
 }
 
-#[test]
-fn depth_8_9() {
-    let mut problem = plain(1, 0);
+fn depth_8_9(version: &Version) {
+    let mut problem = plain(version, 1, 0);
     problem.initial = nested(8);
     reads(&problem, &[1, 1, 0]);
     problem.goal = nested(8);
@@ -104,15 +122,14 @@ fn depth_8_9() {
     reads(&problem, &[0, 19, 9 + 16]);
 }
 
-#[test]
-fn what_comes_first_at_a_group_mark() {
+fn what_comes_first_at_a_group_mark(version: &Version) {
     // Eight marks that alternate and then these bytes, in the initial formula.
     let with = |tail: &[u8]| {
         let mut bytes: Vec<u8> = (0..8).flat_map(|i| [0x80 | (i & 1), 2]).collect();
         bytes.extend(tail);
         let mut body = vec![1, 0, 0, bytes.len() as u8];
         body.extend(bytes);
-        encode::block(&VERSION_1, &body)
+        encode::block(version, &body)
     };
     // A repeated kind is 18 also where it is too deep; too deep is 19 also
     // where its count is missing; and 20 is the first byte after them all.
@@ -125,13 +142,12 @@ fn what_comes_first_at_a_group_mark() {
     reads_bytes(with(&[0, 0]), &[0, 20, 27]);
 }
 
-#[test]
-fn formula_bytes_that_are_not_allowed() {
+fn formula_bytes_that_are_not_allowed(version: &Version) {
     let with = |bytes: &[u8]| {
         let mut body = vec![3, 0, 0, bytes.len() as u8];
         body.extend(bytes);
         body.extend([0, 1, 0]);
-        encode::block(&VERSION_1, &body)
+        encode::block(version, &body)
     };
     for byte in 0..=255 {
         let named: &[u64] = match byte {
@@ -150,9 +166,38 @@ fn formula_bytes_that_are_not_allowed() {
     reads_bytes(with(&[0x80, 0, 1]), &[0, 21, 11]);
 }
 
-#[test]
-fn a_problem_cut_anywhere_ends_inside_a_field() {
-    let whole = trial::problem();
+/// With as many facts as there can be: in version 2 every byte below the marks is a
+/// literal.
+fn literals_of_the_most_facts(version: &Version) {
+    let facts = version.most_facts;
+    let formula = |byte: u8| {
+        let body = [facts, 0, 0, 1, byte, 0, 1, 0];
+        encode::block(version, &body)
+    };
+    let effect = |byte: u8| {
+        let body = [facts, 1, 0, 1, 0, 0, 1, 0, 0, 1, 0, 1, byte, 0, 1, 0];
+        encode::block(version, &body)
+    };
+    for byte in 0..=255 {
+        let declared = byte < facts || (DENIAL..DENIAL + facts).contains(&byte);
+        match byte {
+            _ if declared => reads_bytes(formula(byte), &[1, facts.into(), 0]),
+            0x80 | 0x81 => reads_bytes(formula(byte), &[0, 20, 10]),
+            _ => reads_bytes(formula(byte), &[0, 18, 9]),
+        }
+        let named = match declared {
+            true => [1, facts.into(), 1],
+            false => [0, 23, 17],
+        };
+        reads_bytes(effect(byte), &named);
+    }
+    let literals =
+        (0..=255).filter(|byte| *byte < facts || (DENIAL..DENIAL + facts).contains(byte));
+    assert_eq!(literals.count(), version.most_effects.into());
+}
+
+fn a_problem_cut_anywhere_ends_inside_a_field(version: &Version) {
+    let whole = trial::problem(version);
     for length in 0..whole.len() {
         let cut = whole[..length].to_vec();
         let named = [
@@ -162,10 +207,7 @@ fn a_problem_cut_anywhere_ends_inside_a_field() {
         ];
         reads_bytes(cut.clone(), &named);
         if length >= 5 {
-            reads_bytes(
-                encode::block(&VERSION_1, &cut[5..]),
-                &[0, 14, length as u64],
-            );
+            reads_bytes(encode::block(version, &cut[5..]), &[0, 14, length as u64]);
         }
     }
     let mut more = whole;
@@ -175,22 +217,20 @@ fn a_problem_cut_anywhere_ends_inside_a_field() {
     reads_bytes(more, &[0, 25, 37]);
 }
 
-#[test]
-fn nothing_past_a_length_is_read() {
-    for (length, bytes) in ended_early(&trial::problem()) {
+fn nothing_past_a_length_is_read(version: &Version) {
+    for (length, bytes) in ended_early(&trial::problem(version)) {
         let answer = raw::read_problem(&bytes[..length]).word;
         assert_eq!(answer, words(&[0, 14, length as u64]));
     }
 }
 
-#[test]
-fn problem_of_32768_and_32769_bytes() {
-    let (problem, _) = longest();
+fn problem_of_32768_and_32769_bytes(version: &Version) {
+    let (problem, _) = longest(version);
     let bytes = encode::problem(&problem);
     assert_eq!(bytes.len(), 32_768);
     reads_bytes(bytes, &[1, 1, problem.actions.len() as u64]);
 
-    let bytes = encode::problem(&problem_of_size(32_769));
+    let bytes = encode::problem(&problem_of_size(version, 32_769));
     assert_eq!(bytes.len(), 32_769);
     reads_bytes(bytes, &[0, 10, 32_768]);
     // Too long comes first of all.

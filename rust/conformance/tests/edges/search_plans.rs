@@ -6,10 +6,10 @@ use conformance::harness::Operation::SearchPlans;
 use conformance::harness::{check, Case};
 use conformance::model::{Effect, Formula, Problem};
 use conformance::trial;
-use conformance::version::{LONGEST_SEARCHED, MOST_SEARCHED};
+use conformance::version::{Version, LONGEST_SEARCHED, MOST_SEARCHED};
 use larkhammock::raw;
 
-use crate::problems::{last_of_48, longest, plain, right_after_31, wrong_after_6};
+use crate::problems::{last_of_all, longest, plain, right_after_31, wrong_after_6};
 use crate::support::Library;
 use crate::{case_of, expect};
 
@@ -51,8 +51,8 @@ fn undecided(grant: u64, plan: &[u8]) -> Vec<u64> {
 
 /// So many actions, none of which does anything, and a goal that no plan reaches:
 /// each is wrong after two visits.
-fn hopeless(actions: usize) -> Problem {
-    let mut problem = plain(1, actions);
+fn hopeless(version: &Version, actions: usize) -> Problem {
+    let mut problem = plain(version, 1, actions);
     problem.goal = Formula::fact(0);
     problem
 }
@@ -62,9 +62,9 @@ fn hopeless(actions: usize) -> Problem {
 /// shorter plan is right, and no other of this length. The right one is seen to be
 /// at the first look. Any other fails from the lowest state, and the walk must fix
 /// all facts to see that: one visit more than there are steps.
-fn wants(steps: &[u8], actions: usize) -> Problem {
+fn wants(version: &Version, steps: &[u8], actions: usize) -> Problem {
     let facts = steps.len() as u8;
-    let mut problem = plain(facts.max(1), actions);
+    let mut problem = plain(version, facts.max(1), actions);
     problem.initial = Formula::all((0..facts).map(Formula::not));
     for (fact, step) in (0..).zip(steps) {
         let before = match fact {
@@ -83,34 +83,51 @@ fn visits_after(plans: u64, steps: &[u8]) -> u64 {
     plans * (steps.len() as u64 + 1) + 1
 }
 
-#[test]
-fn with_no_action_there_is_the_empty_plan_alone() {
+of_each_version! {
+    with_no_action_there_is_the_empty_plan_alone,
+    with_one_action_there_is_one_plan_of_each_length,
+    a_plan_is_found_at_every_length,
+    each_plan_has_its_place,
+    grants_at_the_edge_of_each_plan,
+    with_no_start_state_the_empty_plan_is_right,
+    up_to_4_steps_of_31_actions_are_searched_to_the_end,
+    up_to_3_steps_of_64_actions_are_searched_to_the_end,
+    a_million_plans_and_more,
+    a_length_over_4,
+    the_problem_is_refused_first,
+    problems_of_the_most_facts_and_of_32768_bytes,
+}
+
+fn with_no_action_there_is_the_empty_plan_alone(version: &Version) {
     for longest in 0..=4 {
-        needs(&plain(1, 0), longest, 1, &found(1, &[]));
-        needs(&right_after_31(), longest, 31, &found(31, &[]));
-        needs(&hopeless(0), longest, 2, &[2, 2]);
-        needs(&wrong_after_6(), longest, 6, &[2, 6]);
+        needs(&plain(version, 1, 0), longest, 1, &found(1, &[]));
+        needs(&right_after_31(version), longest, 31, &found(31, &[]));
+        needs(&hopeless(version, 0), longest, 2, &[2, 2]);
+        needs(&wrong_after_6(version), longest, 6, &[2, 6]);
     }
 }
 
-#[test]
-fn with_one_action_there_is_one_plan_of_each_length() {
+fn with_one_action_there_is_one_plan_of_each_length(version: &Version) {
     for longest in 0..=4 {
         let visits = 2 * (longest + 1);
-        needs(&hopeless(1), longest, visits, &[2, visits]);
+        needs(&hopeless(version, 1), longest, visits, &[2, visits]);
         for grant in 0..visits {
             // All steps are 0: only its length tells which plan it is.
             let plan = vec![0; grant as usize / 2];
-            searches(&hopeless(1), longest, grant, &undecided(grant, &plan));
+            searches(
+                &hopeless(version, 1),
+                longest,
+                grant,
+                &undecided(grant, &plan),
+            );
         }
     }
 }
 
-#[test]
-fn a_plan_is_found_at_every_length() {
+fn a_plan_is_found_at_every_length(version: &Version) {
     for length in 0..=4 {
         let steps = vec![0; length];
-        let problem = wants(&steps, 1);
+        let problem = wants(version, &steps, 1);
         let visits = visits_after(length as u64, &steps);
         for longest in 0..=4 {
             if longest < length as u64 {
@@ -125,13 +142,17 @@ fn a_plan_is_found_at_every_length() {
 
 /// Every plan of three actions is found, and has as many before it as there should
 /// be: by length, and then by the first step, the second and so on.
-#[test]
-fn each_plan_has_its_place() {
+fn each_plan_has_its_place(version: &Version) {
     let mut before = 0;
     let mut expect_next = |steps: &[u8]| {
         let longest = steps.len() as u64;
         let visits = visits_after(before, steps);
-        searches(&wants(steps, 3), longest, visits, &found(visits, steps));
+        searches(
+            &wants(version, steps, 3),
+            longest,
+            visits,
+            &found(visits, steps),
+        );
         before += 1;
     };
     expect_next(&[]);
@@ -163,10 +184,9 @@ fn each_plan_has_its_place() {
 }
 
 /// Every grant, from none to one visit more than the search needs.
-#[test]
-fn grants_at_the_edge_of_each_plan() {
+fn grants_at_the_edge_of_each_plan(version: &Version) {
     let plans: [&[u8]; 6] = [&[], &[0], &[1], &[0, 0], &[0, 1], &[1, 0]];
-    let problem = wants(&[1, 0], 2);
+    let problem = wants(version, &[1, 0], 2);
     for grant in 0..16 {
         // Three visits for each; the last, which is right, needs one.
         let plan = plans[grant as usize / 3];
@@ -185,10 +205,9 @@ fn grants_at_the_edge_of_each_plan() {
     }
 }
 
-#[test]
-fn with_no_start_state_the_empty_plan_is_right() {
+fn with_no_start_state_the_empty_plan_is_right(version: &Version) {
     for actions in [0, 1, 31] {
-        let mut problem = hopeless(actions);
+        let mut problem = hopeless(version, actions);
         problem.initial = Formula::never();
         for longest in 0..=4 {
             needs(&problem, longest, 1, &found(1, &[]));
@@ -197,9 +216,8 @@ fn with_no_start_state_the_empty_plan_is_right() {
 }
 
 /// The most plans that can be tried: 1 + 31 + 961 + 29,791 + 923,521.
-#[test]
-fn up_to_4_steps_of_31_actions_are_searched_to_the_end() {
-    let problem = hopeless(31);
+fn up_to_4_steps_of_31_actions_are_searched_to_the_end(version: &Version) {
+    let problem = hopeless(version, 31);
     searches(&problem, 4, u64::MAX, &[2, 2 * 954_305]);
     let last = [30, 30, 30, 30];
     let one_less = 2 * 954_305 - 1;
@@ -208,7 +226,7 @@ fn up_to_4_steps_of_31_actions_are_searched_to_the_end() {
     assert_eq!(answer, words(&undecided(one_less, &last)));
 
     // The right plan is the last of all.
-    let block = encode::problem(&wants(&last, 31));
+    let block = encode::problem(&wants(version, &last, 31));
     let visits = visits_after(954_304, &last);
     let answer = raw::search_plans(&block, 4, visits).word;
     assert_eq!(answer, words(&found(visits, &last)));
@@ -217,60 +235,61 @@ fn up_to_4_steps_of_31_actions_are_searched_to_the_end() {
 }
 
 /// 1 + 64 + 4,096 + 262,144.
-#[test]
-fn up_to_3_steps_of_64_actions_are_searched_to_the_end() {
-    searches(&hopeless(64), 3, u64::MAX, &[2, 2 * 266_305]);
+fn up_to_3_steps_of_64_actions_are_searched_to_the_end(version: &Version) {
+    searches(&hopeless(version, 64), 3, u64::MAX, &[2, 2 * 266_305]);
     let last = [63, 63, 63];
-    let block = encode::problem(&wants(&last, 64));
+    let block = encode::problem(&wants(version, &last, 64));
     let visits = visits_after(266_304, &last);
     let answer = raw::search_plans(&block, 3, u64::MAX).word;
     assert_eq!(answer, words(&found(visits, &last)));
 }
 
-#[test]
-fn a_million_plans_and_more() {
+fn a_million_plans_and_more(version: &Version) {
     for actions in 0..=64 {
         for longest in 0..=4 {
             let named = match (actions, longest) {
                 (32.., 4) => vec![0, 44, 0],
                 _ => undecided(0, &[]),
             };
-            searches(&hopeless(actions), longest, 0, &named);
+            searches(&hopeless(version, actions), longest, 0, &named);
         }
     }
     // It does not matter that the first plan is right, nor what is granted.
     for grant in [0, 1, u64::MAX] {
-        searches(&plain(1, 31), 4, grant.max(1), &found(1, &[]));
-        searches(&plain(1, 32), 4, grant, &[0, 44, 0]);
-        searches(&plain(48, 64), 4, grant, &[0, 44, 0]);
+        searches(&plain(version, 1, 31), 4, grant.max(1), &found(1, &[]));
+        searches(&plain(version, 1, 32), 4, grant, &[0, 44, 0]);
+        searches(
+            &plain(version, version.most_facts, 64),
+            4,
+            grant,
+            &[0, 44, 0],
+        );
     }
     assert_eq!(MOST_SEARCHED, larkhammock::MOST_SEARCHED);
 }
 
-#[test]
-fn a_length_over_4() {
+fn a_length_over_4(version: &Version) {
     let over = [5, 6, 255, 256, 260, 1 << 32, (1 << 32) + 4, 1 << 63];
     for longest in over.into_iter().chain([u64::MAX - 1, u64::MAX]) {
         for grant in [0, 1, u64::MAX] {
             // It comes before too many plans.
             for actions in [0, 1, 31, 32, 64] {
-                searches(&plain(1, actions), longest, grant, &[0, 43, 0]);
+                searches(&plain(version, 1, actions), longest, grant, &[0, 43, 0]);
             }
         }
     }
     assert_eq!(LONGEST_SEARCHED, larkhammock::LONGEST_SEARCHED);
 }
 
-#[test]
-fn the_problem_is_refused_first() {
-    let sound = trial::problem();
-    let mut version = sound.clone();
-    version[0] = 2;
+fn the_problem_is_refused_first(version: &Version) {
+    let sound = trial::problem(version);
+    let mut strange = sound.clone();
+    strange[0] = 3;
     // Its 65 actions would make too many plans of four steps.
-    let crowded = encode::problem(&plain(1, 65));
+    let crowded = encode::problem(&plain(version, 1, 65));
     for (problem, named) in [
         (&sound[..4], [0, 11, 4]),
-        (&version, [0, 12, 0]),
+        (&strange, [0, 12, 0]),
         (&sound[..36], [0, 13, 1]),
         (&crowded, [0, 16, 6]),
     ] {
@@ -285,16 +304,20 @@ fn the_problem_is_refused_first() {
     }
 }
 
-#[test]
-fn problems_of_48_facts_and_of_32768_bytes() {
+fn problems_of_the_most_facts_and_of_32768_bytes(version: &Version) {
     // The walk goes down to the last fact before it knows.
-    let mut problem = last_of_48();
-    problem.actions = plain(48, 2).actions;
-    needs(&problem, 2, 7 * 49, &[2, 7 * 49]);
-    problem.actions[1].effects = vec![Effect::sets(47, Formula::always())];
-    needs(&problem, 2, 2 * 49 + 1, &found(2 * 49 + 1, &[1]));
+    let down = match version.byte {
+        1 => 49,
+        _ => 65,
+    };
+    let most = version.most_facts;
+    let mut problem = last_of_all(version);
+    problem.actions = plain(version, most, 2).actions;
+    needs(&problem, 2, 7 * down, &[2, 7 * down]);
+    problem.actions[1].effects = vec![Effect::sets(most - 1, Formula::always())];
+    needs(&problem, 2, 2 * down + 1, &found(2 * down + 1, &[1]));
 
-    let (problem, _) = longest();
+    let (problem, _) = longest(version);
     assert!(problem.actions.len() < 32);
     needs(&problem, 4, 1, &found(1, &[]));
 }

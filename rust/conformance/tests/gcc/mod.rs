@@ -11,18 +11,26 @@ pub fn source(name: &str) -> PathBuf {
         .join(name)
 }
 
+/// What a source is compiled by.
+pub const C: [&str; 2] = ["gcc", "-std=c99"];
+
 /// Compiles with every warning an error, and with these arguments after the
 /// source.
 #[track_caller]
-pub fn compile<A: AsRef<OsStr>>(source: &Path, output: &Path, arguments: &[A]) {
-    let compiled = Command::new("gcc")
-        .args(["-std=c99", "-Wall", "-Wextra", "-Wpedantic", "-Werror"])
+pub fn compile<A: AsRef<OsStr>>(
+    [compiler, standard]: [&str; 2],
+    source: &Path,
+    output: &Path,
+    arguments: &[A],
+) {
+    let compiled = Command::new(compiler)
+        .args([standard, "-Wall", "-Wextra", "-Wpedantic", "-Werror"])
         .arg("-o")
         .arg(output)
         .arg(source)
         .args(arguments)
         .output()
-        .expect("gcc can be started");
+        .unwrap_or_else(|error| panic!("{compiler} can't be started: {error}"));
     let said = String::from_utf8_lossy(&compiled.stderr);
     assert!(compiled.status.success(), "{said}");
 }
