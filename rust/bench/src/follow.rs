@@ -5,7 +5,7 @@ use std::hint::black_box;
 use conformance::encode;
 use conformance::families::idle;
 use conformance::gen::even_cover;
-use conformance::version::VERSION_1;
+use conformance::version::{Version, VERSION_1};
 use larkhammock::LONGEST_LIST;
 
 use crate::figure::{agreed, Figure};
@@ -18,29 +18,27 @@ use crate::ratios::Ratios;
 use crate::read;
 use crate::timing::times;
 
-/// The lines of the longest list.
-const MOST_LINES: usize = 8_191;
-
 /// A list that passes.
-struct Passing {
-    measured: Measured,
-    list: Vec<u8>,
+pub struct Passing {
+    pub measured: Measured,
+    pub list: Vec<u8>,
 }
 
 /// The longest list there is, of cases all of which carry the plan.
-fn longest(measured: Measured) -> Passing {
-    let list = first(MOST_LINES);
+pub fn longest(measured: Measured) -> Passing {
+    let version = &measured.tree.version;
+    let list = first(version, version.most_lines);
     Passing { measured, list }
 }
 
 /// The block of the first so many lines of the longest list.
-pub fn first(lines: usize) -> Vec<u8> {
-    let all = even_cover(&VERSION_1, MOST_LINES);
-    encode::list(&VERSION_1, &all[..lines])
+pub fn first(version: &Version, lines: usize) -> Vec<u8> {
+    let all = even_cover(version, version.most_lines);
+    encode::list(version, &all[..lines])
 }
 
 /// The list that the library writes.
-fn own(measured: Measured) -> Passing {
+pub fn own(measured: Measured) -> Passing {
     let Measured { problem, plan, .. } = &measured;
     let mut list = vec![0; LONGEST_LIST];
     let length = larkhammock::write_list(problem, plan, u64::MAX, &mut list);
@@ -54,7 +52,7 @@ pub fn empty_plan() -> Measured {
 }
 
 /// The lines of the list, which all must count alike.
-fn lines(passing: &Passing) -> u64 {
+pub fn lines(passing: &Passing) -> u64 {
     let Passing { measured, list } = passing;
     let Measured { problem, plan, .. } = measured;
     let ours = larkhammock::follow_list(problem, plan, list).expect("the list passes");
@@ -86,7 +84,7 @@ fn lists() -> [Passing; 4] {
     ]
 }
 
-fn measure(Passing { measured, list }: &Passing) -> [f64; 3] {
+pub fn measure(Passing { measured, list }: &Passing) -> [f64; 3] {
     let Measured { problem, plan, .. } = measured;
     times(&[problem, plan, list], [&ours, &plain, &plain_by_64])
 }

@@ -97,7 +97,7 @@ pub fn library(problem: &[u8], plan: &[u8], grant: u64) -> plain::Verdict {
             outcome,
             visits,
         }) => plain::Verdict::Wrong {
-            state,
+            state: state.number(),
             outcome: match outcome {
                 Outcome::Reached => plain::Outcome::Reached,
                 Outcome::Missed => plain::Outcome::Missed,
@@ -106,10 +106,13 @@ pub fn library(problem: &[u8], plan: &[u8], grant: u64) -> plain::Verdict {
                     part: match part {
                         Part::Member(member) => plain::Part::Member(member as usize),
                         Part::Fact(fact) => plain::Part::Fact(fact as usize),
+                        other => panic!("{other:?}"),
                     },
                 },
+                other => panic!("{other:?}"),
             },
             visits,
         },
+        Ok(other) => panic!("{other:?}"),
     }
 }

@@ -2,6 +2,7 @@
 
 use std::array;
 
+use conformance::version::VERSION_1;
 use larkhammock::Refusal;
 
 use crate::figure::{agreed, Figure};
@@ -42,7 +43,7 @@ struct Row {
 fn measure(measured: &Measured) -> [Row; 2] {
     let Measured { problem, plan, .. } = measured;
     let figures = agreed(&LINES, |count| {
-        let list = first(*count);
+        let list = first(&VERSION_1, *count);
         ends_short(measured, &list, *count);
         times(&[problem, plan, &list], [&ours, &plain])
     });

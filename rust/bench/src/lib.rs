@@ -21,3 +21,4 @@ pub mod search;
 pub mod solvers;
 pub mod stack;
 pub mod timing;
+pub mod versions;

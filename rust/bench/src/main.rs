@@ -9,13 +9,14 @@ use std::path::Path;
 
 use bench::judges::Judges;
 use bench::page::Part;
-use bench::{follow, growth, judge, machine, relevance, search, solvers, stack};
+use bench::{follow, growth, judge, machine, relevance, search, solvers, stack, versions};
 
 type Section = (&'static str, fn(&mut Judges) -> Part);
 
-const SECTIONS: [Section; 7] = [
+const SECTIONS: [Section; 8] = [
     ("judge", judge::section),
     ("follow", follow::section),
+    ("versions", versions::section),
     ("relevance", relevance::section),
     ("search", search::section),
     ("growth", growth::section),

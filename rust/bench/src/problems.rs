@@ -4,7 +4,7 @@ use conformance::encode;
 use conformance::families::store::Store;
 use conformance::families::{bombs, grid, sorting};
 use conformance::model::{Action, Effect, Formula, Literal, Problem};
-use conformance::version::VERSION_1;
+use conformance::version::{Version, VERSION_1};
 
 pub struct Measured {
     pub name: String,
@@ -23,6 +23,15 @@ impl Measured {
             tree,
             steps,
         }
+    }
+
+    /// The same problem as one of this version.
+    pub fn in_version(&self, version: &Version) -> Measured {
+        let tree = Problem {
+            version: *version,
+            ..self.tree.clone()
+        };
+        Measured::new(self.name.clone(), tree, self.steps.clone())
     }
 
     /// With a plan that lacks the last step, which is wrong.
@@ -97,6 +106,13 @@ pub fn store(carriages: u8, aisles: u8) -> Measured {
     let store = Store { carriages, aisles };
     let name = format!("store {carriages}×{aisles}");
     Measured::new(name, store.problem(), store.plan())
+}
+
+/// Of a store in which at most one carriage is out of its home.
+pub fn store_with_one_away(carriages: u8, aisles: u8) -> Measured {
+    let store = Store { carriages, aisles };
+    let name = format!("store {carriages}×{aisles}, one away");
+    Measured::new(name, store.problem_with_one_away(), store.plan())
 }
 
 /// The problem with each fact under another number.

@@ -5,7 +5,7 @@ use std::hint::black_box;
 use conformance::encode;
 use conformance::model::{Action, Effect, Formula, Problem};
 use conformance::version::VERSION_1;
-use larkhammock::Counts;
+use larkhammock::{Counts, Version};
 
 use crate::figure::agreed;
 use crate::page::{nanoseconds, speed, whole, Table};
@@ -52,6 +52,7 @@ fn measure(measured: &Measured) -> [f64; 2] {
     let problem = &measured.problem;
     let (facts, actions) = plain::read::read_problem(problem).expect("the problem is sound");
     let counts = Counts {
+        version: Version::V1,
         facts: facts.into(),
         actions: actions.into(),
     };

@@ -8,8 +8,7 @@ use std::path::Path;
 use std::process::{self, Command};
 use std::time::{Duration, Instant};
 
-use conformance::version::VERSION_1;
-use larkhammock::{Outcome, Verdict};
+use larkhammock::{Outcome, State, Verdict, Version};
 
 use crate::figure::{agreed, Figure};
 use crate::judges::{Judged, Judges};
@@ -48,7 +47,7 @@ const SOLVERS: [Solver; 2] = [
 
 /// Encodes, writes the file, runs the solver and reads its answer: the time of
 /// it all, and the failing start state if there is one.
-fn solve(solver: &Solver, measured: &Measured) -> (f64, Option<u64>) {
+fn solve(solver: &Solver, measured: &Measured) -> (f64, Option<State>) {
     let folder = env::temp_dir();
     let file = |end: &str| folder.join(format!("larkhammock-bench-{}.{end}", process::id()));
     let (cnf, answer) = (file("cnf"), file("answer"));
@@ -79,10 +78,10 @@ fn solve(solver: &Solver, measured: &Measured) -> (f64, Option<u64>) {
 }
 
 /// The start state of an assignment.
-fn state(start: &[Lit], assignment: &str) -> u64 {
+fn state(start: &[Lit], assignment: &str) -> State {
     let literals: BTreeSet<Lit> = assignment.split_whitespace().flat_map(str::parse).collect();
     let values: Vec<bool> = start.iter().map(|v| literals.contains(v)).collect();
-    VERSION_1.number(&values)
+    State::of_values(Version::V1, &values)
 }
 
 /// The least time of a solver, which must agree with the judge.
@@ -103,11 +102,11 @@ fn verdict(measured: &Measured) -> Verdict {
 
 /// A plan is right where there is no counterexample, and what the solver names
 /// as one is a start state, not below the judge's, whose run is not reached.
-fn agree(measured: &Measured, verdict: &Verdict, found: Option<u64>) {
+fn agree(measured: &Measured, verdict: &Verdict, found: Option<State>) {
     match (verdict, found) {
         (Verdict::Right { .. }, None) => {}
         (Verdict::Wrong { state, .. }, Some(found)) => {
-            assert!(*state <= found);
+            assert!(state.number() <= found.number());
             let outcome = larkhammock::run(&measured.problem, &measured.plan, found);
             assert_ne!(outcome, Ok(Outcome::Reached));
         }

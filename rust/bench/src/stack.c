@@ -13,7 +13,7 @@
 #include "larkhammock.h"
 
 struct block {
-    uint8_t bytes[65533];
+    uint8_t bytes[LARKHAMMOCK_V2_LONGEST_LIST];
     size_t len;
 };
 

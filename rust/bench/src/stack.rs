@@ -7,7 +7,7 @@ use std::process::{self, Command};
 
 use conformance::encode;
 use conformance::model::{Action, Effect, Formula, Problem};
-use conformance::version::VERSION_1;
+use conformance::version::{Version, VERSIONS};
 use larkhammock::{raw, write_list, LONGEST_LIST};
 
 use crate::judges::Judges;
@@ -24,9 +24,6 @@ const OPERATIONS: [&str; 8] = [
     "relevant_facts",
     "search_plans",
 ];
-
-/// The last fact of the greatest problem.
-const LAST: u8 = 47;
 
 /// As deep as groups may nest.
 const DEEPEST: usize = 8;
@@ -46,39 +43,41 @@ fn nested(depth: usize, fact: u8) -> Formula {
 /// In the one start state no fact is true, or the last alone: so the walk goes
 /// down to the last fact and is short. The action counts to four with the facts
 /// before it, so that no shorter plan is right.
-fn deepest_problem() -> Problem {
-    let counter: Vec<u8> = (LAST - 4..LAST).collect();
+fn deepest_problem(version: &Version) -> Problem {
+    let last = version.most_facts - 1;
+    let counter: Vec<u8> = (last - 4..last).collect();
     let mut effects = vec![Effect::sets(counter[0], Formula::always())];
     for pair in counter.windows(2) {
         effects.push(Effect::sets(pair[1], Formula::fact(pair[0])));
     }
-    let unknown = || nested(DEEPEST - 1, LAST);
-    let nothing_else = (0..LAST).map(Formula::not);
+    let unknown = || nested(DEEPEST - 1, last);
+    let nothing_else = (0..last).map(Formula::not);
     Problem {
-        version: VERSION_1,
-        facts: LAST + 1,
+        version: *version,
+        facts: last + 1,
         initial: Formula::all([unknown()].into_iter().chain(nothing_else)),
         goal: Formula::all([unknown(), Formula::fact(counter[3])]),
         actions: vec![Action {
-            precondition: nested(DEEPEST, LAST),
+            precondition: nested(DEEPEST, last),
             effects,
         }],
     }
 }
 
-/// The program that measures a call, and the files of the blocks that it is
-/// called with.
+/// The program that measures a call, and the files of the blocks of a version that it
+/// is called with.
 struct Measure {
     folder: PathBuf,
 }
 
 impl Measure {
-    fn new() -> Measure {
-        let folder = env::temp_dir().join(format!("larkhammock-stack-{}", process::id()));
+    fn new(version: &Version) -> Measure {
+        let name = format!("larkhammock-stack-{}-{}", version.byte, process::id());
+        let folder = env::temp_dir().join(name);
         fs::create_dir_all(&folder).expect("the temporary folder can be written");
         let measure = Measure { folder };
         measure.compile();
-        measure.write_blocks();
+        measure.write_blocks(version);
         measure
     }
 
@@ -96,8 +95,8 @@ impl Measure {
         assert!(compiled.success(), "gcc compiles the measure");
     }
 
-    fn write_blocks(&self) {
-        let problem = encode::problem(&deepest_problem());
+    fn write_blocks(&self, version: &Version) {
+        let problem = encode::problem(&deepest_problem(version));
         let plan = encode::plan(&[0; 4]);
         let mut list = vec![0; LONGEST_LIST];
         let length = write_list(&problem, &plan, u64::MAX, &mut list).expect("the plan is right");
@@ -128,16 +127,18 @@ impl Drop for Measure {
     }
 }
 
-/// Each operation with the bytes of stack that its call takes.
-pub fn measured() -> Vec<(&'static str, u64)> {
-    let measure = Measure::new();
+/// Each operation with the bytes of stack that its call takes on a problem of this
+/// version.
+pub fn measured(version: &Version) -> Vec<(&'static str, u64)> {
+    let measure = Measure::new(version);
     OPERATIONS.map(|name| (name, measure.stack(name))).to_vec()
 }
 
 pub fn section(_: &mut Judges) -> Part {
-    let mut table = Table::new(&["call", "bytes of stack"]);
-    for (operation, bytes) in measured() {
-        table.row(&[operation.to_string(), whole(bytes)]);
+    let mut table = Table::new(&["call", "bytes of stack, version 1", "version 2"]);
+    let [first, second] = VERSIONS.map(|version| measured(&version));
+    for ((operation, in_first), (_, in_second)) in first.into_iter().zip(second) {
+        table.row(&[operation.to_string(), whole(in_first), whole(in_second)]);
     }
     Part::text(format!("{HEAD}{}", table.finish()))
 }
@@ -145,6 +146,6 @@ pub fn section(_: &mut Judges) -> Part {
 const HEAD: &str = "
 ## Stack
 
-Of 48 facts and formulas that nest 8 deep: the walk goes down to the last fact, and a search to plans of four steps. A call runs on a stack
+Of 48 facts, in version 2 of 64, and formulas that nest 8 deep: the walk goes down to the last fact, and a search to plans of four steps. A call runs on a stack
 that was filled with one byte, and what it takes goes down to the last byte that is another. `larkhammock.h` has the bound that a test holds it to.
 ";

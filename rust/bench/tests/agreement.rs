@@ -1,5 +1,9 @@
 //! What is measured beside the library says what the library says.
 
+#[macro_use]
+#[path = "../../conformance/tests/versions/mod.rs"]
+mod versions;
+
 use std::collections::{BTreeMap, BTreeSet};
 use std::iter;
 
@@ -10,11 +14,13 @@ use bench::plain::search::{Plan, Search};
 use bench::problems::{self, Measured};
 use bench::sat::{self, Cnf, Lit};
 use conformance::answer::{words, Answer};
-use conformance::gen::{damaged_case, sound_case, Rng};
+use conformance::encode;
+use conformance::families::idle;
+use conformance::gen::{damaged_case, even_cover, sound_case, Rng};
 use conformance::harness::Case;
 use conformance::oracle;
-use conformance::version::VERSION_1;
-use larkhammock::{raw, write_list, Outcome, Part, LONGEST_LIST};
+use conformance::version::Version;
+use larkhammock::{raw, write_list, Outcome, Part, State, LONGEST_LIST};
 
 type Judge = fn(&[u8], &[u8], u64) -> plain::Verdict;
 
@@ -40,14 +46,25 @@ fn agree(problem: &[u8], plan: &[u8], grant: u64, what: &str) -> Option<plain::P
     }
 }
 
-#[test]
-fn plain_judges_judge_and_refuse_alike() {
+of_each_version! {
+    plain_judges_judge_and_refuse_alike,
+    plain_reading_reads_and_refuses_alike,
+    plain_relevant_facts_are_told_and_refused_alike,
+    plain_searches_find_and_refuse_alike,
+    satisfying_assignments_are_counterexamples,
+    plain_followers_follow_and_refuse_alike,
+    plain_followers_follow_long_lists_alike,
+    plain_followers_follow_as_long_lists,
+    plain_followers_tell_a_full_cover_from_none,
+}
+
+fn plain_judges_judge_and_refuse_alike(version: &Version) {
     let mut rng = Rng::new(0xbe7c);
     let mut parts = BTreeSet::new();
     for round in 0..20_000 {
         let case = match round % 2 {
-            0 => sound_case(&mut rng, &VERSION_1),
-            _ => damaged_case(&mut rng, &VERSION_1),
+            0 => sound_case(&mut rng, version),
+            _ => damaged_case(&mut rng, version),
         };
         for grant in [case.grant.min(2_000), 2_000] {
             let what = format!("round {round}");
@@ -55,6 +72,7 @@ fn plain_judges_judge_and_refuse_alike() {
         }
     }
     for measured in problems::for_solvers() {
+        let measured = measured.in_version(version);
         agree(&measured.problem, &measured.plan, 1 << 16, &measured.name);
     }
     for number in 0..4 {
@@ -65,12 +83,11 @@ fn plain_judges_judge_and_refuse_alike() {
 }
 
 /// The reading in plain Rust reads and refuses what the library's does.
-#[test]
-fn plain_reading_reads_and_refuses_alike() {
+fn plain_reading_reads_and_refuses_alike(version: &Version) {
     let mut rng = Rng::new(0xbe81);
     let mut met = BTreeSet::new();
     for round in 0..20_000 {
-        let problem = damaged_case(&mut rng, &VERSION_1).problem;
+        let problem = damaged_case(&mut rng, version).problem;
         let told = raw::read_problem(&problem).word;
         let answer = match plain::read::read_problem(&problem) {
             Ok((facts, actions)) => words(&[1, facts.into(), actions.into()]),
@@ -85,10 +102,10 @@ fn plain_reading_reads_and_refuses_alike() {
 }
 
 /// Three sound cases, and a damaged one.
-fn mostly_sound_case(rng: &mut Rng, round: usize) -> Case {
+fn mostly_sound_case(rng: &mut Rng, version: &Version, round: usize) -> Case {
     match round % 4 {
-        0 => damaged_case(rng, &VERSION_1),
-        _ => sound_case(rng, &VERSION_1),
+        0 => damaged_case(rng, version),
+        _ => sound_case(rng, version),
     }
 }
 
@@ -105,12 +122,11 @@ fn refusal_number(answer: &Answer) -> u64 {
 }
 
 /// The relevant facts in plain Rust are the library's, and so is the work area.
-#[test]
-fn plain_relevant_facts_are_told_and_refused_alike() {
+fn plain_relevant_facts_are_told_and_refused_alike(version: &Version) {
     let mut rng = Rng::new(0xbe7d);
     let mut met = BTreeMap::new();
     for round in 0..20_000 {
-        let case = mostly_sound_case(&mut rng, round);
+        let case = mostly_sound_case(&mut rng, version, round);
         let Case {
             problem,
             plan,
@@ -135,12 +151,11 @@ fn plain_relevant_facts_are_told_and_refused_alike() {
 }
 
 /// The search in plain Rust finds what the library's does.
-#[test]
-fn plain_searches_find_and_refuse_alike() {
+fn plain_searches_find_and_refuse_alike(version: &Version) {
     let mut rng = Rng::new(0xbe7e);
     let mut met = BTreeMap::new();
     for round in 0..20_000 {
-        let case = mostly_sound_case(&mut rng, round);
+        let case = mostly_sound_case(&mut rng, version, round);
         let Case {
             problem, longest, ..
         } = &case;
@@ -208,19 +223,20 @@ fn holds(cnf: &Cnf, start: &[Lit], facts: &[bool]) -> bool {
 }
 
 /// The satisfying assignments are the counterexamples, a conflict included.
-#[test]
-fn satisfying_assignments_are_counterexamples() {
+fn satisfying_assignments_are_counterexamples(version: &Version) {
     let mut rng = Rng::new(0x5a7);
     let (mut some, mut none, mut conflicts) = (0, 0, 0);
     for _ in 0..300 {
-        let case = sound_case(&mut rng, &VERSION_1);
+        let case = sound_case(&mut rng, version);
         let problem = oracle::read_problem(&case.problem).expect("the case is sound");
         let steps = &case.plan[5..];
+        let named = larkhammock::Version::of_byte(version.byte).expect("it is known");
         let sat::Encoded { cnf, start } = sat::encode(&problem, steps);
         let unused = problem.version.width - u32::from(problem.facts);
         for state in (0..1u64 << problem.facts.min(6)).map(|n| n << unused) {
             let facts = problem.version.values(state, problem.facts);
-            let outcome = larkhammock::run(&case.problem, &case.plan, state);
+            let from = State::of_values(named, &facts);
+            let outcome = larkhammock::run(&case.problem, &case.plan, from);
             let fails = oracle::holds(&problem.initial, &facts) && outcome != Ok(Outcome::Reached);
             assert_eq!(holds(&cnf, &start, &facts), fails);
             let conflict = matches!(
@@ -261,12 +277,11 @@ fn follow_alike(problem: &[u8], plan: &[u8], list: &[u8], what: &str) -> Answer 
 }
 
 /// Sound lists, short ones, and lists of which some lines or bytes are others.
-#[test]
-fn plain_followers_follow_and_refuse_alike() {
+fn plain_followers_follow_and_refuse_alike(version: &Version) {
     let mut rng = Rng::new(0xbe7f);
     let mut met = BTreeMap::new();
     for round in 0..20_000 {
-        let case = mostly_sound_case(&mut rng, round);
+        let case = mostly_sound_case(&mut rng, version, round);
         let Case {
             problem,
             plan,
@@ -277,18 +292,18 @@ fn plain_followers_follow_and_refuse_alike() {
         let told = follow_alike(problem, plan, list, &what);
         *met.entry(refusal_number(&told)).or_insert(0) += 1;
     }
-    for number in [0, 61, 62, 63, 64, 65, 66, 67, 68, 69, 70] {
+    for number in [0, 61, 62, 63, 64, 65, 66, 67, 68, 69, 70, 71] {
         assert!(met[&number] > 10, "{number} in {met:?}");
     }
 }
 
 /// Lists of several looks at 64 lines, each with one byte another, whose first fault
 /// can be any that a line can have.
-#[test]
-fn plain_followers_follow_long_lists_alike() {
+fn plain_followers_follow_long_lists_alike(version: &Version) {
     let mut rng = Rng::new(0xbe80);
     let mut met = BTreeSet::new();
     for measured in [problems::store(4, 3), problems::grid(8)] {
+        let measured = measured.in_version(version);
         let Measured { problem, plan, .. } = &measured;
         let mut list = vec![0; LONGEST_LIST];
         let length = write_list(problem, plan, u64::MAX, &mut list).expect("the plan is right");
@@ -309,14 +324,34 @@ fn plain_followers_follow_long_lists_alike() {
 }
 
 /// The longest list, and one byte more.
-#[test]
-fn plain_followers_follow_as_long_lists() {
-    let Measured { problem, plan, .. } = follow::empty_plan();
-    for (lines, more, number) in [(8_191, 0, 0), (8_190, 0, 70), (8_191, 1, 60)] {
-        let mut list = follow::first(lines);
+fn plain_followers_follow_as_long_lists(version: &Version) {
+    let Measured { problem, plan, .. } = follow::empty_plan().in_version(version);
+    let most = version.most_lines;
+    for (lines, more, number) in [(most, 0, 0), (most - 1, 0, 70), (most, 1, 60)] {
+        let mut list = follow::first(version, lines);
         list.resize(list.len() + more, 0);
         let what = format!("{lines} lines and {more} bytes");
         let told = follow_alike(&problem, &plan, &list, &what);
+        assert_eq!(refusal_number(&told), number, "{what}");
+    }
+}
+
+/// After a cover that is full, and where none has begun.
+fn plain_followers_tell_a_full_cover_from_none(version: &Version) {
+    let measured = Measured::new("idle", idle(*version, version.most_facts), Vec::new());
+    let Measured { problem, plan, .. } = &measured;
+    let whole = even_cover(version, 1);
+    let halves = even_cover(version, 2);
+    for (lines, number) in [
+        (vec![], 70),
+        (whole.clone(), 0),
+        (halves.clone(), 0),
+        ([&whole[..], &whole].concat(), 68),
+        ([&halves[..], &whole].concat(), 68),
+        ([&halves[..], &halves].concat(), 68),
+    ] {
+        let what = format!("{lines:?}");
+        let told = follow_alike(problem, plan, &encode::list(version, &lines), &what);
         assert_eq!(refusal_number(&told), number, "{what}");
     }
 }

@@ -4,13 +4,7 @@
 use std::iter;
 
 use super::planes::{Lanes, Look, Planes, Room, Table, WIDTH};
-use super::read::{header, refuse, Refusal, Task};
-
-/// The most bytes of a list, which are those of 8,191 lines.
-const LONGEST: usize = 65_533;
-
-/// Kind, k and six bytes of values.
-const LINE: usize = 8;
+use super::read::{self, refuse, Refusal, Task};
 
 /// The lines that one look sees.
 const LANES: usize = Lanes::BITS as usize;
@@ -18,9 +12,28 @@ const LANES: usize = Lanes::BITS as usize;
 /// The number of lines of a list that passes, with a look at each line.
 pub fn follow_list(problem: &[u8], plan: &[u8], list: &[u8]) -> Result<usize, Refusal> {
     let task = Task::read(problem, plan)?;
-    let lines = lines(list)?;
+    let lines = read::lines(list, task.version)?;
+    match task.version.line {
+        8 => by_line::<8>(&task, lines),
+        _ => by_line::<10>(&task, lines),
+    }
+}
+
+/// The same with a look at 64 lines.
+pub fn follow_list_by_64(problem: &[u8], plan: &[u8], list: &[u8]) -> Result<usize, Refusal> {
+    let task = Task::read(problem, plan)?;
+    let lines = read::lines(list, task.version)?;
+    match task.version.line {
+        8 => by_64::<8>(&task, lines),
+        _ => by_64::<10>(&task, lines),
+    }
+}
+
+/// Lines of so many bytes.
+fn by_line<const BYTES: usize>(task: &Task, lines: &[u8]) -> Result<usize, Refusal> {
+    let (lines, _) = lines.as_chunks::<BYTES>();
     let mut room = Room::NEW;
-    let mut follower = Follower::new(&task, &mut room);
+    let mut follower = Follower::new(task, &mut room);
     for (place, line) in lines.iter().enumerate() {
         let followed = follower.follow_one(line);
         followed.or_else(|number| refuse(number, place))?;
@@ -28,12 +41,10 @@ pub fn follow_list(problem: &[u8], plan: &[u8], list: &[u8]) -> Result<usize, Re
     follower.finish(lines.len())
 }
 
-/// The same with a look at 64 lines.
-pub fn follow_list_by_64(problem: &[u8], plan: &[u8], list: &[u8]) -> Result<usize, Refusal> {
-    let task = Task::read(problem, plan)?;
-    let lines = lines(list)?;
+fn by_64<const BYTES: usize>(task: &Task, lines: &[u8]) -> Result<usize, Refusal> {
+    let (lines, _) = lines.as_chunks::<BYTES>();
     let mut room = Room::NEW;
-    let mut follower = Follower::new(&task, &mut room);
+    let mut follower = Follower::new(task, &mut room);
     for (i, some) in lines.chunks(LANES).enumerate() {
         let followed = follower.follow_many(some);
         followed.or_else(|(lane, number)| refuse(number, i * LANES + lane))?;
@@ -41,12 +52,23 @@ pub fn follow_list_by_64(problem: &[u8], plan: &[u8], list: &[u8]) -> Result<usi
     follower.finish(lines.len())
 }
 
-/// The lines of a list block.
-fn lines(list: &[u8]) -> Result<&[[u8; LINE]], Refusal> {
-    header(list, LONGEST, 60)?;
-    match list[5..].as_chunks() {
-        (lines, []) => Ok(lines),
-        _ => refuse(64, list.len()),
+/// Where some lines end together: the number after all that they cover. It comes round
+/// to zero after the highest state, and is then no line's beginning.
+#[derive(Clone, Copy)]
+struct End {
+    number: u64,
+    full: bool,
+}
+
+impl End {
+    /// The end of no line.
+    const FIRST: End = End {
+        number: 0,
+        full: false,
+    };
+
+    fn begins(self, value: u64) -> bool {
+        value == self.number && !self.full
     }
 }
 
@@ -59,10 +81,12 @@ struct Line {
 }
 
 impl Line {
-    /// A line over so many facts that begins at `start`.
-    fn read(bytes: &[u8; LINE], facts: u8, start: u64) -> Result<Line, u8> {
-        let [kind, k, ..] = *bytes;
-        let value = u64::from_be_bytes(*bytes) & ((1 << WIDTH) - 1);
+    /// A line over so many facts that begins where others end.
+    fn read<const BYTES: usize>(bytes: &[u8; BYTES], facts: u8, end: End) -> Result<Line, u8> {
+        let (kind, k) = (bytes[0], bytes[1]);
+        let last = bytes.last_chunk().expect("a line has eight bytes or more");
+        // In a line of eight, kind and k go over the top.
+        let value = u64::from_be_bytes(*last) << (8 * (10 - BYTES));
         if kind > 1 {
             return Err(65);
         }
@@ -72,15 +96,19 @@ impl Line {
         if value & !first(k) != 0 {
             return Err(67);
         }
-        if value != start {
+        if !end.begins(value) {
             return Err(68);
         }
         let carries = kind == 1;
         Ok(Line { carries, k, value })
     }
 
-    fn end(self) -> u64 {
-        self.value + (1 << (WIDTH - u32::from(self.k)))
+    fn end(self) -> End {
+        let states = 1u64.checked_shl(WIDTH - u32::from(self.k));
+        let number = self.value.wrapping_add(states.unwrap_or(0));
+        // It ends after where it begins, if it does not come round.
+        let full = number == 0;
+        End { number, full }
     }
 }
 
@@ -92,7 +120,7 @@ struct Follower<'a> {
     fixed: u64,
     value: u64,
     /// Where the lines so far end together.
-    end: u64,
+    end: End,
 }
 
 impl<'a> Follower<'a> {
@@ -103,12 +131,12 @@ impl<'a> Follower<'a> {
             case: Table::UNKNOWN,
             fixed: 0,
             value: 0,
-            end: 0,
+            end: End::FIRST,
         }
     }
 
     /// Goes on to a line, or tells the number of its fault.
-    fn follow_one(&mut self, bytes: &[u8; LINE]) -> Result<(), u8> {
+    fn follow_one<const BYTES: usize>(&mut self, bytes: &[u8; BYTES]) -> Result<(), u8> {
         let line = Line::read(bytes, self.facts, self.end)?;
         self.fix(first(line.k), line.value);
         let holds = if line.carries {
@@ -137,7 +165,10 @@ impl<'a> Follower<'a> {
 
     /// Goes on to the last of these lines, or tells the first that has a fault, and
     /// its number: a line's claim comes before the form of the next.
-    fn follow_many(&mut self, lines: &[[u8; LINE]]) -> Result<(), (usize, u8)> {
+    fn follow_many<const BYTES: usize>(
+        &mut self,
+        lines: &[[u8; BYTES]],
+    ) -> Result<(), (usize, u8)> {
         let (mut some, mut sure) = ([!0; LANES], [0; LANES]);
         let mut carried = 0;
         let mut sound = 0;
@@ -168,7 +199,7 @@ impl<'a> Follower<'a> {
 
     /// Whether the lines end where all states do.
     fn finish(&self, lines: usize) -> Result<usize, Refusal> {
-        if self.end == 1 << WIDTH {
+        if self.end.full {
             Ok(lines)
         } else {
             refuse(70, lines)
@@ -195,7 +226,7 @@ fn bit(fact: u8) -> u64 {
 
 /// The bits of the first k facts.
 fn first(k: u8) -> u64 {
-    (1 << WIDTH) - (1 << (WIDTH - u32::from(k)))
+    !u64::MAX.checked_shr(k.into()).unwrap_or(0)
 }
 
 /// The facts of these bits, in order.

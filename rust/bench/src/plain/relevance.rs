@@ -8,9 +8,6 @@ use super::read::{Refusal, Task, ALL, ANY, DENIAL};
 
 type Facts = u64;
 
-/// The bits of a state's number, of which the top one is fact 0.
-const WIDTH: u32 = 48;
-
 const MOST_ACTIONS: usize = 64;
 const MOST_STEPS: usize = 256;
 
@@ -52,10 +49,10 @@ pub fn relevant_facts(
     work: &mut [u8],
 ) -> Result<u64, Refusal> {
     let task = Task::read(problem, plan)?;
-    let start = turned(state);
-    if state >> WIDTH != 0 || start >> task.facts != 0 {
+    let start = task.version.state(state).map(u64::reverse_bits);
+    let Some(start) = start.filter(|start| start & !first(task.facts) == 0) else {
         return refuse(40);
-    }
+    };
     let mut actions = Actions::new(&task);
     let mut room = [NO_STEP; MOST_STEPS];
     let run = &mut room[..task.steps.len()];
@@ -70,16 +67,16 @@ pub fn relevant_facts(
     for (row, state) in rows.chunks_exact_mut(row).zip(states) {
         put(row, state);
     }
-    Ok(turned(actions.relevant(run)))
+    Ok(task.version.number(actions.relevant(run).reverse_bits()))
 }
 
 fn refuse<T>(number: u8) -> Result<T, Refusal> {
     Err(Refusal { number, place: 0 })
 }
 
-/// A state's number as a word, and the reverse.
-fn turned(state: u64) -> u64 {
-    state.reverse_bits() >> (u64::BITS - WIDTH)
+/// The first so many facts, of which there is one at least.
+fn first(facts: u8) -> Facts {
+    Facts::MAX >> (Facts::BITS - u32::from(facts))
 }
 
 struct Actions<'a> {

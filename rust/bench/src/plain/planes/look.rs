@@ -7,7 +7,7 @@ use crate::plain::read::{Task, DENIAL};
 use crate::plain::{Outcome, Part};
 
 /// The effects that an action has at most.
-const MOST_EFFECTS: usize = 96;
+const MOST_EFFECTS: usize = 128;
 
 /// An effect's literal, and its condition in the values before the action.
 type Found = (u8, Planes);
