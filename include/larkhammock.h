@@ -3,8 +3,11 @@
  *
  * Link with liblarkhammock.a, which is for x86-64 Linux; no further flags are
  * needed. No function keeps a pointer, allocates memory or fails other than by
- * its answer. Every call ends, for any bytes of any length, and takes at most
- * 64 KiB of stack on this build.
+ * its answer. Every call ends, for any bytes of any length.
+ *
+ * Of stack, on this build, a call takes at most 8 KiB to read a problem or a
+ * plan, 16 KiB to run a state, 24 KiB to follow a list, 32 KiB to judge a plan
+ * or to write a list, 36 KiB to search plans, and 48 KiB to tell relevant facts.
  *
  * A slice is a pointer and then a length: so many bytes of one live object, at
  * most PTRDIFF_MAX of them, which nobody else writes during the call. Slices

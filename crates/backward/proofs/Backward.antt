@@ -1,7 +1,7 @@
 -- One step backward, from the sets that were found: set by set it is what the definition says of each fact. Assumes nothing.
 use mathlib.Core.Path.{◌≡◌, refl, sym, ap, ap₂, ◌∙◌}
 use mathlib.Core.Bool.{Bool, true, false, false≢true, cond, not, ◌&&◌, ◌||◌}
-use mathlib.Core.List.{List, [], ◌∷◌, map}
+use mathlib.Core.List.{List, [], ◌∷◌}
 use Prim.Native.Nat.{ℕ, zero, suc, ◌≤◌, ◌<◌}
 use native.Mathlib.Omega.{arith}
 use native.Mathlib.Decide.{dec_lt}
@@ -9,19 +9,16 @@ use lib.ListN.{length, get_or, get_or-eq_default}
 use lib.Dec.{eqb}
 use borrow.Author.Tests.{eq-eqb, eqb-true}
 use Rattle.model.specs.Limits.{max_facts}
-use Rattle.model.specs.Kleene.{Kleene, is_yes, known, two, three}
-use Rattle.model.specs.Formula.{fact, Formula, eval}
-use Rattle.model.specs.Action.{Action, sets, condition_of}
+use Rattle.model.specs.Kleene.{two}
+use Rattle.model.specs.Action.{Action, sets}
 use Rattle.model.specs.Relevance.{names, some, set_and_cleared, set_names, clear_names, rests_on, matters_before}
 use Rattle.model.proofs.Laws.Truth.{same_truth, and-true, or_assoc}
 use Rattle.model.proofs.Laws.Relevance.{some_at}
-use Rattle.model.proofs.Laws.Agreement.{yes-exact, read_known}
-use Rattle.cases.specs.declared.cases.Cases.{Cases}
-use Rattle.cases.specs.Cases.{case_of}
 use Rattle.backward.specs.declared.facts.FactSet.{FactSet}
-use Rattle.backward.specs.declared.matters.Changes.{Changes}
-use Rattle.backward.specs.Facts.{has_fact, GivesUnion, GivesCommon, GivesRest}
-use Rattle.backward.specs.Changes.{IsChanges, NamesAsked, MattersBefore}
+use Rattle.backward.specs.declared.matters.Mark.{Mark}
+use Rattle.backward.specs.Facts.{has_fact, GivesUnion, GivesRest}
+use Rattle.backward.specs.Changes.{NamesAsked}
+use Rattle.backward.specs.Marks.{MattersBefore}
 use Rattle.backward.proofs.Entries.{some_of}
 
 -- ---- one of n
@@ -90,10 +87,6 @@ one-rule =
 
 -- ---- the sets
 
--- what evaluating in three values says of a state's formula
-holds_same : (st : List Bool) (φ : Formula) → is_yes (eval three (map known st) φ) ≡ eval two st φ
-holds_same st φ = ap is_yes (read_known st φ) ∙ yes-exact (eval two st φ)
-
 module _ (n : ℕ) (a : Action) (st m : List Bool) (size : length m ≡ n) where
   abbrev kept : ℕ → Bool
   kept g = get_or m g false && not (sets two a st g)
@@ -114,35 +107,18 @@ module _ (n : ℕ) (a : Action) (st m : List Bool) (size : length m ≡ n) where
       some_below n _ _ (λ g l. sym (one-rule (get_or m g false) (sets two a st g) (set_and_cleared a g) (eqb g f) (set_names a g f) (clear_names a g f))) ∙
       sym (some_or n (λ g. set_and_cleared a g && (set_names a g f || clear_names a g f)) (λ g. get_or m g false && rests_on a st g f)))
 
-once : (x y : Bool) → (x && not (x && y)) ≡ (x && not y)
-once true y = refl
-once false y = refl
-
--- the facts that mattered and that are not set surely
-kept-set :
-    (c : Cases) (n : ℕ) (a : Action) (st m : List Bool) (z : length m ≡ n) → case_of c 0 ≡ map known st →
-    (asked : FactSet) → ((f : ℕ) → f < max_facts → has_fact asked f ≡ get_or m f false) → (r : Changes) → IsChanges c asked a.effects r →
-    (keeps : FactSet) → GivesRest asked r.surely_set keeps → (g : ℕ) → g < max_facts → has_fact keeps g ≡ kept n a st m z g
-kept-set c n a st m z shown asked h r C keeps k g l =
-    let yes : is_yes (eval three (case_of c 0) (condition_of (fact g) a.effects)) ≡ sets two a st g =
-    ap (λ (v : List Kleene). is_yes (eval three v (condition_of (fact g) a.effects))) shown ∙ holds_same st (condition_of (fact g) a.effects)
-    in
-    k g l ∙ rw (C.surely_set g l, h g l, yes) (once (get_or m g false) (sets two a st g))
-
 pub matters-by-sets :
-    (c : Cases) (n : ℕ) → n ≤ max_facts → (a : Action) (after : FactSet) (r : Changes) → IsChanges c after a.effects r →
-    (both keeps asked₀ asked₁ : FactSet) → GivesCommon r.set r.cleared both → GivesRest after r.surely_set keeps →
-    GivesUnion after both asked₀ → GivesUnion keeps both asked₁ → (more : FactSet) → NamesAsked n asked₀ asked₁ a.effects more →
+    (k : Mark) (n : ℕ) → n ≤ max_facts → (a : Action) (after keeps asked₀ asked₁ : FactSet) → GivesRest after k.set keeps →
+    GivesUnion after k.both asked₀ → GivesUnion keeps k.both asked₁ → (more : FactSet) → NamesAsked n asked₀ asked₁ a.effects more →
     (pre : FactSet) → ((f : ℕ) → f < max_facts → has_fact pre f ≡ names a.precondition f) →
-    (some' all' : FactSet) → GivesUnion pre keeps some' → GivesUnion some' more all' → MattersBefore c after n a all'
-matters-by-sets c n few a after r C both keeps asked₀ asked₁ B K A₀ A₁ more M pre P some' all' S L st m shown z h f l =
-    let keep = kept-set c n a st m z shown after h r C keeps K in
-    let of-both : (g : ℕ) → g < max_facts → has_fact both g ≡ set_and_cleared a g = λ g b. B g b ∙ ap₂ ◌&&◌ (C.set g b) (C.cleared g b) in
+    (some' all' : FactSet) → GivesUnion pre keeps some' → GivesUnion some' more all' → MattersBefore k after n a all'
+matters-by-sets k n few a after keeps asked₀ asked₁ K A₀ A₁ more M pre P some' all' S L st m X z h f l =
+    let keep : (g : ℕ) → g < max_facts → has_fact keeps g ≡ kept n a st m z g = λ g b. K g b ∙ rw (h g b, X.set g b) refl in
     L f l ∙
     ap₂ ◌||◌ (S f l ∙ ap₂ ◌||◌ (P f l) (keep f l))
     (M f l ∙
     some_below n _ _
     (λ g b.
     let d : g < max_facts = omega arith in
-    ap₂ ◌||◌ (ap (λ x. x && set_names a g f) (A₀ g d ∙ ap₂ ◌||◌ (h g d) (of-both g d))) (ap (λ x. x && clear_names a g f) (A₁ g d ∙ ap₂ ◌||◌ (keep g d) (of-both g d))))) ∙
+    ap₂ ◌||◌ (ap (λ x. x && set_names a g f) (A₀ g d ∙ ap₂ ◌||◌ (h g d) (X.both g d))) (ap (λ x. x && clear_names a g f) (A₁ g d ∙ ap₂ ◌||◌ (keep g d) (X.both g d))))) ∙
     by-sets n a st m z f

@@ -1,5 +1,5 @@
 -- Effects of which something is so: by their literals, and by the facts that these are of. Assumes nothing.
-use mathlib.Core.Path.{◌≡◌, refl, sym, ap, ◌∙◌}
+use mathlib.Core.Path.{◌≡◌, refl, sym, ap, subst, ◌∙◌}
 use mathlib.Core.Bool.{Bool, true, false, false≢true, ◌&&◌, ◌||◌}
 use mathlib.Core.Logic.{inl, inr}
 use mathlib.Core.List.{List, [], ◌∷◌}
@@ -119,6 +119,12 @@ module _ (facts : ℕ) (es : List Effect) (ok : Rising facts 0 es) (q : Formula 
           let m = same-is l (entry_at es i).literal s in
           (i, k, sym m, ap q (sym (condition-at facts 0 es i ok k (any none)) ∙ ap (λ (x : Literal). condition_of x es) (sym m)) ∙ e)
       by-entry false h = absurd (false≢true (sym never ∙ ap q (sym (without-entry l es h (any none))) ∙ e))
+
+  -- and is of a declared fact
+  pub condition-declared : (l : Literal) → q (condition_of l es) ≡ true → Declared facts l
+  condition-declared l e =
+      let (i, k, m, h) = with-condition l e in
+      subst (Declared facts) m (declared-at facts 0 es i ok k)
 
   -- the effect of one literal
   pub entry-condition : (l : Literal) → some_entry (λ e. same_literal l e.literal && q e.condition) es ≡ q (condition_of l es)

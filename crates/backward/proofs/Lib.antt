@@ -5,6 +5,6 @@ pub mod Entries
 pub mod Changing
 pub mod Backward
 pub mod States
-pub mod Undoing
+pub mod Making
 pub mod Writing
 pub mod Tracing

@@ -8,7 +8,7 @@ use Rattle.model.proofs.Laws.Truth.{and-true, or_assoc, or-none}
 use Rattle.formula.specs.Decoding.{decode, first, after, head, gathered, marked, is_sound}
 use Rattle.formula.specs.Literals.{literals, member_literals}
 use Rattle.formula.proofs.Decoding.{alone}
-use Rattle.formula.proofs.Leaves.{literal-first, group-first, alone-literals}
+use Rattle.formula.proofs.Leaves.{literal-first, group-first, alone_literals}
 
 -- whether one of the literals is of fact f
 unfoldable pub named_by : List Literal → ℕ → Bool
@@ -66,7 +66,7 @@ unfolding names Named
 formula-names s e one f =
     let i = alone (decode s) one in
     sym (ap (λ (ms : Formulas). member_names ms f) i ∙ or-none (names (head (decode s)) f)) ∙ names-literals s e f ∙
-    ap (λ (ls : List Literal). named_by ls f) (alone-literals (head (decode s)) (decode s) i)
+    ap (λ (ls : List Literal). named_by ls f) (alone_literals (head (decode s)) (decode s) i)
 
 -- ---- the loop: what is named is of those literals that were met, or of those that are left
 

@@ -1,24 +1,26 @@
 -- Sets of facts as words: the word operators are those of sets. Assumes nothing.
 use mathlib.Core.Path.{◌≡◌, refl, sym, ap, subst, ◌∙◌}
-use mathlib.Core.Bool.{Bool, false, not, ◌&&◌, ◌||◌}
+use mathlib.Core.Bool.{Bool, true, false, false≢true, not, ◌&&◌, ◌||◌}
 use Prim.Native.Nat.{ℕ, zero, suc, ◌+◌, ◌*◌, ◌-◌, ◌/◌, ◌%◌, ◌^◌, ◌≤◌, ◌<◌, min, max}
 use native.Mathlib.Nat.{div-eq_of_lt, mod-eq_of_lt, pow-suc, one-mul}
 use native.Mathlib.Omega.{arith}
 use native.Mathlib.Decide.{dec_lt, ℕ_discrete}
+use lib.Count.{count_leading_zeros}
 use lib.Dec.{eqb}
 use lib.Bits.{bit_and, bit_or, bit_xor}
 use lib.Pow.{pow-lt, pow-add, shl-shr, shr-shr, shr_lt}
 use mathlib.Core.List.{List}
 use lib.ListN.{length, get_or}
-use Rattle.model.specs.Relevance.{number_of}
+use Rattle.model.specs.Relevance.{some, number_of}
 use Rattle.model.proofs.Laws.StateNumbers.{number-of}
-use Rattle.std.proofs.lemmas.Nat.{and_mask, and_comm}
+use Rattle.std.proofs.lemmas.Nat.{and_mask, and_comm, and_le_l, pow_pos, leading_top, le-div, div_below}
 use Rattle.std.specs.Int.Bits.{xor_add_and}
 use borrow.Author.Tests.{eq-eqb, ne_eqb}
 use Rattle.model.specs.Limits.{max_facts}
 use Rattle.model.specs.Case.{bit}
 use Rattle.model.specs.Planes.{lane_bit}
-use Rattle.model.proofs.Laws.Truth.{or_assoc, or-none}
+use Rattle.model.proofs.Laws.Truth.{and_none, or_assoc, or-none}
+use Rattle.model.proofs.Laws.Relevance.{some_at}
 use Rattle.model.proofs.Laws.Planes.{ones, bit-small, bit-and, bit-or, bit-zero, bit-flip}
 
 -- fact f has the bit of this lane
@@ -107,6 +109,50 @@ pub flipped : (x : ℕ) → x < 2 ^ 64 → 18446744073709551615 - x ≡ bit_xor 
 flipped x l =
     let m : bit_and x (2 ^ 64 - 1) ≡ x = and_mask x 64 ∙ mod-eq_of_lt l in
     omega (arith, xor_add_and ones x, and_comm ones x, m)
+
+-- ---- its first fact
+
+pub first-fact : (x : ℕ) → (x ≡ 0 → ⊥) → x < 2 ^ 64 → (count_leading_zeros 64 x < max_facts) × (bit max_facts x (count_leading_zeros 64 x) ≡ true)
+unfolding bit
+first-fact x n h =
+    let (j, e, l, m) = leading_top 64 x (omega (arith, n)) h in
+    let some' : 0 < 2 ^ j = pow_pos j in
+    let k : max_facts - suc (count_leading_zeros 64 x) ≡ j = omega (arith, e) in
+    let q : x / 2 ^ j ≡ 1 = omega (arith, le-div 1 x (2 ^ j) some' (omega (arith, l)), div_below x (2 ^ j) 2 some' (omega (arith, m, pow-suc 2 j))) in
+    (omega (arith, e), rw (k, q) refl)
+
+none-of : (n : ℕ) (p : ℕ → Bool) → ((i : ℕ) → i < n → p i ≡ false) → some n p ≡ false
+unfolding some
+none-of zero p h = refl
+none-of (suc n) p h = rw (h zero (omega arith)) (none-of n (λ i. p (suc i)) (λ i l. h (suc i) (omega arith)))
+
+pub set-empty : (x : ℕ) → x < 2 ^ 64 → eqb x 0 ≡ not (some max_facts (bit max_facts x))
+set-empty x h =
+    elim (ℕ_discrete x 0) [
+      | yes e ↦ rw (e, none-of max_facts (bit max_facts 0) (λ i l. set-none i)) refl
+      | no n ↦ let (l, k) = first-fact x n h in rw (ne_eqb x 0 n, some_at max_facts (bit max_facts x) _ l k) refl
+    ]
+
+-- a fact that is taken out of a set
+pub one-flipped : (f : ℕ) → f < max_facts → 18446744073709551615 - 1 * 2 ^ (63 - f) % 18446744073709551616 ≡ bit_xor ones (2 ^ (max_facts - suc f))
+one-flipped f l =
+    ap (λ (x : ℕ). 18446744073709551615 - x) (top-shifted f l) ∙ flipped (2 ^ (max_facts - suc f)) (pow-lt {i = max_facts - suc f} {j = 64} (omega arith))
+
+pub taken-out :
+    (x f : ℕ) → f < max_facts → (g : ℕ) → g < max_facts →
+    bit max_facts (bit_and x (bit_xor ones (2 ^ (max_facts - suc f)))) g ≡ (bit max_facts x g && not (eqb f g))
+taken-out x f l g m = set-rest x _ g ∙ ap (λ b. bit max_facts x g && not b) (set-one f l g m)
+
+pub taken-less : (x f : ℕ) → f < max_facts → bit max_facts x f ≡ true → bit_and x (bit_xor ones (2 ^ (max_facts - suc f))) < x
+taken-less x f l e =
+    elim (ℕ_discrete (bit_and x (bit_xor ones (2 ^ (max_facts - suc f)))) x) [
+      | yes same ↦
+          let out : bit max_facts x f ≡ false =
+          sym (ap (λ (y : ℕ). bit max_facts y f) same) ∙ taken-out x f l f l ∙ rw (eq-eqb f f refl) (and_none (bit max_facts x f))
+          in
+          absurd (false≢true (sym out ∙ e))
+      | no n ↦ omega (arith, n, and_le_l x (bit_xor ones (2 ^ (max_facts - suc f))))
+    ]
 
 -- ---- a set that grows: what is so is so of what was met (h), or of what is left (o of the next, r of those after it)
 

@@ -1,5 +1,5 @@
 -- The facts of a set.
-use Rattle.std.specs.Prelude.{◌≡◌, Bool, false, ◌&&◌, ◌||◌, not, List, ℕ, ◌<◌, get_or}
+use Rattle.std.specs.Prelude.{◌≡◌, Bool, true, false, ◌&&◌, ◌||◌, not, List, ℕ, ◌<◌, get_or, eqb, Option, Some, None}
 use Rattle.model.specs.Limits.{max_facts}
 use Rattle.model.specs.Case.{bit}
 use Rattle.backward.specs.declared.facts.FactSet.{FactSet}
@@ -20,3 +20,13 @@ GivesRest s t r = (f : ℕ) → f < max_facts → has_fact r f ≡ (has_fact s f
 -- the set's facts are those that are true in m
 abbrev pub HasFacts : FactSet → List Bool → Type 0
 HasFacts s m = (f : ℕ) → f < max_facts → has_fact s f ≡ get_or m f false
+
+-- a set's first fact is taken out of it, if it has one
+pub record FirstTaken (s : FactSet) (f : ℕ) (t : FactSet) : Type 0 where
+  pub few : f < max_facts
+  pub had : has_fact s f ≡ true
+  pub left : (g : ℕ) → g < max_facts → has_fact t g ≡ (has_fact s g && not (eqb f g))
+
+abbrev pub TakesFirst : FactSet → Option ℕ → FactSet → Type 0
+TakesFirst s None t = (f : ℕ) → f < max_facts → has_fact s f ≡ false
+TakesFirst s (Some f) t = FirstTaken s f t

@@ -1,4 +1,5 @@
 -- What the functions of this crate answer, in the words of model/specs.
 pub mod Facts
 pub mod Changes
+pub mod Marks
 pub mod Rows

@@ -1,8 +1,9 @@
 // Sets of facts.
-ghost use Rattle.std.specs.Prelude.{ℕ, ◌≡◌, ◌≤◌, ◌<◌, List, Bool, length, eqb};
+ghost use Rattle.std.specs.Prelude.{ℕ, ◌≡◌, ◌≤◌, ◌<◌, List, Bool, length, eqb, not, ◌&&◌};
+ghost use Rattle.std.specs.Iterator.{at_most};
 ghost use Rattle.model.specs.Limits.{max_facts};
-ghost use Rattle.model.specs.Relevance.{number_of};
-ghost use Rattle.backward.specs.Facts.{has_fact, HasFacts, GivesUnion, GivesCommon, GivesRest};
+ghost use Rattle.model.specs.Relevance.{some, number_of};
+ghost use Rattle.backward.specs.Facts.{has_fact, HasFacts, GivesUnion, GivesCommon, GivesRest, TakesFirst};
 
 use std::ops::{BitAnd, BitOr, Sub};
 
@@ -32,6 +33,21 @@ impl FactSet {
         ensures { result ≡ has_fact self fact }
     {
         (self.word >> (63 - fact)) % 2 == 1
+    }
+
+    #[inline(always)]
+    pub fn is_empty(self) -> bool
+        ensures { result ≡ not (some max_facts (has_fact self)) }
+    {
+        self.word == 0
+    }
+
+    // The set itself where that is so, and else none.
+    #[inline(always)]
+    pub fn only_if(self, so: bool) -> FactSet
+        ensures { (f : ℕ) → f < max_facts → has_fact result f ≡ (so && has_fact self f) }
+    {
+        if so { self } else { FactSet::EMPTY }
     }
 
     // The set as a state's number of so many bits.
@@ -83,5 +99,24 @@ impl Sub for FactSet {
         FactSet {
             word: self.word & !other.word,
         }
+    }
+}
+
+// Its facts, one after the other.
+impl Iterator for FactSet {
+    type Item = u8;
+
+    ghost next_gives = { TakesFirst };
+
+    ghost remaining = { λ s. at_most s.word };
+
+    #[inline(always)]
+    fn next(&mut self) -> Option<u8> {
+        if self.word == 0 {
+            return None;
+        }
+        let fact = self.word.leading_zeros() as u8;
+        self.word &= !(1u64 << (63 - fact));
+        Some(fact)
     }
 }

@@ -1,6 +1,7 @@
-// A run gone through backward: the facts that matter before each of its steps, from the goal's facts to those of the start.
+// A run taken forward and gone through backward: the facts that matter before each of its steps, from the goal's facts to those of the start.
 #![tactic(auto)]
 
+pub mod changes;
 pub mod facts;
 pub mod matters;
 pub mod named;
@@ -8,7 +9,7 @@ pub mod rows;
 pub mod trace;
 
 pub use facts::FactSet;
-pub use matters::matters_before;
+pub use matters::{Mark, matters_before};
 pub use named::named_facts;
-pub use rows::put_run;
+pub use rows::{put_run, take_steps};
 pub use trace::trace_back;

@@ -3,62 +3,25 @@ ghost use Rattle.std.specs.Prelude.{ℕ, ◌≡◌, ◌<◌};
 ghost use Rattle.model.specs.Limits.{max_facts};
 ghost use Rattle.fields.specs.Actions.{action as action_of, effects as effects_of, effect as effect_of};
 ghost use Rattle.backward.specs.Facts.{has_fact};
-ghost use Rattle.backward.specs.Changes.{asks, AddsEffect, IsChanges, NamesAsked, MattersBefore};
+ghost use Rattle.backward.specs.Changes.{asks, NamesAsked};
+ghost use Rattle.backward.specs.Marks.{MattersBefore};
 
 use crate::facts::FactSet;
 use crate::named::named_facts;
-use cases::{Cases, evaluate};
 use fields::{Action, Effect, Effects};
 
-// What an action's effects are of: the facts that one sets, those that one clears, and, of the facts that are asked about, those whose set
-// condition is true in lane 0.
+// What going backward over a step needs to know of its run: the facts that were set in it, and those that its action may both set and clear.
 #[derive(Clone, Copy)]
-struct Changes {
-    set: FactSet,
-    cleared: FactSet,
-    surely_set: FactSet,
+pub struct Mark {
+    pub set: FactSet,
+    pub both: FactSet,
 }
 
-impl Changes {
-    const NONE: Changes = Changes {
+impl Mark {
+    pub const NONE: Mark = Mark {
         set: FactSet::EMPTY,
-        cleared: FactSet::EMPTY,
-        surely_set: FactSet::EMPTY,
+        both: FactSet::EMPTY,
     };
-
-    // With one effect more: its condition is evaluated only if it sets a fact that is asked about.
-    #[inline(always)]
-    fn with(self, effect: Effect, cases: &Cases, asked: FactSet) -> Changes
-        ensures { AddsEffect cases.now asked self (effect_of effect.entry) result }
-    {
-        let fact = effect.literal.fact();
-        let named = FactSet::of(fact);
-        if effect.literal.is_denial() {
-            return Changes {
-                cleared: self.cleared | named,
-                ..self
-            };
-        }
-        let set = self.set | named;
-        if asked.has(fact) && evaluate(effect.condition, cases).is_yes(0) {
-            return Changes {
-                set,
-                surely_set: self.surely_set | named,
-                ..self
-            };
-        }
-        Changes { set, ..self }
-    }
-
-    fn of(effects: Effects, cases: &Cases, asked: FactSet) -> Changes
-        ensures { IsChanges cases.now asked (effects_of effects.entry) result }
-    {
-        let mut changes = Changes::NONE;
-        for effect in effects {
-            changes = changes.with(effect, cases, asked);
-        }
-        changes
-    }
 }
 
 // Whether the effect sets a fact of `set`, or clears one of `cleared`.
@@ -87,14 +50,12 @@ fn facts_of_conditions(effects: Effects, set: FactSet, cleared: FactSet) -> Fact
     facts
 }
 
-// The facts that matter before the action, in the state of lane 0, where `after` has those that matter after it. A fact whose set condition is
-// true matters no longer itself; the conditions are asked for of the facts that matter, and of those that are both set and cleared.
-pub fn matters_before(action: Action, cases: &Cases, after: FactSet) -> FactSet
-    ensures { MattersBefore cases.now after action.entry.effects.facts (action_of action.entry) result }
+// The facts that matter before the action, where `after` has those that matter after it. A fact that was set matters no longer itself; the
+// conditions are asked for of the facts that matter, and of those that may be both set and cleared.
+pub fn matters_before(action: Action, mark: Mark, after: FactSet) -> FactSet
+    ensures { MattersBefore mark after action.entry.effects.facts (action_of action.entry) result }
 {
-    let changes = Changes::of(action.effects, cases, after);
-    let both = changes.set & changes.cleared;
-    let kept = after - changes.surely_set;
-    let conditions = facts_of_conditions(action.effects, after | both, kept | both);
+    let kept = after - mark.set;
+    let conditions = facts_of_conditions(action.effects, after | mark.both, kept | mark.both);
     named_facts(action.precondition) | kept | conditions
 }

@@ -1,17 +1,19 @@
-// The states of a run as rows of a work area, one byte (0 or 1) a fact.
-ghost use Rattle.std.specs.Prelude.{◌≡◌, suc, ◌*◌, ◌≤◌, List, Bool, map, length};
+// The states of a run as rows of a work area, one byte (0 or 1) a fact, and what going backward needs to know of its steps.
+ghost use Rattle.std.specs.Prelude.{ℕ, ◌≡◌, true, suc, ◌*◌, ◌≤◌, ◌<◌, ◌||◌, List, Bool, map, length};
+ghost use Rattle.model.specs.Limits.{max_facts};
 ghost use Rattle.model.specs.Case.{flag};
-ghost use Rattle.fields.specs.Actions.{effects as effects_of};
+ghost use Rattle.fields.specs.Actions.{action as action_of};
 ghost use Rattle.blocks.specs.Values.{task as task_of};
-ghost use Rattle.cases.specs.Cases.{case_of};
-ghost use Rattle.backward.specs.Rows.{Shows, Redoes, Undoes, PutsRun, TellsReached};
+ghost use Rattle.backward.specs.Facts.{has_fact};
+ghost use Rattle.backward.specs.Rows.{Shows, Makes, Takes, TakesSteps, PutsRun, TellsReached};
 
+use crate::changes::Changes;
+use crate::matters::Mark;
 use blocks::Task;
 use cases::{Cases, evaluate};
-use fields::Effects;
+use fields::Action;
 use formula::Literal;
 use model::Problem;
-use step::{Conditions, obey};
 
 // The state in lane 0 becomes the row.
 fn put_row(cases: &Cases, row: &mut [u8])
@@ -23,64 +25,87 @@ fn put_row(cases: &Cases, row: &mut [u8])
     }
 }
 
-// From the row of the state before an action to that of the one after it, which lane 0 has: only facts that one of its effects sets or clears
-// may differ.
-fn put_changes(effects: Effects, cases: &Cases, row: &mut [u8])
-    requires facts { effects.facts ≡ cases.now.facts }
-    requires row { length row.old ≡ cases.now.facts }
-    ensures { Redoes (effects_of effects.entry) cases.now row.old row.new }
+// The facts that are set or cleared become so, in the cases and in the row of the state that lane 0 has.
+#[inline(always)]
+fn make(changes: Changes, cases: &mut Cases, row: &mut [u8])
+    requires inside { (f : ℕ) → f < max_facts → (has_fact changes.set f || has_fact changes.cleared f) ≡ true → f < cases.old.facts }
+    requires row { length row.old ≡ cases.old.facts }
+    ensures facts { cases.new.facts ≡ cases.old.facts }
+    ensures makes { Makes changes cases.old row.old cases.new row.new }
 {
-    // To read an effect takes as long as to write some four facts.
-    if effects.count > cases.facts / 4 {
-        return put_row(cases, row);
-    }
-    for effect in effects {
-        let fact = effect.literal.fact();
-        row[fact as usize] = cases.value(Literal::of(fact)).is_yes(0) as u8;
+    for fact in changes.set | changes.cleared {
+        let yes = changes.set.has(fact);
+        let lanes = if yes { u64::MAX } else { 0 };
+        cases.fix(fact, lanes);
+        row[fact as usize] = yes as u8;
     }
 }
 
-// Whether the run of the state that the cases have reaches the goal: its states become rows, one after another, and the last is left in the
-// cases.
-pub fn put_run(task: &Task, cases: &mut Cases, work: &mut [u8]) -> bool
-    requires facts { cases.old.facts ≡ task.now.problem.now.facts }
-    requires room { suc (length task.now.steps.now) * cases.old.facts ≤ length work.old }
+// Takes the action from the state that lane 0 and the row have, unless it is not applicable there.
+#[inline(always)]
+fn take(action: Action, cases: &mut Cases, row: &mut [u8]) -> Option<Mark>
+    requires facts { action.effects.facts ≡ cases.old.facts }
+    requires row { length row.old ≡ cases.old.facts }
     ensures facts { cases.new.facts ≡ cases.old.facts }
-    ensures puts { PutsRun (task_of task.now) cases.old work.old cases.new work.new }
-    ensures tells { TellsReached (task_of task.now) (case_of cases.old 0) result }
+    ensures takes { Takes (action_of action.entry) cases.old row.old cases.new row.new result }
+{
+    let holds = evaluate(action.precondition, cases).is_yes(0);
+    if !holds {
+        return None;
+    }
+    let changes = Changes::of(action.effects, cases);
+    let conflict = changes.set & changes.cleared;
+    if !conflict.is_empty() {
+        return None;
+    }
+    make(changes, cases, row);
+    Some(Mark {
+        set: changes.set,
+        both: changes.may_set & changes.may_clear,
+    })
+}
+
+// Whether all steps can be taken from the state that the cases have: the states before them become rows, one after another, and the state
+// after the last is left in the cases.
+pub fn take_steps(task: &Task, cases: &mut Cases, rows: &mut [u8], marks: &mut [Mark]) -> bool
+    requires facts { cases.old.facts ≡ task.now.problem.now.facts }
+    requires room { length task.now.steps.now * cases.old.facts ≤ length rows.old }
+    requires marks { length task.now.steps.now ≤ length marks.old }
+    ensures facts { cases.new.facts ≡ cases.old.facts }
+    ensures takes { TakesSteps (task_of task.now) cases.old rows.old cases.new rows.new marks.new result }
 {
     let facts = cases.facts as usize;
-    let mut conditions = Conditions::new();
     // The row of the state in the cases, which each step changes little.
     let mut row = [0u8; Problem::SLOTS];
     put_row(cases, &mut row[..facts]);
     let mut at = 0;
     for i in 0..task.steps.len() {
         let next = at + facts;
-        work[at..next].copy_from_slice(&row[..facts]);
+        rows[at..next].copy_from_slice(&row[..facts]);
         let action = task.action(i);
-        let Ok(_) = obey(action, cases, &mut conditions, 1) else {
+        let Some(mark) = take(action, cases, &mut row[..facts]) else {
             return false;
         };
-        put_changes(action.effects, cases, &mut row[..facts]);
+        marks[i] = mark;
         at = next;
     }
-    let end = at + facts;
-    work[at..end].copy_from_slice(&row[..facts]);
-    evaluate(task.problem.goal, cases).is_yes(0)
+    true
 }
 
-// From the state after an action to the one before it, which stands in the row, as lane 0 has them: only facts that one of its effects sets
-// or clears may differ.
-pub(crate) fn undo(effects: Effects, cases: &mut Cases, row: &[u8])
-    requires facts { effects.facts ≡ cases.old.facts }
-    requires row { length row.now ≡ effects.facts }
+// Whether the run of the state that the cases have reaches the goal: then its states have become rows.
+pub fn put_run(task: &Task, cases: &mut Cases, rows: &mut [u8], marks: &mut [Mark]) -> bool
+    requires facts { cases.old.facts ≡ task.now.problem.now.facts }
+    requires room { suc (length task.now.steps.now) * cases.old.facts ≤ length rows.old }
+    requires marks { length task.now.steps.now ≤ length marks.old }
     ensures facts { cases.new.facts ≡ cases.old.facts }
-    ensures undoes { Undoes (effects_of effects.entry) cases.old row.now cases.new }
+    ensures puts { PutsRun (task_of task.now) cases.old rows.old rows.new marks.new }
+    ensures tells { TellsReached (task_of task.now) cases.old result }
 {
-    for effect in effects {
-        let fact = effect.literal.fact();
-        let yes = if row[fact as usize] == 1 { u64::MAX } else { 0 };
-        cases.fix(fact, yes);
+    if !take_steps(task, cases, rows, marks) {
+        return false;
     }
+    let facts = cases.facts as usize;
+    let last = task.steps.len() * facts;
+    put_row(cases, &mut rows[last..last + facts]);
+    evaluate(task.problem.goal, cases).is_yes(0)
 }

@@ -1,9 +1,7 @@
 -- Actions one by one, with where they begin. Assumes nothing.
-use Rattle.std.proofs.Common.{◌≡◌, refl, sym, ap, ◌∙◌, ℕ, suc, ◌+◌, ◌-◌, ◌≤◌, ◌<◌, List, [], ◌∷◌, ◌++◌, append-nil, append_assoc, length, slice_index, set, replicate, length-set, get_or-set_same, get_or-set_other, drop, arith, le-leb, below_none, below_more}
+use Rattle.std.proofs.Common.{◌≡◌, refl, ◌∙◌, ℕ, suc, ◌+◌, ◌-◌, ◌≤◌, ◌<◌, List, [], ◌∷◌, ◌++◌, append-nil, append_assoc, length, slice_index, set, length-set, get_or-set_same, get_or-set_other, drop, arith, le-leb, below_more, add-one}
 use borrow.Author.Tests.{lt-leb}
-use Rattle.model.specs.declared.Limits.{Limits}
-use Rattle.model.specs.Limits.{max_actions}
-use Rattle.model.specs.Action.{Action}
+use Rattle.model.specs.{declared.Limits.Limits, Limits.max_actions, Action.Action}
 use Rattle.model.specs.Read.{Read, reject, got, and_then, ◌>>=◌, ◌>>◌, done, position, require}
 use Rattle.model.specs.ProblemBytes.{action, actions}
 use Rattle.model.proofs.Laws.Tabulate.{tabulate-below, tabulate-last}
@@ -16,16 +14,11 @@ abbrev prepend : List Action → Read (List Action) → Read (List Action)
 prepend pre (reject n q) = reject n q
 prepend pre (got as' q) = got (pre ++ as') q
 
-prepend-none : (x : Read (List Action)) → x ≡ prepend [] x
-prepend-none (reject n q) = refl
-prepend-none (got as' q) = refl
-
 prepend-more :
     (pre : List Action) (a : Action) (x : Read (List Action)) →
     prepend pre (and_then x (λ as' r. got (a ∷ as') r)) ≡ prepend (pre ++ (a ∷ [])) x
 unfolding and_then
-prepend-more pre a (reject n q) = refl
-prepend-more pre a (got as' q) = ap (λ (l : List Action). got l q) (sym (append_assoc pre (a ∷ []) as'))
+prepend-more pre a x = grind (arith, append_assoc)
 
 -- i of m actions from `begin` on were read: where each begins, and that the rest goes on from p
 pub record Sofar (F : Limits) (s : List ℕ) (facts m begin : ℕ) (at : List ℕ) (p i : ℕ) : Type 0 where
@@ -34,11 +27,6 @@ pub record Sofar (F : Limits) (s : List ℕ) (facts m begin : ℕ) (at : List �
   pub each : Begin facts i at s
 
 module _ {F : Limits} {s : List ℕ} {facts m begin : ℕ} where
-  pub sofar-none : Sofar F s facts m begin (replicate max_actions 0) begin 0
-  sofar-none =
-      let e : m - 0 ≡ m = omega arith in
-      record { room = refl; rest = rw e (prepend-none _); each = below_none _ }
-
   module _ {at : List ℕ} {p i : ℕ} (o : Sofar F s facts m begin at p i) where
     pub sofar-refused : {n q : ℕ} → i < m → action F s facts p ≡ reject n q → last_actions F s facts m begin ≡ reject n q
     unfolding actions last_actions ◌>>=◌ and_then
@@ -47,12 +35,10 @@ module _ {F : Limits} {s : List ℕ} {facts m begin : ℕ} where
     module _ (l : i < max_actions) where
       one-more : actions_in s (i + 1) (set at i p) ≡ actions_in s i at ++ (action_of (drop p s) ∷ [])
       one-more =
-          let f = λ (j : ℕ). action_of (drop (slice_index at j) s) in
-          let g = λ (j : ℕ). action_of (drop (slice_index (set at i p) j) s) in
           let room : i < length at = omega (arith, o.room) in
-          let n : i + 1 ≡ suc i = omega arith in
-          let same = tabulate-below i g f (λ j k. ap (λ (b : ℕ). action_of (drop b s)) (get_or-set_other at i j p 0 (λ z. omega arith))) in
-          rw (n, tabulate-last, same, get_or-set_same at i p 0 room) refl
+          let begin = λ (at : List ℕ) (j : ℕ). action_of (drop (slice_index at j) s) in
+          let same = tabulate-below i (begin (set at i p)) (begin at) (λ j k. rw (get_or-set_other at i j p 0 (λ z. omega arith))) in
+          rw (add-one, tabulate-last, same, get_or-set_same at i p 0 room) refl
 
       pub sofar-next : {q : ℕ} → i < m → ActionCut F s facts p q → Sofar F s facts m begin (set at i p) q (i + 1)
       unfolding actions ◌>>=◌ and_then done

@@ -1,9 +1,6 @@
 -- A problem by its formulas and by the actions that end its block. Assumes nothing.
-use Rattle.std.proofs.Common.{◌≡◌, refl, ℕ, List, Bool, true, false, length, leb}
-use Rattle.model.specs.declared.Limits.{Limits}
-use Rattle.model.specs.Answer.{Answer, refused, answered}
-use Rattle.model.specs.Formula.{Formula}
-use Rattle.model.specs.Action.{Action}
+use Rattle.std.proofs.Common.{arith, ◌≡◌, refl, ℕ, List, length, leb}
+use Rattle.model.specs.{declared.Limits.Limits, Answer.Answer, Answer.refused, Answer.answered, Formula.Formula, Action.Action}
 use Rattle.model.specs.Read.{Read, reject, got, and_then, ◌>>=◌, ◌>>◌, done, position, require, answer_of}
 use Rattle.model.specs.ProblemBytes.{Problem, actions, ending}
 use Rattle.blocks.specs.Actions.{last_actions}
@@ -18,14 +15,8 @@ module _ (F : Limits) (s : List ℕ) (facts m : ℕ) (f g : Formula) where
   unfolding ending last_actions ◌>>=◌ ◌>>◌ and_then done position require answer_of
   ending-by p = read (actions F s facts m p)
     where
-      tested : (t : Bool) (as' : List Action) (q : ℕ) →
-          answer_of (and_then (require t 25 q q) (λ u r. got (record { facts = facts; initial = f; goal = g; actions = as' }) r)) ≡
-          with_actions (answer_of (and_then (require t 25 q q) (λ u r. got as' r)))
-      tested true as' q = refl
-      tested false as' q = refl
-
       read : (x : Read (List Action)) →
           answer_of (and_then x (λ as' q. and_then (require (leb (length s) q) 25 q q) (λ u r. got (record { facts = facts; initial = f; goal = g; actions = as' }) r))) ≡
           with_actions (answer_of (and_then x (λ as' q. and_then (require (leb (length s) q) 25 q q) (λ u r. got as' r))))
       read (reject n q) = refl
-      read (got as' q) = tested (leb (length s) q) as' q
+      read (got as' q) = grind arith

@@ -1,38 +1,33 @@
 -- A plan that was read beside a problem, and what a task shows. Assumes nothing.
-use Rattle.std.proofs.Common.{◌≡◌, refl, sym, ap, ◌∙◌, ℕ, zero, suc, ◌+◌, ◌≤◌, ◌<◌, List, [], ◌∷◌, map, length, drop, slice_index, arith, le_of_suc-le-suc, not-suc-le-zero}
+use Rattle.std.proofs.Common.{◌≡◌, refl, ap, ◌∙◌, ℕ, zero, suc, ◌+◌, ◌≤◌, ◌<◌, List, [], ◌∷◌, map, length, drop, slice_index, arith}
 use lib.ListN.{length-map}
-use Rattle.model.specs.declared.Limits.{Limits}
-use Rattle.model.specs.declared.Refusal.{Refusal}
-use Rattle.model.specs.Answer.{Answer, refused, answered, ◌>>=◌}
-use Rattle.model.specs.Answers.{refusal}
-use Rattle.model.specs.Case as cases
-use Rattle.model.specs.Action.{Action}
+use Rattle.std.proofs.lemmas.List.{get_or-map}
+use Rattle.model.specs.{declared.Limits.Limits, declared.Refusal.Refusal, Answer.Answer, Answer.refused, Answer.answered, Answer.◌>>=◌, Answers.refusal, Action.Action}
 use Rattle.model.specs.Read.{got, head_bytes, bytes_of, block, answer_of}
 use Rattle.model.specs.ProblemBytes.{Problem, problem_of, plan, plan_of, encode_plan, action_at}
-use Rattle.model.specs.Operations.{task_of, read_problem, read_plan, read_task}
-use Rattle.model.specs.WellFormed.{Bytes, Each}
-use Rattle.model.proofs.Laws.Reading.{length-block}
-use Rattle.model.proofs.Laws.ProblemCodec.{plan-gives}
-use Rattle.model.proofs.Laws.Tabulate.{length-tabulate}
-use Rattle.formula.specs.Readings.{rejected}
-use Rattle.formula.specs.Views.{formula}
+use Rattle.model.specs.{Operations.task_of, Operations.read_problem, Operations.read_plan, Operations.read_task, WellFormed.Each}
+use Rattle.model.specs.Case as cases
+use Rattle.model.proofs.{Laws.Reading.length-block, Laws.ProblemCodec.plan-gives, Laws.Tabulate.length-tabulate}
+use Rattle.formula.specs.{Readings.rejected, Readings.forgotten, Views.formula}
+use Rattle.formula.proofs.Readers.{next-got}
+use Rattle.blocks.proofs.Promise.{OfSlice, of-slice}
 use Rattle.blocks.specs.declared.problem.Problem as values
-use Rattle.blocks.specs.declared.task.Task.{Task}
-use Rattle.blocks.specs.Values.{problem, task, task_from}
+use Rattle.blocks.specs.{declared.task.Task.Task, Values.problem, Values.task, Values.task_from}
 
 -- ---- the plan
 
--- it ends with its block, and its steps are all that follows the header
+-- where it is read, its steps are all that follows the header
 pub plan_read :
-    (t : List ℕ) (m : ℕ) {bs : List ℕ} {q : ℕ} → Bytes t → plan t m 0 ≡ got bs q →
-    (q ≡ length t) × (length t ≡ head_bytes + length bs) × (drop head_bytes t ≡ bs) × Each (λ b. b < m) bs
+    (t : List ℕ) (m : ℕ) {q : ℕ} → OfSlice t → got tt q ≡ forgotten (plan t m 0) →
+    (bs : List ℕ) × (plan t m 0 ≡ got bs q) × (length t ≡ head_bytes + length bs) × (drop head_bytes t ≡ bs) × Each (λ b. b < m) bs
 unfolding encode_plan block bytes_of
-plan_read t m {bs} {q} b e =
-    let (k, z, end) = (plan-gives t m b).of bs q e in
-    (end, ap length z ∙ length-block 1 bs, rw z, k.actions)
+plan_read t m {q} b h =
+    let g = next-got _ _ h in
+    let (k, z, end) = (plan-gives t m (of-slice t b)).of g.value q g.is in
+    (g.value, g.is, ap length z ∙ length-block 1 g.value, ap (drop head_bytes) z, k.actions)
 
 pub each_below : {m : ℕ} (bs : List ℕ) → Each (λ b. b < m) bs → (i : ℕ) → i < length bs → slice_index bs i < m
-each_below [] k i l = absurd (not-suc-le-zero l)
+each_below [] k i l = absurd (omega arith)
 each_below (b ∷ bs) (h, k) zero l = h
 each_below (b ∷ bs) (h, k) (suc i) l = each_below bs k i (omega arith)
 
@@ -40,9 +35,7 @@ each_below (b ∷ bs) (h, k) (suc i) l = each_below bs k i (omega arith)
 pub step-action :
     (as' : List Action) (bs : List ℕ) (i : ℕ) → i < length bs → action_at (map (action_at as') bs) i ≡ action_at as' (slice_index bs i)
 unfolding action_at
-step-action as' [] i h = absurd (not-suc-le-zero h)
-step-action as' (b ∷ bs) zero h = refl
-step-action as' (b ∷ bs) (suc i) h = step-action as' bs i (le_of_suc-le-suc h)
+step-action as' bs i h = get_or-map (action_at as') bs i 0 _ h
 
 module _ (F : Limits) (p : Problem) (t : List ℕ) {m : ℕ} (e : length p.actions ≡ m) where
   pub plan-refused : (y : Refusal) → plan t m 0 ≡ rejected y → refusal y ≡ task_from F p t
@@ -76,39 +69,21 @@ module _ (F : Limits) (s t : List ℕ) where
   unfolding read_task ◌>>=◌
   read_task-from {l} {p} {x} e v k = rw (← e, ← v, k)
 
--- ---- the step count
+-- ---- the step count: a plan has as many steps as its task
 
-then-alike : {A B : Type 0} (x : Answer A) (f g : A → Answer B) → ((a : A) → f a ≡ g a) → (x >>= f) ≡ (x >>= g)
-unfolding ◌>>=◌
-then-alike (refused n q) f g h = refl
-then-alike (answered a) f g h = h a
-
-then-then : {A B C : Type 0} (x : Answer A) (f : A → Answer B) (g : B → Answer C) → ((x >>= f) >>= g) ≡ (x >>= (λ a. f a >>= g))
-unfolding ◌>>=◌
-then-then (refused n q) f g = refl
-then-then (answered a) f g = refl
-
--- a plan has as many steps as its task
-pub read_plan-task : (F : Limits) (s t : List ℕ) → read_plan F s t ≡ (read_task F s t >>= λ T. answered (length T.plan))
-unfolding read_plan read_task task_of ◌>>=◌
-read_plan-task F s t =
-    let count = λ (T : cases.Task). answered (length T.plan) in
-    sym
-    (then-then (problem_of F s) _ count ∙
-    then-alike (problem_of F s) _ _ λ p.
-    then-then (plan_of t (length p.actions)) _ count ∙
-    then-alike (plan_of t (length p.actions)) _ _ λ steps. ap answered (length-map steps (action_at p.actions)))
-
--- an operation's answers: the problem refused, and the problem read, with what it makes of the plan
 module _ (F : Limits) (s t : List ℕ) where
   pub read_plan-refused : (y : Refusal) → refusal y ≡ problem_of F s → refusal y ≡ read_plan F s t
-  unfolding ◌>>=◌
-  read_plan-refused y e = rw (read_plan-task, read_task-refused F s t y e) refl
+  unfolding read_plan ◌>>=◌
+  read_plan-refused y e = rw (← e)
 
   pub read_plan-from :
-      {l : Limits} {p : Problem} {x : Answer cases.Task} → answered p ≡ problem_of F s → l ≡ F → x ≡ task_from l p t →
-      (x >>= λ T. answered (length T.plan)) ≡ read_plan F s t
-  read_plan-from {l} {p} {x} e v k = rw (read_plan-task, read_task-from F s t e v k) refl
+      (l : Limits) {p : Problem} {x : Answer cases.Task} → answered p ≡ problem_of F s → x ≡ task_from l p t → (x >>= λ T. answered (length T.plan)) ≡ read_plan F s t
+  unfolding read_plan task_of ◌>>=◌
+  read_plan-from l {p} e k = rw (← e, k) (counted (plan_of t (length p.actions)))
+    where
+      counted : (y : Answer (List ℕ)) → ((y >>= λ steps. answered (task_of l p steps)) >>= λ T. answered (length T.plan)) ≡ (y >>= λ steps. answered (length steps))
+      counted (refused n q) = refl
+      counted (answered steps) = ap answered (length-map steps (action_at p.actions))
 
 -- ---- what a problem shows
 

@@ -64,7 +64,7 @@ no-facts words facts h = table_same words (λ j. []) (λ j. replicate facts No) 
 -- ---- a number as a word
 
 module _ (w : ℕ) (word : w ≤ 64) where
-  raised-bit : (v i : ℕ) → i < w → bit 64 (raised w v) i ≡ bit w v i
+  pub raised-bit : (v i : ℕ) → i < w → bit 64 (raised w v) i ≡ bit w v i
   unfolding bit
   raised-bit v i h = rw (pow-split 64 (suc i) w h word, mul-div-mul_right v (2 ^ (w - suc i)) (pow_pos (64 - w)))
 

@@ -26,3 +26,10 @@ pub record SetsLiteral (words : List ℕ) (b some sure : ℕ) (words' : List ℕ
       (case case' : ℕ → List Kleene) (t : ℕ → Kleene) → Table words case → InLanes some sure t →
       ((j g : ℕ) → (g ≡ b → ⊥) → (g + 64 ≡ b → ⊥) → get_or (case' j) g No ≡ get_or (case j) g No) →
       ((j : ℕ) → j < 64 → value_of three (case' j) (literal_of b) ≡ t j) → Table words' case'
+
+-- the first so many facts get the values of another table, in which the other facts are as they were
+pub record CopiesFacts (facts : ℕ) (words from words' : List ℕ) : Type 0 where
+  pub size : length words' ≡ 256
+  pub is :
+      (case case' : ℕ → List Kleene) → Table words case → Table from case' →
+      ((j g : ℕ) → facts ≤ g → get_or (case' j) g No ≡ get_or (case j) g No) → Table words' case'

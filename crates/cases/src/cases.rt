@@ -29,9 +29,9 @@ impl Cases {
     ghost use Rattle.model.specs.Case.{case_of as case_numbered};
     ghost use Rattle.model.specs.Planes.{lane_bit};
     ghost use Rattle.cases.specs.Lanes.{value_in};
-    ghost use Rattle.cases.specs.Facts.{with_facts, bits_of, unfixed, fact_of};
+    ghost use Rattle.cases.specs.Facts.{with_facts, bits_of, unfixed};
     ghost use Rattle.cases.specs.Blocks.{block_case};
-    ghost use Rattle.cases.specs.Cases.{case_of, value_at, with_literal, values_of, Makes};
+    ghost use Rattle.cases.specs.Cases.{case_of, value_at, with_literal, values_of, Makes, Common};
 
     // Every lane has the case that fixes no fact.
     pub fn first_case(facts: u8) -> Cases
@@ -122,6 +122,16 @@ impl Cases {
         self.set_fact(f as usize, Value::known(yes));
     }
 
+    // Becomes these cases, of as many facts. No other word is copied: it is the same in both.
+    #[inline(always)]
+    pub fn copy_from(&mut self, other: &Cases)
+        requires { self.old.facts ≡ other.now.facts }
+        ensures facts { self.new.facts ≡ self.old.facts }
+        ensures cases { (j : ℕ) → j < 64 → case_of self.new j ≡ case_of other.now j }
+    {
+        words::copy_facts(&mut self.words, &other.words, self.facts as usize);
+    }
+
     // Each fact from .. to - 1 becomes what `change` makes of its number and of the value that it has.
     #[inline(always)]
     fn change_facts<F: Fn(usize, Value) -> Value>(&mut self, from: usize, to: usize, change: F)
@@ -163,7 +173,19 @@ impl Cases {
         ensures cases { (j : ℕ) → j < 64 → case_of self.old j ≡ values_of self.old.facts from
             → case_of self.new j ≡ values_of self.old.facts to }
     {
-        let common = from.common(to);
+        self.set_case_past(from.common(to), from, to);
+    }
+
+    // The same where it is known how many facts both fix alike.
+    #[inline(always)]
+    pub fn set_case_past(&mut self, common: usize, from: Case, to: Case)
+        requires from { from.fixed ≤ self.old.facts }
+        requires to { to.fixed ≤ self.old.facts }
+        requires common { Common from to common }
+        ensures facts { self.new.facts ≡ self.old.facts }
+        ensures cases { (j : ℕ) → j < 64 → case_of self.old j ≡ values_of self.old.facts from
+            → case_of self.new j ≡ values_of self.old.facts to }
+    {
         self.fix_bits(common, to.fixed, to.word);
         self.free_facts(to.fixed, from.fixed);
     }
@@ -176,15 +198,5 @@ impl Cases {
         ensures cases { (j : ℕ) → j < 64 → case_of self.new j ≡ block_case (case_of self.old j) k levels j }
     {
         self.change_facts(k, k + levels, |f, _| value_of_level(f - k));
-    }
-
-    // From a block to one of its lanes: the facts k .. k + levels - 1 become in every lane what they are in this one.
-    pub fn fix_path(&mut self, k: usize, levels: usize, lane: usize)
-        requires is_lane { lane < 64 }
-        requires inside { k + levels ≤ self.old.facts }
-        ensures facts { self.new.facts ≡ self.old.facts }
-        ensures cases { (j : ℕ) → j < 64 → case_of self.new j ≡ with_facts k (k + levels) (fact_of (case_of self.old lane)) (case_of self.old j) }
-    {
-        self.change_facts(k, k + levels, |_, value| value.spread(lane));
     }
 }

@@ -1,7 +1,8 @@
 // Words of 64 lanes, a bit each, and a table of 256 of them: the two words of the literal with the byte b stand at twice b.
 ghost use Rattle.std.specs.Prelude.{◌≡◌, ◌^◌, ◌≤◌, ◌<◌, []};
+ghost use Rattle.model.specs.Limits.{max_facts};
 ghost use Rattle.model.specs.Planes.{lane_bit, Table};
-ghost use Rattle.cases.specs.Words.{Spread, raised, SameCase, SetsLiteral};
+ghost use Rattle.cases.specs.Words.{Spread, raised, SameCase, SetsLiteral, CopiesFacts};
 
 // Every lane.
 pub const ONES: u64 = u64::MAX;
@@ -58,6 +59,17 @@ pub fn set_literal(words: &mut [u64; TABLE], b: usize, some: u64, sure: u64)
     words[2 * b + 1] = sure;
     words[2 * denial] = ONES ^ sure;
     words[2 * denial + 1] = ONES ^ some;
+}
+
+// The first so many facts, and their denials with them, get the values that they have in another table.
+#[inline(always)]
+pub fn copy_facts(words: &mut [u64; TABLE], from: &[u64; TABLE], facts: usize)
+    requires { facts ≤ max_facts }
+    ensures { CopiesFacts facts words.old from.now words.new }
+{
+    let count = 2 * facts;
+    words[..count].copy_from_slice(&from[..count]);
+    words[LITERALS..LITERALS + count].copy_from_slice(&from[LITERALS..LITERALS + count]);
 }
 
 // Every fact no in every lane, and so every denial yes: what the case reads that has no fact.

@@ -1,36 +1,21 @@
 -- A whole list, and the answer of the call that writes it. Assumes nothing.
 use Rattle.std.proofs.Common.{◌≡◌, refl, sym, ap, ◌∙◌, subst, List, [], ◌++◌, ℕ, ◌+◌, ◌-◌, ◌*◌, ◌≤◌, ◌<◌, arith, length, drop, lt-ltb, le-ltb, Result, Ok, Err}
 use lib.Seq.{sets, sets-eq, length-sets}
-use Rattle.model.specs.declared.Limits.{Limits}
-use Rattle.model.specs.Limits.{limits_of}
-use Rattle.model.specs.Answer as Answer
-use Rattle.model.specs.Answers.{refusal}
-use Rattle.model.specs.Answer.{Answer, refused, answered}
-use Rattle.model.specs.Case as model
-use Rattle.model.specs.Walk.{Line, Walked, covered, failed, visits, walked, judged, found}
-use Rattle.model.specs.Read.{head_bytes, block}
+use Rattle.model.specs.{declared.Limits.Limits, Limits.limits_of, Answers.refusal, Answer.Answer, Answer.refused, Answer.answered}
+use Rattle.model.specs.{Walk.Line, Walk.Walked, Walk.covered, Walk.failed, Walk.visits, Walk.walked, Walk.judged, Walk.found, Read.head_bytes, Read.block}
 use Rattle.model.specs.ListBytes.{lines_bytes, encode_list}
 use Rattle.model.specs.Operations.{read_task, list_bytes, lines_for, written, list_for, write_list}
-use Rattle.model.specs.declared.Refusal.{Refusal}
-use Rattle.model.specs.Faults.{fault_number}
-use Rattle.model.specs.WellFormed.{Sensible}
-use Rattle.model.proofs.Laws.ListCodec.{length-lines}
-use Rattle.model.proofs.Laws.Reading.{length-bytes_of}
-use Rattle.model.proofs.Laws.Lists.{length-encode_list}
-use Rattle.model.proofs.Laws.Judging.{judged-in, judged-out}
-use Rattle.model.proofs.Laws.Tasks.{list-for-is}
+use Rattle.model.specs.{declared.Refusal.Refusal, Faults.fault_number, WellFormed.Sensible}
+use Rattle.model.specs.Answer as Answer
+use Rattle.model.specs.Case as model
+use Rattle.model.proofs.{Laws.ListCodec.length-lines, Laws.Reading.length-bytes_of, Laws.Lists.length-encode_list, Laws.Judging.judged-in, Laws.Judging.judged-out}
+use Rattle.model.proofs.{Laws.Tasks.list-for-is, Laws.Stores.sets-append}
 use Rattle.blocks.specs.declared.problem.Problem as problems
 use Rattle.blocks.specs.declared.task.Task as blocks
 use Rattle.blocks.specs.Values as values
 use Rattle.blocks.proofs.Tasks.{facts-fit}
-use Rattle.walk.specs.Pages.{PutsLines}
-use Rattle.walk.specs.declared.page.Page.{Page}
-use Rattle.lines.specs.Putting.{Laid, LinesLaid}
-use Rattle.model.proofs.Laws.Stores.{sets-append}
-use Rattle.walk.specs.declared.visits.Closed.{Closed}
-use Rattle.walk.specs.declared.visits.Stopped.{Stopped}
-use Rattle.walk.specs.declared.visits.Stopped.TheVariants.{OutOfVisits, Failed}
-use Rattle.walk.specs.Walks.{Ended, Walks}
+use Rattle.walk.specs.{Pages.PutsLines, declared.page.Page.Page, declared.visits.Closed.Closed, declared.visits.Stopped.Stopped}
+use Rattle.walk.specs.{declared.visits.Stopped.TheVariants.OutOfVisits, declared.visits.Stopped.TheVariants.Failed, Walks.Ended, Walks.Walks}
 use Rattle.certificate.specs.Writing.{head_of, WritesTask}
 
 -- ---- the block
@@ -56,15 +41,14 @@ block_written F S before after ls n e room h =
 closes-covered : (g : ℕ) (closed : List Line) (r : Result Closed Stopped) (w : Walked) → Ended g closed r w → (ls : List Line) (a : ℕ) → w ≡ covered ls a → a ≤ g → closed ≡ ls
 closes-covered g closed (Ok c) w E ls a e h = cc
 closes-covered g closed (Err OutOfVisits) w E ls a e h = absurd (omega (arith, ap visits e))
-closes-covered g closed (Err (Failed s left)) w E ls a e h = let z : ◌≡◌ {A = ℕ} 0 1 = cc in absurd (omega arith)
+closes-covered g closed (Err (Failed s left)) w E ls a e h = cc
 
 pub writes-task :
     (F : Limits) → Sensible F → (w : Walked) (g body : ℕ) (before after : List ℕ) (p q : Page) (r : Result Closed Stopped) → head_bytes + body ≤ length before →
     p.out.now ≡ sets before 0 (head_of F body) → p.at ≡ head_bytes → Walks (PutsLines F) w g p r q → after ≡ q.out.now → WritesTask F w g body before after
 writes-task F S w g body before after p q r room em at W e ls a c h b =
     let z : W.closed ≡ ls = closes-covered g W.closed r w W.is ls a c h in
-    let laid : LinesLaid F p.out.now p.at ls q.at q.out.now = subst (λ (l : List Line). LinesLaid F p.out.now p.at l q.at q.out.now) z W.put.laid in
-    let k : Laid F p.out.now p.at ls q.at q.out.now = laid (omega (arith, ap length em, length-sets before 0 (head_of F body))) in
+    let k = (rw z at W.put.laid) (omega (arith, ap length em, length-sets before 0 (head_of F body))) in
     block_written F S before after ls body b room (e ∙ k.bytes ∙ (λ j. sets (em j) (at j) (lines_bytes F ls)))
 
 -- ---- the answer
@@ -72,10 +56,6 @@ writes-task F S w g body before after p q r room em at W e ls a c h b =
 -- what a call that writes answers and leaves
 abbrev pub Left : Limits → List ℕ → List ℕ → ℕ → List ℕ → Answer ℕ → List ℕ → Type 0
 Left F s t g before a after = (a ≡ (write_list F s t g before).answer) × (after ≡ (write_list F s t g before).buffer)
-
--- an answer by another name
-pub left_as : {a b c : Answer ℕ} {B : Type 0} → a ≡ b → (b ≡ c) × B → (a ≡ c) × B
-left_as e x = (e ∙ x.0, x.1)
 
 left-refused :
     (F : Limits) (s t : List ℕ) (g : ℕ) (before : List ℕ) (n q : ℕ) → list_for F s t g (length before) ≡ refused n q →
@@ -107,18 +87,15 @@ module _ (s t : List ℕ) (lent : blocks.Task) (limits : lent.problem.now.limits
   leaves : (a : Answer ℕ) (after : List ℕ) → Left F s t g before a after → Leaves a after
   leaves a after = subst (λ (G : Limits). Left G s t g before a after) limits
 
-  n≤w : T.facts ≤ T.width
-  n≤w = facts-fit lent
-
   for : list_for F s t g (length before) ≡ lines_for F (length before) (judged T g)
   for = list-for-is F s t T (subst (λ (G : Limits). read_task G s t ≡ answered T) (sym limits) read) g (length before)
 
   found_as : (x : Walked) → walked T ≡ x → visits (walked T) ≤ g → list_for F s t g (length before) ≡ lines_for F (length before) (found T x)
-  found_as x e l = for ∙ ap (lines_for F (length before)) (judged-in T n≤w g x e l)
+  found_as x e l = for ∙ ap (lines_for F (length before)) (judged-in T (facts-fit lent) g x e l)
 
   pub list-undecided : Walks puts (walked T) g old (Err OutOfVisits) new → Leaves (refused 50 g) before
   unfolding lines_for
-  list-undecided W = leaves _ _ (left-refused F s t g before 50 g (for ∙ ap (lines_for F (length before)) (judged-out T n≤w g W.is)))
+  list-undecided W = leaves _ _ (left-refused F s t g before 50 g (for ∙ ap (lines_for F (length before)) (judged-out T (facts-fit lent) g W.is)))
 
   pub list-wrong : (x left : ℕ) → Walks puts (walked T) g old (Err (Failed x left)) new → Leaves (refused 51 (g - left)) before
   unfolding lines_for

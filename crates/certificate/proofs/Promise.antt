@@ -1,15 +1,11 @@
 -- What the writer promises, and what it promises with the checker of lists: from the contracts' equations and the theorem about the definitions.
 -- Assumes nothing.
-use Rattle.std.proofs.Common.{◌≡◌, refl, sym, ap, ◌∙◌, subst, inl, inr, List, ℕ, ◌≤◌, arith, length, take, drop}
-use Rattle.model.specs.Limits.{limits_of}
-use Rattle.model.specs.Answer as Answer
-use Rattle.model.specs.Answer.{Answer, refused, answered}
-use Rattle.model.specs.Case.{Task}
+use Rattle.std.proofs.Common.{◌≡◌, refl, sym, ap, ◌∙◌, subst, inl, inr, List, ℕ, ◌≤◌, length, take, drop}
+use Rattle.model.specs.{Limits.limits_of, Answer.Answer, Answer.refused, Answer.answered, Case.Task}
 use Rattle.model.specs.Operations.{read_task, list_bytes, written, list_for, write_list, follow_list}
 use Rattle.model.specs.Guarantees.{lines_in, Passing}
-use Rattle.model.proofs.Laws.Tasks.{answer-then}
-use Rattle.model.proofs.Laws.Lists.{written-answered}
-use Rattle.model.proofs.Guarantees.{guarantees-of}
+use Rattle.model.specs.Answer as Answer
+use Rattle.model.proofs.{Laws.Tasks.answer-then, Laws.Lists.written-answered, Guarantees.guarantees-of}
 use Rattle.follow.proofs.Promise.{followed-task}
 use Rattle.certificate.specs.Promise.{WritePromised, Promised}
 
@@ -25,7 +21,7 @@ module _ (problem plan : List ℕ) (grant : ℕ) (before : List ℕ) where
   promised-for (refused m p) h (refused n q) after e k =
       let j = unread m p h in
       (k ∙ (guarantees-of problem).all_input.refused_unchanged problem plan grant before n q (sym e), inl (h ∙ cc))
-  promised-for (refused m p) h (answered o) after e k = let j = unread m p h in let z : ◌≡◌ {A = ℕ} 0 1 = cc in absurd (omega arith)
+  promised-for (refused m p) h (answered o) after e k = let j = unread m p h in absurd (cc)
   promised-for (answered T) h (refused n q) after e k = (
     k ∙ (guarantees-of problem).all_input.refused_unchanged problem plan grant before n q (sym e),
     inr (T, h, ((guarantees-of problem).certificates problem plan T h).refused_for grant before n q (sym e)),

@@ -1,9 +1,7 @@
 -- A read into the rest of a buffer.
 use Rattle.std.proofs.Common.{◌≡◌, ℕ, ◌+◌, ◌≤◌, List, ◌++◌, length, take, drop, sym, ap, ◌∙◌, subst, le_refl, drop_at, length-take-le}
-use Rattle.std.specs.declared.option.Option.{Option}
-use Rattle.std.specs.Io.KnownBytes.{Consumes}
-use Rattle.std.proofs.KnownBytes.{Consumes-trans}
-use Rattle.std.proofs.lemmas.Slice.{take-put_mid_below}
+use Rattle.std.specs.{declared.option.Option.Option, Io.KnownBytes.Consumes}
+use Rattle.std.proofs.{KnownBytes.Consumes-trans, lemmas.Slice.take-put_mid_below}
 use borrow.Rule.Slice.PartMut.{put_mid, post_of}
 use lib.Seq.{take-add, take-append-le}
 

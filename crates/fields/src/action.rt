@@ -9,6 +9,7 @@ use formula::{is_literal, read_formula};
 use model::{Fault, Limits, Refusal};
 
 // The effect at `at`, whose literal's byte is `least` or more: the position after it.
+#[inline(always)]
 fn read_effect(s: &[u8], at: usize, facts: u8, least: usize) -> Result<usize, Refusal>
     ensures { EffectRead s.now facts least at result }
 {

@@ -1,14 +1,5 @@
 -- Following line by line, the running value, and the test of it. Assumes nothing.
-use mathlib.Core.Path.{◌≡◌, refl, sym, ap, ap₂, ◌∙◌}
-use mathlib.Core.Bool.{Bool, true, false, cond}
-use mathlib.Core.List.{List, ◌∷◌}
-use Prim.Native.Nat.{ℕ, zero, suc, ◌+◌, ◌-◌, ◌*◌, ◌%◌, ◌^◌, ◌≤◌, ◌<◌}
-use native.Mathlib.Nat.{mul-zero, mul-add, mul-le-mul_left}
-use native.Mathlib.Numerals.{add-one}
-use native.Mathlib.Omega.{arith}
-use lib.ListN.{length, take}
-use lib.Dec.{eqb}
-use borrow.Author.Tests.{eq-eqb, ne_eqb}
+use Rattle.std.proofs.Common.{◌≡◌, refl, sym, ap, ap₂, ◌∙◌, Bool, true, false, cond, List, ◌∷◌, ℕ, zero, suc, ◌+◌, ◌-◌, ◌*◌, ◌%◌, ◌^◌, ◌≤◌, ◌<◌, mul-zero, mul-add, mul-le-mul_left, add-one, arith, length, take, eqb, eq-eqb, ne_eqb, min}
 use Rattle.model.specs.declared.Limits.{Limits}
 use Rattle.model.specs.Limits.{limits_of}
 use Rattle.model.specs.Answer as Answer
@@ -29,7 +20,6 @@ use Rattle.model.proofs.Laws.ListCodec.{length-lines_from}
 use Rattle.model.proofs.Laws.Tasks.{cover-is, follow-is, task-fits}
 use Rattle.model.proofs.Laws.RunningEnd.{same_answers}
 use Rattle.model.proofs.Guarantees.{limits-sensible}
-use Rattle.std.specs.Prelude.{min}
 use Rattle.std.proofs.lemmas.List.{take_min}
 use Rattle.fields.proofs.Readers.{header-got}
 use Rattle.blocks.specs.declared.task.Task as values

@@ -1,13 +1,7 @@
 -- The end of a cover as a sum that comes round, and the flag beside it. Assumes nothing.
-use mathlib.Core.Path.{◌≡◌, sym, ap, ◌∙◌}
-use mathlib.Core.Bool.{Bool, true, false, cond}
-use Prim.Native.Nat.{ℕ, ◌+◌, ◌-◌, ◌*◌, ◌%◌, ◌^◌, ◌≤◌, ◌<◌}
-use native.Mathlib.Nat.{pow-le-pow_right, lt_of_mul-lt-mul_right, mul-le-mul_right, add-mod-mod, mod-eq_of_lt, mod_self}
-use native.Mathlib.Omega.{arith}
+use Rattle.std.proofs.Common.{◌≡◌, sym, ap, ◌∙◌, Bool, true, false, cond, ℕ, ◌+◌, ◌-◌, ◌*◌, ◌%◌, ◌^◌, ◌≤◌, ◌<◌, lt_of_mul-lt-mul_right, mul-le-mul_right, mod-eq_of_lt, arith, eqb, eq-eqb, ne_eqb, pow_pos}
+use native.Mathlib.Nat.{pow-le-pow_right, add-mod-mod, mod_self}
 use native.Mathlib.Decide.{dec_lt}
-use lib.Dec.{eqb}
-use borrow.Author.Tests.{eq-eqb, ne_eqb}
-use lib.Pow.{pow_pos}
 use Rattle.model.proofs.Laws.Cover.{block-of-mod, pow-split, root-span}
 
 -- a case's numbers end within those of the width

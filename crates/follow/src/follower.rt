@@ -8,19 +8,21 @@ use blocks::Task;
 use cases::{Case, Cases, word_of};
 use lines::ListReader;
 use model::{Fault, Refusal};
-use runs::look;
+use runs::look_beside;
 use step::Conditions;
 
 // The case of the last line stands in every lane of `cases`: from one line to the next only the facts in which their cases differ are
-// touched.
+// touched. The plan is run on a copy of them.
 #[derive(Drop)]
 pub struct Follower<'a> {
     task: &'a Task<'a>,
     cases: Cases,
+    copy: Cases,
     case: Case,
     pub covered: Covered,
     conditions: Conditions,
     ghost facts: { cases.facts ≡ task.now.problem.now.facts },
+    ghost same: { copy.facts ≡ cases.facts },
     ghost fixed: { case.fixed ≤ cases.facts },
     ghost lanes: { (j : ℕ) → j < 64 → case_of cases j ≡ values_of cases.facts case } by { Prim.hlevel props },
 }
@@ -38,6 +40,7 @@ impl<'a> Follower<'a> {
         Follower {
             task,
             cases: Cases::first_case(task.problem.facts),
+            copy: Cases::empty_state(task.problem.facts),
             case: Case { fixed: 0, word: 0 },
             covered: Covered::nothing(),
             conditions: Conditions::new(),
@@ -65,7 +68,7 @@ impl<'a> Follower<'a> {
         };
         self.cases.set_case(self.case, case);
         self.case = case;
-        let looks = look(self.task, &self.cases, &mut self.conditions);
+        let looks = look_beside(self.task, &self.cases, &mut self.copy, &mut self.conditions);
         if looks.kind(0) != Some(line.kind) {
             return Err(Fault::LineClaim.at(place));
         }

@@ -12,11 +12,11 @@ use Rattle.formula.specs.Views.{is_denial}
 use Rattle.formula.specs.Literals.{literals, member_literals}
 
 -- bytes hold no formula only where there is none
-pub none-left : (s : List ℕ) → eqb (length s) 0 ≡ eqb (member_count (decode s)) 0
+pub none_left : (s : List ℕ) → eqb (length s) 0 ≡ eqb (member_count (decode s)) 0
 unfolding decode
-none-left [] = refl
-none-left (b ∷ []) = refl
-none-left (b ∷ n ∷ s) = ne_eqb (suc (suc (length s))) 0 (λ e. omega arith) ∙ sym (ne_eqb _ 0 (by-mark (ltb b 128)))
+none_left [] = refl
+none_left (b ∷ []) = refl
+none_left (b ∷ n ∷ s) = ne_eqb (suc (suc (length s))) 0 (λ e. omega arith) ∙ sym (ne_eqb _ 0 (by-mark (ltb b 128)))
   where
     by-mark : (t : Bool) → member_count (cond t (more (lit (literal_of b)) (decode (n ∷ s))) (gathered b n (decode s))) ≡ 0 → ⊥
     by-mark true e = omega arith
@@ -65,9 +65,9 @@ unfolding literals
 group-first conjunction n ms rest e = rw e (sym (first-after n rest))
 group-first disjunction n ms rest e = rw e (sym (first-after n rest))
 
-pub alone-literals : (m : Formula) (ms : Formulas) → ms ≡ more m none → member_literals ms ≡ literals m
+pub alone_literals : (m : Formula) (ms : Formulas) → ms ≡ more m none → member_literals ms ≡ literals m
 unfolding literals
-alone-literals m ms e = rw e (append-nil (literals m))
+alone_literals m ms e = rw e (append-nil (literals m))
 
 pub none-literals : (ms : Formulas) → eqb (member_count ms) 0 ≡ true → member_literals ms ≡ []
 unfolding literals

@@ -1,18 +1,14 @@
 -- The length field, and the whole formula after it, case by case. Assumes nothing.
-use Rattle.std.proofs.Common.{◌≡◌, refl, sym, Bool, true, false, ◌&&◌, List, ℕ, suc, ◌+◌, ◌*◌, ◌<◌, ◌≤◌, add-one, arith, length, get_or, take, drop, drop-cons, leb, lt-ltb, le-ltb, le-leb, leb-true, leb-false, Ok, Err}
+use Rattle.std.proofs.Common.{◌≡◌, refl, sym, Bool, true, false, ◌&&◌, List, ℕ, ◌+◌, ◌*◌, ◌<◌, ◌≤◌, arith, length, get_or, leb, lt-ltb, le-ltb, le-leb, leb-true, leb-false, Ok, Err}
 use borrow.Author.Tests.{lt-leb}
 use Rattle.model.specs.Limits.{max_formula_bytes, max_depth}
-use Rattle.model.specs.Read.{reject, got, Reader, and_then, done, position, require, big_endian_from, big_endian, byte, ◌>>=◌, ◌>>◌}
+use Rattle.model.specs.Read.{reject, got, Reader, and_then, done, position, require, byte, ◌>>=◌, ◌>>◌}
 use Rattle.model.specs.FormulaBytes.{item, stated, formula}
 use Rattle.model.specs.Faults.{fault_number, refusal_at}
 use Rattle.model.specs.declared.Refusal.{Refusal}
 use Rattle.model.specs.declared.fault.Fault.{Fault}
 use Rattle.formula.specs.Readings.{forgotten, rejected, stated_formula, EndStated}
 use Rattle.formula.proofs.Readers.{then_next, onto, then-onto}
-
-two_bytes : (s : List ℕ) (p : ℕ) → p + 1 < length s → get_or s p 0 * 256 + get_or s (p + 1) 0 ≡ big_endian (take 2 (drop p s))
-unfolding big_endian_from
-two_bytes s p h = rw (add-one p, drop-cons s p 0 (omega arith), drop-cons s (suc p) 0 (omega arith)) (omega arith)
 
 module _ (s : List ℕ) (p : ℕ) where
   pub stated-refuses : {f : Fault} {q : ℕ} {r : Refusal} → r ≡ refusal_at f q → reject (fault_number f) q ≡ stated s p → EndStated s p (Err r)
@@ -26,8 +22,11 @@ module _ (s : List ℕ) (p : ℕ) where
       go true e = let k = leb-true (length s) p e in simp le-ltb
       go false e = let k = leb-false (length s) p e in simp (lt-ltb, le-ltb)
 
-  -- the length n can be read
-  module _ (h : p + 1 < length s) (n : ℕ) (is : n ≡ big_endian (take 2 (drop p s))) where
+  -- the length can be read
+  module _ (h : p + 1 < length s) where
+    abbrev n : ℕ
+    n = get_or s p 0 * 256 + get_or s (p + 1) 0
+
     abbrev rest : Reader ℕ
     rest = do
       require (leb 1 n && leb n max_formula_bytes) 17 p
@@ -40,7 +39,7 @@ module _ (s : List ℕ) (p : ℕ) where
     stated-by =
         let i : p < length s = omega arith in
         let t : p + 1 + 1 ≡ p + 2 = omega arith in
-        simp (lt-ltb, t, two_bytes s p h, is)
+        simp (lt-ltb, t)
 
     pub stated-length : (1 ≤ n → n ≤ max_formula_bytes → ⊥) → reject 17 p ≡ stated s p
     unfolding ◌>>=◌ ◌>>◌ position and_then require

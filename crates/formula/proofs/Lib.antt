@@ -7,3 +7,4 @@ pub mod Decoding
 pub mod Encoding
 pub mod Leaves
 pub mod Sizes
+pub mod Plain

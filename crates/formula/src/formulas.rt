@@ -41,6 +41,7 @@ impl<'a> Formulas<'a> {
     ghost use Rattle.formula.specs.Views.{formulas, IsNext};
 
     // Those from byte n on.
+    #[tactic(auto, using(crate::proofs::Decoding::part))]
     #[inline(always)]
     fn from(self, n: usize) -> Formulas<'a>
         requires inside { n ≤ length self.bytes.now }
@@ -53,6 +54,7 @@ impl<'a> Formulas<'a> {
     }
 
     // Whether there is none.
+    #[tactic(auto, using(crate::proofs::Leaves::none_left))]
     #[inline(always)]
     pub fn is_empty(self) -> bool
         ensures { result ≡ eqb (member_count (formulas self.entry)) 0 }
@@ -119,6 +121,7 @@ impl<'a> Formula<'a> {
     }
 
     // It alone, as formulas.
+    #[tactic(auto, using(crate::proofs::Decoding::alone))]
     pub fn alone(self) -> Formulas<'a>
         ensures { IsOne (formula self.entry) result }
     {

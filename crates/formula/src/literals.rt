@@ -15,6 +15,7 @@ impl<'a> Formula<'a> {
     ghost use Rattle.formula.specs.Literals.{literals_left, literals};
 
     // Its literals.
+    #[tactic(auto, using(crate::proofs::Leaves::alone_literals))]
     #[inline(always)]
     pub fn literals(self) -> Literals<'a>
         ensures { literals_left result ≡ literals (formula self.entry) }

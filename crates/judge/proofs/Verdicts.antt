@@ -1,22 +1,13 @@
 -- The judge's verdict, by the walk of a whole task. Assumes nothing.
 use Rattle.std.proofs.Common.{◌≡◌, refl, sym, ap, ◌∙◌, inl, inr, List, ℕ, ◌-◌, ◌≤◌, arith, Ok, Err}
-use Rattle.model.specs.Limits.{limits_of}
-use Rattle.model.specs.Answer as Answer
-use Rattle.model.specs.Answer.{Answer, answered}
-use Rattle.model.specs.Case.{Task, run_of, IsState}
+use Rattle.model.specs.{Limits.limits_of, Answer.Answer, Answer.answered, Case.Task, Case.run_of, Case.IsState}
 use Rattle.model.specs.Walk.{Line, covered, failed, visits, walked, right, wrong}
-use Rattle.model.specs.Operations.{state_answer, read_task, line_count, judge}
-use Rattle.model.specs.Answers.{refusal, verdict}
+use Rattle.model.specs.{Operations.state_answer, Operations.read_task, Operations.line_count, Operations.judge, Answers.refusal, Answers.verdict, declared.Outcome.Outcome}
+use Rattle.model.specs.{declared.Refusal.Refusal, declared.Verdict.TheVariants.Right, declared.Verdict.TheVariants.Wrong, declared.Verdict.TheVariants.Undecided}
+use Rattle.model.specs.Answer as Answer
 use Rattle.model.specs.Answers as Answers
-use Rattle.model.specs.declared.Outcome.{Outcome}
-use Rattle.model.specs.declared.Refusal.{Refusal}
-use Rattle.model.specs.declared.Verdict.TheVariants.{Right, Wrong, Undecided}
-use Rattle.model.proofs.Laws.Verdicts.{walk-fails-first}
-use Rattle.model.proofs.Laws.Judging.{judged-in, judged-out}
-use Rattle.model.proofs.Laws.Tasks.{state-tested}
-use Rattle.walk.specs.declared.visits.Closed.{Closed}
-use Rattle.walk.specs.declared.visits.Stopped.TheVariants.{OutOfVisits, Failed}
-use Rattle.walk.specs.Walks.{Walks}
+use Rattle.model.proofs.{Laws.Verdicts.walk-fails-first, Laws.Judging.judged-in, Laws.Judging.judged-out, Laws.Tasks.state-tested}
+use Rattle.walk.specs.{declared.visits.Closed.Closed, declared.visits.Stopped.TheVariants.OutOfVisits, declared.visits.Stopped.TheVariants.Failed, Walks.Walks}
 use Rattle.judge.specs.Verdicts.{JudgesTask}
 
 -- a state is run

@@ -1,19 +1,11 @@
 -- Runs of stores, and the bytes of lines that they leave. Assumes nothing.
-use mathlib.Core.Path.{◌≡◌, refl, sym, ap, ◌∙◌}
-use mathlib.Core.List.{List, [], ◌∷◌, ◌++◌, append_assoc, append-nil}
-use Prim.Native.Nat.{ℕ, ◌+◌, ◌-◌, ◌*◌, ◌≤◌, ◌<◌}
-use native.Mathlib.Nat.{mul-zero, mul-suc, mul-add}
-use native.Mathlib.Omega.{arith}
-use lib.ListN.{length, length-append, set, take, drop, length-take, length-drop, length-set}
-use lib.Seq.{sets, length-sets}
+use Rattle.std.proofs.Common.{◌≡◌, refl, sym, ap, ◌∙◌, List, [], ◌∷◌, ◌++◌, append_assoc, append-nil, ℕ, ◌+◌, ◌-◌, ◌*◌, ◌≤◌, ◌<◌, mul-zero, mul-suc, arith, length, length-append, set, take, drop, length-set, length-take, length-drop}
+use native.Mathlib.Nat.{mul-add}
 use Rattle.std.proofs.lemmas.List.{drop_all}
+use lib.Seq.{sets, length-sets}
 use borrow.Rule.Slice.PartMut.{put_mid}
-use Rattle.model.specs.declared.Limits.{Limits}
-use Rattle.model.specs.Walk.{Line}
-use Rattle.model.specs.Read.{bytes_of}
-use Rattle.model.specs.ListBytes.{line_bytes, lines_bytes}
-use Rattle.model.proofs.Laws.Stores.{sets-append, part-put}
-use Rattle.model.proofs.Laws.Reading.{length-bytes_of}
+use Rattle.model.specs.{declared.Limits.Limits, Walk.Line, Read.bytes_of, ListBytes.line_bytes, ListBytes.lines_bytes}
+use Rattle.model.proofs.{Laws.Stores.sets-append, Laws.Stores.part-put, Laws.Reading.length-bytes_of}
 use Rattle.lines.specs.Putting.{filled, LinesLaid, AddsLine}
 
 -- kind and k are stored, and then all that is behind them
@@ -27,10 +19,8 @@ pub filled-is :
     out ≡ bytes_of (length (take (length (set (set line 0 a) 1 l.k) - 2) (drop 2 (set (set line 0 a) 1 l.k)))) l.value →
     put_mid 2 (length (set (set line 0 a) 1 l.k) - 2) (set (set line 0 a) 1 l.k) out ≡ filled (length line) l
 filled-is line l a out h e w =
-    let s : length (set (set line 0 a) 1 l.k) ≡ length line = length-set (set line 0 a) 1 l.k ∙ length-set line 0 a in
-    let n : length (take (length (set (set line 0 a) 1 l.k) - 2) (drop 2 (set (set line 0 a) 1 l.k))) ≡ length line - 2 =
-    length-take (length (set (set line 0 a) 1 l.k) - 2) (drop 2 (set (set line 0 a) 1 l.k)) ∙ omega (arith, length-drop 2 (set (set line 0 a) 1 l.k), s) in
-    behind-two line a l.k (length (set (set line 0 a) 1 l.k) - 2) out h (omega (arith, s)) ∙ rw (w, n, e)
+    let n : length (take (length (set (set line 0 a) 1 l.k) - 2) (drop 2 (set (set line 0 a) 1 l.k))) ≡ length line - 2 = simp (length-take, length-drop, length-set) (omega arith) in
+    behind-two line a l.k (length (set (set line 0 a) 1 l.k) - 2) out h (simp length-set (omega arith)) ∙ rw (w, n, e)
 
 module _ (F : Limits) where
   lines-append : (ls ms : List Line) → lines_bytes F (ls ++ ms) ≡ lines_bytes F ls ++ lines_bytes F ms

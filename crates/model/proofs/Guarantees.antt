@@ -1,21 +1,6 @@
 -- What is guaranteed holds of every version whose numbers are sensible, and so of version 1. Assumes nothing.
-use mathlib.Core.Path.{◌≡◌, refl}
-use mathlib.Core.Bool.{Bool, true, false, cond}
-use mathlib.Core.List.{List}
-use Prim.Native.Nat.{ℕ}
-use lib.ListN.{length, get_or}
-use lib.Dec.{eqb}
-use native.Mathlib.Omega.{arith}
-use Rattle.model.specs.declared.Limits.{Limits}
-use Rattle.model.specs.Limits.{version1, version2, limits_of}
+use Rattle.model.proofs.Words.{refl, Bool, true, false, cond, List, ℕ, length, get_or, eqb, arith, Limits, version1, version2, limits_of, block, problem, problem_of, plan, plan_of, encode_problem, encode_plan, encode_list, read_task, list_for, write_list, Sensible, AllInput, Guarantees, Theorems}
 use Rattle.model.specs.Answer as Answer
-use Rattle.model.specs.Read.{block}
-use Rattle.model.specs.ProblemBytes.{Problem, problem, problem_of, plan, plan_of, encode_problem, encode_plan}
-use Rattle.model.specs.ListBytes.{encode_list}
-use Rattle.model.specs.Operations.{read_task, list_for, write_list}
-use Rattle.model.specs.WellFormed.{Sensible}
-use Rattle.model.specs.Guarantees.{AllInput, Guarantees}
-use Rattle.model.specs.Theorems.{Theorems}
 use Rattle.model.proofs.Laws.Conflicts.{order-free-two, order-free-three}
 use Rattle.model.proofs.Laws.Reading.{answer-got}
 use Rattle.model.proofs.Laws.ProblemCodec.{problem-gives, problem-ok, plan-gives, plan-ok}
@@ -66,30 +51,10 @@ module _ (F : Limits) (S : Sensible F) where
       }
 
 pub version1-sensible : Sensible version1
-version1-sensible =
-    record {
-      version = refl;
-      facts = omega arith;
-      effects = omega arith;
-      line = omega arith;
-      lines = omega arith;
-      word = omega arith;
-      width = omega arith;
-      bits = omega arith;
-    }
+version1-sensible = grind arith
 
 pub version2-sensible : Sensible version2
-version2-sensible =
-    record {
-      version = refl;
-      facts = omega arith;
-      effects = omega arith;
-      line = omega arith;
-      lines = omega arith;
-      word = omega arith;
-      width = omega arith;
-      bits = omega arith;
-    }
+version2-sensible = grind arith
 
 -- the version that a problem's block begins with
 pub limits-sensible : (problem : List ℕ) → Sensible (limits_of problem)
@@ -102,15 +67,8 @@ limits-sensible problem = of-version (eqb (get_or problem 0 0) 2)
 pub guarantees-of : (problem : List ℕ) → Guarantees (limits_of problem)
 guarantees-of problem = guarantees-hold (limits_of problem) (limits-sensible problem)
 
-begins-with-1 : (p : Problem) → limits_of (encode_problem version1 p) ≡ version1
-unfolding encode_problem block
-begins-with-1 p = refl
-
-begins-with-2 : (p : Problem) → limits_of (encode_problem version2 p) ≡ version2
-unfolding encode_problem block
-begins-with-2 p = refl
-
 pub theorems-hold : Theorems
+unfolding encode_problem block
 theorems-hold =
     record {
       guarantees = guarantees-hold;
@@ -119,8 +77,8 @@ theorems-hold =
       version2_sensible = version2-sensible;
       version2_guarantees = guarantees-hold version2 version2-sensible;
       guarantees_of = guarantees-of;
-      begins_with_1 = begins-with-1;
-      begins_with_2 = begins-with-2;
+      begins_with_1 = λ p. refl;
+      begins_with_2 = λ p. refl;
       kleene = kleene-sound;
       running_ends = running-end;
       free_in_states = order-free-two;

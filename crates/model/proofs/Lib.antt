@@ -1,3 +1,4 @@
+pub mod Words
 pub mod Laws
 pub mod Guarantees
 pub mod Trials

@@ -1,13 +1,7 @@
 -- Numbers in bytes, one byte more at a time. Assumes nothing.
-use mathlib.Core.Path.{◌≡◌, refl}
-use mathlib.Core.List.{List, [], ◌∷◌, ◌++◌}
-use Prim.Native.Nat.{ℕ, suc, ◌+◌, ◌-◌, ◌*◌, ◌/◌, ◌%◌, ◌^◌, ◌≤◌, ◌<◌}
+use Rattle.std.proofs.Common.{◌≡◌, refl, List, [], ◌∷◌, ◌++◌, ℕ, suc, ◌+◌, ◌-◌, ◌*◌, ◌/◌, ◌%◌, ◌^◌, ◌≤◌, ◌<◌, add-one, arith, length, get_or, take, drop, set}
+use Rattle.std.proofs.lemmas.List.{take_more, drop-set}
 use native.Mathlib.Nat.{pow-suc, pow-le-pow_right, div-div-eq-div-mul}
-use native.Mathlib.Numerals.{add-one}
-use native.Mathlib.Omega.{arith}
-use lib.ListN.{length, get_or, take, drop, set}
-use lib.Seq.{take-suc}
-use Rattle.std.proofs.lemmas.List.{drop-set}
 use Rattle.model.specs.Read.{big_endian_from, big_endian, bytes_of}
 
 -- ---- reading
@@ -18,11 +12,11 @@ from_last [] a b = refl
 from_last (x ∷ xs) a b = from_last xs (a * 256 + x) b
 
 pub one_more : (s : List ℕ) (i x : ℕ) → i < length s → x ≡ big_endian (take i s) → x * 256 + get_or s i 0 ≡ big_endian (take (i + 1) s)
-one_more s i x h e = rw (add-one, take-suc s i 0 h, from_last, e)
+one_more s i x h e = rw (take_more s i 0 h, from_last, e)
 
 -- i bytes, and one more
 pub grows : (i x b : ℕ) → x < 256 ^ i → b < 256 → x * 256 + b < 256 ^ (i + 1)
-grows i x b h k = let z : i + 1 ≡ suc i = omega arith in rw (z, pow-suc 256 i) (omega arith)
+grows i x b h k = rw (add-one, pow-suc 256 i) (omega arith)
 
 pub fits : (i x b : ℕ) → i < 8 → x < 256 ^ i → b < 256 → x * 256 + b < 2 ^ 64
 fits i x b l h k = omega (arith, grows i x b h k, pow-le-pow_right {n = 256} (omega arith) {i = i + 1} {j = 8} (omega arith))

@@ -1,15 +1,13 @@
 -- The program reads one byte more than a block may have: a file that is cut there has the same text. Assumes nothing.
-use Rattle.std.proofs.Common.{◌≡◌, refl, sym, ap, ◌∙◌, Bool, true, false, List, ◌++◌, ℕ, ◌+◌, ◌<◌, arith, leb, length, take, take_all, length-take-le, leb-true, leb-false, [], ◌∷◌}
+use Rattle.std.proofs.Common.{◌≡◌, refl, sym, ap, ◌∙◌, List, ◌++◌, ℕ, ◌+◌, ◌<◌, arith, length, take, take_all, length-take-le, [], ◌∷◌}
 use borrow.Author.Tests.{lt-leb}
-use Rattle.model.specs.declared.Limits.{Limits}
-use Rattle.model.specs.Limits.{limits_of, max_problem_bytes}
-use Rattle.model.specs.Answer as Answer
-use Rattle.model.specs.Answer.{Answer, refused, answered}
-use Rattle.model.specs.Read as Read
+use native.Mathlib.Decide.{dec_lt}
+use Rattle.model.specs.{declared.Limits.Limits, Limits.limits_of, Limits.max_problem_bytes, Answer.Answer, Answer.refused, Answer.answered}
 use Rattle.model.specs.Read.{Reader, reject, and_then, require, answer_of, head_bytes, header}
-use Rattle.model.specs.ProblemBytes.{problem, problem_of, plan, plan_of}
-use Rattle.model.specs.Operations.{task_of, read_task}
+use Rattle.model.specs.{ProblemBytes.problem, ProblemBytes.problem_of, ProblemBytes.plan, ProblemBytes.plan_of, Operations.task_of, Operations.read_task}
 use Rattle.model.specs.DeskText.{answer_line, answer_rest, first_line, later_lines, desk_text}
+use Rattle.model.specs.Answer as Answer
+use Rattle.model.specs.Read as Read
 use Rattle.page.specs.Cut.{max_plan_bytes, CutFilesKeepTheirText}
 
 header-over :
@@ -27,12 +25,11 @@ plan-over m t h = rw (header-over t 30 max_plan_bytes (Read.of_version t 1 32) 0
 
 -- an answer that is the same for all that is over the limit
 cut : {A : Type 0} (f : List ℕ → Answer A) (most : ℕ) (x : Answer A) → ((s : List ℕ) → most < length s → f s ≡ x) → (s : List ℕ) → f (take (most + 1) s) ≡ f s
-cut f most x over s = by (leb (length s) most) refl where
-  by : (b : Bool) → leb (length s) most ≡ b → f (take (most + 1) s) ≡ f s
-  by true e = ap f (take_all (most + 1) s (omega (arith, leb-true (length s) most e)))
-  by false e =
-      let h = leb-false (length s) most e in
-      over (take (most + 1) s) (omega (arith, h, length-take-le (most + 1) s (omega (arith, h)))) ∙ sym (over s h)
+cut f most x over s =
+    elim (dec_lt most (length s)) [
+      | yes h ↦ over (take (most + 1) s) (omega (arith, length-take-le (most + 1) s (omega arith))) ∙ sym (over s h)
+      | no h ↦ ap f (take_all (most + 1) s (omega arith))
+    ]
 
 -- what is cut off is no block's version
 same-version : (s : List ℕ) → limits_of (take (max_problem_bytes + 1) s) ≡ limits_of s

@@ -2,4 +2,3 @@ pub mod Cutting
 pub mod Listing
 pub mod Marking
 pub mod Paging
-pub mod Room

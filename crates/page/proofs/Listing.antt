@@ -1,8 +1,6 @@
 -- The lines of a list block, one by one. Assumes nothing.
 use Rattle.std.proofs.Common.{◌≡◌, refl, sym, ap, ◌∙◌, List, ◌++◌, append_assoc, append-nil, ℕ, zero, suc, ◌+◌, ◌*◌, mul-zero, mul-suc, add-one, arith}
-use Rattle.model.specs.declared.Limits.{Limits}
-use Rattle.model.specs.ListBytes.{line_at, lines_from}
-use Rattle.model.specs.DeskText.{line_text, lines_text}
+use Rattle.model.specs.{declared.Limits.Limits, ListBytes.line_at, ListBytes.lines_from, DeskText.line_text, DeskText.lines_text}
 
 module _ (F : Limits) (n : ℕ) (list : List ℕ) where
   abbrev lines : ℕ → ℕ → List ℕ

@@ -1,28 +1,12 @@
 -- A value's marks, fact by fact. Assumes nothing.
-use Rattle.std.proofs.Common.{◌≡◌, sym, refl, Bool, true, false, cond, [], ◌∷◌, ◌++◌, ℕ, zero, suc, ◌+◌, ◌-◌, ◌/◌, ◌%◌, ◌^◌, ◌<◌, add-one, arith, ltb, lt-ltb, ne_eqb, Result, Ok, Err, IsOk, MatchResult}
+use Rattle.std.proofs.Common.{◌≡◌, sym, refl, [], ◌∷◌, ◌++◌, ℕ, zero, suc, ◌+◌, ◌<◌, add-one, arith, Result, Ok, Err, IsOk, MatchResult}
 use Rattle.std.specs.Str.{IsAscii, IsUtf8}
 use Rattle.std.proofs.lemmas.Str.{IsUtf8-from_ascii}
-use Rattle.model.specs.Action.{tabulate}
+use Rattle.model.specs.{Action.tabulate, DeskText.mark, DeskText.marks}
 use Rattle.model.proofs.Laws.Tabulate.{tabulate-last}
-use Rattle.model.specs.Case.{bit}
-use Rattle.model.specs.DeskText.{mark, marks}
 
-module _ (w k v i : ℕ) where
-  -- a bit of the value, shifted down to the lowest place
-  pub mark-yes : (n : ℕ) → i < k → n ≡ w - suc i → v / 2 ^ n % 2 ≡ 1 → 49 ≡ mark w k v i
-  unfolding bit
-  mark-yes n h e b = rw (lt-ltb i k h, ← e, b)
-
-  pub mark-no : (n : ℕ) → i < k → n ≡ w - suc i → (v / 2 ^ n % 2 ≡ 1 → ⊥) → 48 ≡ mark w k v i
-  unfolding bit
-  mark-no n h e b = rw (lt-ltb i k h, ← e, ne_eqb _ _ b)
-
-  mark-ascii : mark w k v i < 128
-  mark-ascii = by (ltb i k) (bit w v i) where
-    by : (a b : Bool) → cond a (cond b 49 48) 63 < 128
-    by true true = omega arith
-    by true false = omega arith
-    by false b = omega arith
+mark-ascii : (w k v i : ℕ) → mark w k v i < 128
+mark-ascii w k v i = grind arith
 
 tabulate-ascii : (n : ℕ) (f : ℕ → ℕ) → ((i : ℕ) → f i < 128) → IsAscii (tabulate n f)
 tabulate-ascii zero f h i = omega arith

@@ -1,31 +1,19 @@
 -- The page of a problem and a plan is the definition's text. Assumes nothing.
 use Rattle.std.proofs.Common.{◌≡◌, refl, sym, ap, ap₂, ◌∙◌, subst, Bool, true, false, List, [], ◌++◌, ℕ, ◌+◌, ◌*◌, ◌≤◌, mul-le-mul_left, arith, leb, length, take, drop, length-take-le, leb-true, Ok, Err}
 use lib.Seq.{sets, sets-eq}
-use Rattle.model.specs.declared.Limits.{Limits}
-use Rattle.model.specs.declared.Refusal.{Refusal}
-use Rattle.model.specs.declared.Verdict as declared
-use Rattle.model.specs.Limits.{limits_of}
-use Rattle.model.specs.Answer.{answered}
-use Rattle.model.specs.Answers.{refusal, verdict, judge_answer}
-use Rattle.model.specs.Case as model
-use Rattle.model.specs.Read.{head_bytes}
-use Rattle.model.specs.Walk.{Line, walked, Verdict, right, wrong, undecided, judged}
-use Rattle.model.specs.Operations.{read_task, line_count}
-use Rattle.model.specs.ListBytes.{lines_from, lines_bytes}
-use Rattle.model.specs.WellFormed.{LineOk, Each, Sensible}
-use Rattle.model.proofs.Laws.Spans.{Span}
+use Rattle.model.specs.{declared.Limits.Limits, declared.Refusal.Refusal, Limits.limits_of, Answer.answered, Answers.refusal, Answers.verdict, Answers.judge_answer}
+use Rattle.model.specs.{Read.head_bytes, Walk.Line, Walk.walked, Walk.Verdict, Walk.right, Walk.wrong, Walk.undecided, Walk.judged}
+use Rattle.model.specs.{Operations.read_task, Operations.line_count, ListBytes.lines_from, ListBytes.lines_bytes, WellFormed.LineOk, WellFormed.Each, WellFormed.Sensible}
 use Rattle.model.specs.DeskText.{judged_line, lines_text, list_text, verdict_rest, desk_grant, answer_line, answer_rest, first_line, later_lines, desk_text}
-use Rattle.model.proofs.Laws.Reading.{split, span-length, is_whole}
+use Rattle.model.specs.declared.Verdict as declared
+use Rattle.model.specs.Case as model
+use Rattle.model.proofs.{Laws.Spans.Span, Laws.Reading.split, Laws.Reading.span-length, Laws.Reading.is_whole}
+use Rattle.model.proofs.{Laws.Verdicts.Means, Laws.Verdicts.judged-means, Laws.Verdicts.walk-passes, Laws.Lists.follows-ok}
 use Rattle.model.proofs.Laws.ListCodec as codec
-use Rattle.model.proofs.Laws.Verdicts.{Means, judged-means, walk-passes}
-use Rattle.model.proofs.Laws.Lists.{follows-ok}
-use Rattle.blocks.specs.declared.problem.Problem.{Problem}
-use Rattle.blocks.specs.declared.task.Task.{Task}
-use Rattle.blocks.specs.Values.{task}
+use Rattle.blocks.specs.{declared.problem.Problem.Problem, declared.task.Task.Task, Values.task}
 use Rattle.blocks.proofs.Tasks.{task-width, task-facts}
 use Rattle.lines.specs.Putting.{LinesLaid}
-use Rattle.walk.specs.declared.page.Page.{Page}
-use Rattle.walk.specs.Pages.{PutsLines}
+use Rattle.walk.specs.{declared.page.Page.Page, Pages.PutsLines}
 use Rattle.judge.specs.Verdicts.{HasLines, JudgesTask}
 use Rattle.page.specs.Pages.{following, page_of}
 

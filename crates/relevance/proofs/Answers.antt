@@ -1,41 +1,35 @@
 -- What is refused, and what is answered of a task that was read. Assumes nothing.
-use mathlib.Core.Path.{◌≡◌, refl, sym, ap, ap₂, ◌∙◌}
-use mathlib.Core.Bool.{Bool, true, false, cond}
-use mathlib.Core.List.{List, ◌++◌}
-use Prim.Native.Nat.{ℕ, suc, ◌+◌, ◌*◌, ◌≤◌}
-use native.Mathlib.Nat.{mul-le-mul_left, mul-le-mul_right, le_trans}
-use native.Mathlib.Omega.{arith}
-use lib.ListN.{length, take, drop}
-use lib.Seq.{sets-eq, take_at}
-use lib.Dec.{ltb}
-use Rattle.std.specs.Prelude.{Result, Ok, Err}
+use Rattle.std.proofs.Common.{◌≡◌, refl, sym, ap, ap₂, subst, ◌∙◌, Bool, true, false, cond, List, ◌++◌, ℕ, suc, ◌+◌, ◌*◌, ◌≤◌, ◌<◌, mul-le-mul_left, mul-le-mul_right, le_trans, arith, length, take, drop, take_at, ltb, Result, Ok, Err, ltb-false}
+use lib.Seq.{sets-eq}
 use Rattle.model.specs.declared.Refusal.{Refusal}
 use Rattle.model.specs.Faults.{fault_number}
-use Rattle.model.specs.Limits.{limits_of, max_steps}
+use Rattle.model.specs.Limits.{limits_of, max_facts, max_steps}
 use Rattle.model.specs.Answer as Answer
 use Rattle.model.specs.Answer.{Answer, refused, answered}
 use Rattle.model.specs.Answers.{refusal, plain_answer}
 use Rattle.model.specs.Run as Run
 use Rattle.model.specs.Run.{run}
 use Rattle.model.specs.Case.{state_of, Task, run_of}
-use Rattle.model.specs.Relevance.{relevant, states, rows, number_of, relevant_to, work_bytes, run_rows}
+use Rattle.model.specs.Action.{tabulate}
+use Rattle.model.specs.Relevance.{names, relevant, states, rows, number_of, relevant_to, work_bytes, run_rows}
 use Rattle.model.specs.Operations.{when_reached, read_task, reached_task, relevant_facts}
 use Rattle.model.proofs.Laws.Relevance.{relevant-length, start-length}
+use Rattle.model.proofs.Laws.Tabulate.{length-tabulate}
 use Rattle.model.proofs.Laws.Tracing.{rows-length}
-use borrow.Author.Tests.{ltb-false}
 use Rattle.blocks.specs.declared.problem.Problem as problems
 use Rattle.blocks.specs.declared.task.Task as tasks
 use Rattle.blocks.specs.Values.{task}
 use Rattle.blocks.proofs.Tasks.{task-facts, plan-length}
 use Rattle.cases.specs.declared.cases.Cases.{Cases}
-use Rattle.cases.specs.Cases.{case_of}
 use Rattle.backward.specs.declared.facts.FactSet.{FactSet}
-use Rattle.backward.specs.Facts.{HasFacts}
-use Rattle.backward.specs.Rows.{Shows, WithinTask, PutsRun, TracesBack}
-use Rattle.backward.proofs.Writing.{rows_in}
+use Rattle.backward.specs.declared.matters.Mark.{Mark}
+use Rattle.backward.specs.Facts.{has_fact, HasFacts}
+use Rattle.backward.specs.Marks.{WithinTask, TracesBack}
+use Rattle.backward.specs.Rows.{Shows, PutsRun}
+use Rattle.backward.proofs.Tracing.{by-rule, relevant-is}
 use Rattle.runs.specs.States.{HasState, StateOf}
-use Rattle.runs.proofs.States.{case-known, state-run}
-use Rattle.relevance.specs.Tracing.{ChecksRun, ChecksRoom, TracesRows}
+use Rattle.runs.proofs.States.{case-known}
+use Rattle.relevance.specs.Tracing.{ChecksRun, ChecksRoom, TracesMarks}
 
 -- ---- the operation
 
@@ -81,11 +75,14 @@ is-reached (Run.blocked p) e = cc
 -- ---- what a run that is reached is answered with
 
 -- the number of the set
-pub traces-rows :
-    (T : Task) → T.facts ≤ T.width → (c : Cases) (rows : List ℕ) (set : FactSet) → TracesBack T c rows set →
-    (r : ℕ) → ((m : List Bool) → length m ≤ T.width → HasFacts set m → r ≡ number_of T.width m) → TracesRows T c rows r
-traces-rows T n≤w c rows set B r N within st size held last =
-    N (relevant T.facts T.goal T.plan st) (omega (arith, relevant-length T.facts T.goal T.plan st, n≤w)) (B within st size held last)
+pub traces-marks :
+    (T : Task) → T.facts ≤ T.width → (ms : List Mark) (after set : FactSet) → ((f : ℕ) → f < max_facts → has_fact after f ≡ names T.goal f) →
+    TracesBack T ms after set → (r : ℕ) → ((m : List Bool) → length m ≤ T.width → HasFacts set m → r ≡ number_of T.width m) → TracesMarks T ms r
+traces-marks T n≤w ms after set G B r N within st size marked =
+    let n = T.facts in
+    let goal-set = by-rule n after (names T.goal) G within.goal in
+    N (relevant n T.goal T.plan st) (omega (arith, relevant-length n T.goal T.plan st, n≤w))
+    (subst (HasFacts set) (sym (relevant-is n T.goal T.plan st)) (B within st size marked (tabulate n (names T.goal)) (length-tabulate n (names T.goal)) goal-set))
 
 -- the set of facts that the run of the state in lane 0 rests on, and the work area after it, if the run is reached
 abbrev TracesTask : Task → Cases → List ℕ → ℕ → List ℕ → Type 0
@@ -93,21 +90,19 @@ TracesTask T c before r after =
     (s : ℕ) → Shows c (state_of T.width T.facts s) → run_of T s ≡ Run.reached → (r ≡ relevant_to T s) × (after ≡ run_rows T s ++ drop (work_bytes T) before)
 
 -- the run of a state, written down, copied and gone through backward
-module _ (T : Task) (n≤w : T.facts ≤ T.width) (within : WithinTask T) (c d : Cases) (blank rows' : List ℕ) (fits : work_bytes T ≤ length blank)
-    (P : PutsRun T c blank d rows') (r : ℕ) (B : TracesRows T d rows' r) (before part : List ℕ) (need : ℕ)
+module _ (T : Task) (n≤w : T.facts ≤ T.width) (within : WithinTask T) (c : Cases) (blank rows' : List ℕ) (ms : List Mark) (fits : work_bytes T ≤ length blank)
+    (P : PutsRun T c blank rows' ms) (r : ℕ) (B : TracesMarks T ms r) (before part : List ℕ) (need : ℕ)
     (need-is : need ≡ work_bytes T) (copied : part ≡ take need rows') where
   pub traces-task : TracesTask T c before r (part ++ drop need before)
   unfolding relevant_to run_rows run_of
   traces-task s shown reaches =
       let st = state_of T.width T.facts s in
       let size = start-length T n≤w s in
-      let (written, last) = P st size shown reaches in
+      let (written, marked) = P st size shown reaches in
       let run' = rows (states T.facts T.plan st) in
       let z : length run' ≡ work_bytes T = rows-length T.facts T.plan st size in
-      let held : take need rows' ≡ run' = rw (need-is, written ∙ sets-eq run' blank 0 (omega (arith, z, fits))) (take_at run' _ (work_bytes T) z) in (
-        B within st size (rows_in T.facts T.plan st size blank rows' fits written) last,
-        rw (copied ∙ held, need-is) refl,
-      )
+      let held : take need rows' ≡ run' = rw (need-is, written ∙ sets-eq run' blank 0 (omega (arith, z, fits))) (take_at run' _ (work_bytes T) z) in
+      (B within st size marked, rw (copied ∙ held, need-is) refl)
 
 -- ---- the answer of a task that was read
 
@@ -119,7 +114,7 @@ module _ (problem plan : List ℕ) (T : Task) (read : read_task (limits_of probl
   unfolding reached_task Answer.◌>>=◌
   relevant-no-state y (none, e) = leaves-refused problem plan s before (fault_number y.fault) y.place (rw (read, none, e) refl)
 
-  module _ (c : Cases) (H : HasState T s c) where
+  module _ (n≤w : T.facts ≤ T.width) (c : Cases) (H : HasState T s c) where
     shows : Shows c (state_of T.width T.facts s)
     shows = H.cases 0 (omega arith) ∙ case-known T.width T.facts s
 
@@ -127,14 +122,15 @@ module _ (problem plan : List ℕ) (T : Task) (read : read_task (limits_of probl
     unfolding reached_task Answer.◌>>=◌
     checked = rw (read, H.is) refl
 
-    ran : (r : Result (Unit {0}) Refusal) → ChecksRun T (case_of c 0) r → plain_answer r ≡ when_reached (run_of T s) passed
-    ran r R = R ∙ ap (λ (o : Run.Outcome). when_reached o passed) (state-run T s c H)
+    ran : (r : Result (Unit {0}) Refusal) → ChecksRun T c r → plain_answer r ≡ when_reached (run_of T s) passed
+    unfolding run_of
+    ran r R = R (state_of T.width T.facts s) (start-length T n≤w s) shows
 
-    pub relevant-unrun : (y : Refusal) → ChecksRun T (case_of c 0) (Err y) → Leaves problem plan s before (refusal y) before
+    pub relevant-unrun : (y : Refusal) → ChecksRun T c (Err y) → Leaves problem plan s before (refusal y) before
     relevant-unrun y R =
         leaves-refused problem plan s before (fault_number y.fault) y.place (checked ∙ not-reached (run_of T s) (fault_number y.fault) y.place (ran (Err y) R) _)
 
-    module _ (u : Unit {0}) (R : ChecksRun T (case_of c 0) (Ok u)) where
+    module _ (u : Unit {0}) (R : ChecksRun T c (Ok u)) where
       reaches : run_of T s ≡ Run.reached
       reaches = is-reached (run_of T s) (ran (Ok u) R)
 

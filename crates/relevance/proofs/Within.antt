@@ -1,12 +1,7 @@
 -- A task that was read names declared facts only, and has few steps. Assumes nothing.
-use mathlib.Core.Path.{◌≡◌, sym, subst}
-use mathlib.Core.Bool.{Bool, true, false, false≢true, cond}
-use mathlib.Core.Logic.{inl, inr}
-use mathlib.Core.List.{List, [], ◌∷◌}
-use Prim.Native.Nat.{ℕ, zero, suc, ◌+◌, ◌≤◌, ◌<◌}
-use native.Mathlib.Omega.{arith}
-use lib.ListN.{length, get_or, length-map}
-use borrow.Author.Tests.{eqb-true}
+use Rattle.std.proofs.Common.{◌≡◌, sym, subst, Bool, true, false, cond, inl, inr, List, [], ◌∷◌, ℕ, zero, suc, ◌+◌, ◌≤◌, ◌<◌, arith, length, get_or, eqb-true}
+use mathlib.Core.Bool.{false≢true}
+use lib.ListN.{length-map}
 use Rattle.model.specs.declared.Limits.{Limits}
 use Rattle.model.specs.Limits.{limits_of, max_depth, max_steps}
 use Rattle.model.specs.Formula.{Literal, fact, denial, Formula, Formulas, lit, all, any, none, more}
@@ -22,7 +17,7 @@ use Rattle.model.proofs.Laws.Truth.{or_cases}
 use Rattle.model.proofs.Laws.Tasks.{answer-then}
 use Rattle.model.proofs.Guarantees.{guarantees-of}
 use Rattle.blocks.proofs.Tasks.{step-action}
-use Rattle.backward.specs.Rows.{WithinAction, WithinTask}
+use Rattle.backward.specs.Marks.{WithinAction, WithinTask}
 
 mutual
   unfolding names Formed

@@ -4,12 +4,11 @@ ghost use Rattle.model.specs.Limits.{limits_of};
 ghost use Rattle.model.specs.Operations.{relevant_facts};
 ghost use Rattle.model.specs.Answers.{plain_answer};
 ghost use Rattle.blocks.specs.Values.{task as task_of};
-ghost use Rattle.cases.specs.Cases.{case_of};
 ghost use Rattle.backward.specs.Rows.{PutsRun};
-ghost use Rattle.relevance.specs.Tracing.{ChecksRun, ChecksRoom, TracesRows};
+ghost use Rattle.relevance.specs.Tracing.{ChecksRun, ChecksRoom, TracesMarks};
 ghost use Rattle.relevance.specs.Promise.{RelevantPromised};
 
-use backward::{put_run, trace_back};
+use backward::{Mark, named_facts, put_run, trace_back};
 use blocks::{Problem, Task};
 use cases::Cases;
 use model::{Fault, Plan, Problem as Bounds, Refusal};
@@ -18,15 +17,21 @@ use runs::state_cases;
 // The rows of the longest run, of as many facts as there may be.
 const MOST_ROWS: usize = (Plan::MAX_STEPS + 1) * Bounds::MAX_FACTS_V2 as usize;
 
-// Refuses the run of the state that the cases have, unless it reaches the goal: then the rows have it, and the cases its last state.
-fn check_run(task: &Task, cases: &mut Cases, rows: &mut [u8]) -> Result<(), Refusal>
+// Refuses the run of the state that the cases have, unless it reaches the goal: then the rows have its states, and the marks its steps.
+fn check_run(
+    task: &Task,
+    cases: &mut Cases,
+    rows: &mut [u8],
+    marks: &mut [Mark],
+) -> Result<(), Refusal>
     requires facts { cases.old.facts ≡ task.now.problem.now.facts }
     requires room { suc (length task.now.steps.now) * cases.old.facts ≤ length rows.old }
+    requires marks { length task.now.steps.now ≤ length marks.old }
     ensures facts { cases.new.facts ≡ cases.old.facts }
-    ensures puts { PutsRun (task_of task.now) cases.old rows.old cases.new rows.new }
-    ensures checks { ChecksRun (task_of task.now) (case_of cases.old 0) result }
+    ensures puts { PutsRun (task_of task.now) cases.old rows.old rows.new marks.new }
+    ensures checks { ChecksRun (task_of task.now) cases.old result }
 {
-    if !put_run(task, cases, rows) {
+    if !put_run(task, cases, rows, marks) {
         return Err(Fault::RunNotReached.at(0));
     }
     Ok(())
@@ -42,13 +47,12 @@ fn check_room(need: usize, room: usize) -> Result<(), Refusal>
     Ok(())
 }
 
-// The number of the set of facts that matter before the run whose states the rows have, and whose last one the cases have.
-fn trace_rows(task: &Task, cases: &mut Cases, rows: &[u8]) -> u64
-    requires facts { cases.old.facts ≡ task.now.problem.now.facts }
-    requires room { suc (length task.now.steps.now) * cases.old.facts ≤ length rows.now }
-    ensures { TracesRows (task_of task.now) cases.old rows.now result }
+// The number of the set of facts that matter before the run whose steps have these marks.
+fn trace_marks(task: &Task, marks: &[Mark]) -> u64
+    requires { length task.now.steps.now ≤ length marks.now }
+    ensures { TracesMarks (task_of task.now) marks.now result }
 {
-    let relevant = trace_back(task, cases, rows);
+    let relevant = trace_back(task, marks, named_facts(task.problem.goal));
     relevant.number_of(task.problem.limits.width)
 }
 
@@ -69,9 +73,10 @@ pub fn relevant_facts(
     let mut cases = state_cases(&task, state)?;
     // The work area may not change before the last refusal is ruled out, so the run is written down apart.
     let mut rows = [0u8; MOST_ROWS];
-    check_run(&task, &mut cases, &mut rows)?;
+    let mut marks = [Mark::NONE; Plan::MAX_STEPS];
+    check_run(&task, &mut cases, &mut rows, &mut marks)?;
     let need = (task.steps.len() + 1) * found.facts as usize;
     check_room(need, work.len())?;
     work[..need].copy_from_slice(&rows[..need]);
-    Ok(trace_rows(&task, &mut cases, &rows))
+    Ok(trace_marks(&task, &marks))
 }

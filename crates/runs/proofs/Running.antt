@@ -1,9 +1,6 @@
 -- Runs in lanes, a step at a time: what is left of them, and in which lanes they reach the goal. Assumes nothing.
-use Rattle.std.proofs.Common.{◌≡◌, refl, sym, ap, ◌∙◌, subst, Bool, true, false, List, [], ◌∷◌, ℕ, zero, suc, ◌+◌, ◌-◌, ◌≤◌, ◌<◌, min, length, drop, arith}
+use Rattle.std.proofs.Common.{◌≡◌, refl, sym, ap, ◌∙◌, subst, Bool, true, false, List, [], ◌∷◌, ℕ, zero, suc, ◌+◌, ◌-◌, ◌≤◌, ◌<◌, min, length, drop, arith, add-one, drop-cons, bit_and, bit_xor}
 use native.Mathlib.Decide.{ℕ_discrete}
-use native.Mathlib.Numerals.{add-one}
-use lib.Seq.{drop-cons}
-use lib.Bits.{bit_and, bit_xor}
 use Rattle.model.specs.declared.Part.{Part}
 use Rattle.model.specs.Answers.{part}
 use Rattle.model.specs.Kleene.{Kleene, No, Unknown, Yes, is_yes, three}
@@ -23,7 +20,7 @@ use Rattle.cases.proofs.Lanes.{lanes-of}
 use Rattle.step.specs.declared.action.Hindrance.{Hindrance}
 use Rattle.step.specs.Actions.{Hinders, GoesOn, IsHindered}
 use Rattle.step.proofs.Conflicts.{sure-yes}
-use Rattle.runs.specs.Looks.{run_from, reached_bit, Reaches, GoalReached, Running, look_bits, LooksAt}
+use Rattle.runs.specs.Looks.{run_from, reached_bit, Reaches, GoalReached, Running, look_bits, LooksAt, NotEmpty, looks_of}
 
 -- ---- bits
 
@@ -180,14 +177,12 @@ look_is Yes (blocked p) a b e f = rw (e, f)
 
 -- the lanes whose case is not empty
 pub some-lanes :
-    (φ : Formula) (case : ℕ → List Kleene) (v : Value) → ((j : ℕ) → j < 64 → value_at v j ≡ eval three (case j) φ) → (j : ℕ) → j < 64 →
-    lane_bit j v.some ≡ some_bit (eval three (case j) φ)
+    (φ : Formula) (case : ℕ → List Kleene) (v : Value) → ((j : ℕ) → j < 64 → value_at v j ≡ eval three (case j) φ) → NotEmpty φ case v.some
 some-lanes φ case v x j l = ((lanes-of v.some v.sure v.consistent).lane j l).is_some ∙ ap some_bit (x j l)
 
 -- and those of them whose run reaches the goal
 pub looks-at :
-    (T : Task) (case : ℕ → List Kleene) (some : ℕ) → ((j : ℕ) → j < 64 → lane_bit j some ≡ some_bit (eval three (case j) T.initial)) →
-    (r : ℕ) → Reaches T some case r → LooksAt T case (record { empty = bit_xor ones some; carries = r })
+    (T : Task) (case : ℕ → List Kleene) (some : ℕ) → NotEmpty T.initial case some → (r : ℕ) → Reaches T some case r → LooksAt T case (looks_of some r)
 looks-at T case some x r R j l =
     let o = run three T.facts T.goal T.plan 0 (case j) in
     look_is (eval three (case j) T.initial) o _ _

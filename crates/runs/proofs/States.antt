@@ -1,12 +1,7 @@
 -- The number of a state, and the run of the state that it has. Assumes nothing.
-use Rattle.std.proofs.Common.{◌≡◌, refl, sym, ap, ◌∙◌, true, false, map, ℕ, ◌-◌, ◌%◌, ◌^◌, ◌≤◌, ◌<◌, length, arith}
-use native.Mathlib.Nat.{mod-lt, mod-eq_of_lt}
+use Rattle.std.proofs.Common.{◌≡◌, refl, sym, ap, ◌∙◌, true, false, map, ℕ, ◌-◌, ◌%◌, ◌^◌, ◌≤◌, ◌<◌, length, arith, mod-lt, mod-eq_of_lt, ltb, pow_pos, ext_get_or, lt-ltb, le-ltb, eq-eqb, ne_eqb}
 use native.Mathlib.Decide.{dec_lt}
-use lib.Dec.{ltb}
 use lib.ListN.{length-map, get_or-map}
-use lib.Pow.{pow_pos}
-use lib.Seq.{ext_get_or}
-use borrow.Author.Tests.{lt-ltb, le-ltb, eq-eqb, ne_eqb}
 use Rattle.model.specs.Kleene.{No, known, three}
 use Rattle.model.specs.Run.{run}
 use Rattle.model.specs.Case as model

@@ -1,5 +1,5 @@
 -- What the runs of 64 cases, and a look at them, answer.
-use Rattle.std.specs.Prelude.{◌≡◌, List, ℕ, zero, suc, ◌≤◌, ◌<◌, min, length, drop, Option, None, Some}
+use Rattle.std.specs.Prelude.{◌≡◌, List, ℕ, zero, suc, ◌≤◌, ◌<◌, min, length, drop, Option, None, Some, bit_xor}
 use Rattle.model.specs.Kleene.{Kleene, three}
 use Rattle.model.specs.Formula.{Formula, eval}
 use Rattle.model.specs.Run.{reached, missed, blocked, holds_in, run}
@@ -7,7 +7,7 @@ use Rattle.model.specs.Run as Run
 use Rattle.model.specs.Case.{flag, Task}
 use Rattle.model.specs.Walk.{opened, closed, carries, empty, look_of}
 use Rattle.model.specs.Walk as Walk
-use Rattle.model.specs.Planes.{lane_bit}
+use Rattle.model.specs.Planes.{lane_bit, some_bit, ones}
 use Rattle.model.specs.declared.marks.Kind.{Kind}
 use Rattle.model.specs.Marks.{kind_of}
 use Rattle.runs.specs.declared.lanes.Looks.{Looks}
@@ -20,6 +20,10 @@ abbrev pub reached_bit : Run.Outcome → ℕ
 reached_bit reached = 1
 reached_bit missed = 0
 reached_bit (blocked p) = 0
+
+-- these are the lanes in whose case the initial formula is not no
+abbrev pub NotEmpty : Formula → (ℕ → List Kleene) → ℕ → Type 0
+NotEmpty initial case starts = (j : ℕ) → j < 64 → lane_bit j starts ≡ some_bit (eval three (case j) initial)
 
 -- the lanes r of `lanes` whose run reaches the goal
 abbrev pub Reaches : Task → ℕ → (ℕ → List Kleene) → ℕ → Type 0
@@ -47,6 +51,10 @@ abbrev pub look_bits : ℕ → ℕ → Walk.Look
 look_bits zero zero = opened
 look_bits zero (suc b) = closed carries
 look_bits (suc a) b = closed empty
+
+-- what is found where the lanes of `starts` are not empty, and those of `carried` carry
+abbrev pub looks_of : ℕ → ℕ → Looks
+looks_of starts carried = record { empty = bit_xor ones starts; carries = carried }
 
 -- what a visit finds of each lane's case
 abbrev pub LooksAt : Task → (ℕ → List Kleene) → Looks → Type 0

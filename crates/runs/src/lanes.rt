@@ -2,7 +2,7 @@
 ghost use Rattle.std.specs.Prelude.{◌≡◌};
 ghost use Rattle.blocks.specs.Values.{problem as problem_of, task as task_of};
 ghost use Rattle.cases.specs.Cases.{case_of};
-ghost use Rattle.runs.specs.Looks.{GoalReached, LooksAt, Reaches};
+ghost use Rattle.runs.specs.Looks.{NotEmpty, GoalReached, LooksAt, Reaches};
 
 use blocks::{Problem, Task};
 use cases::{Cases, ONES, evaluate, lane_bit};
@@ -17,9 +17,20 @@ pub struct Looks {
 }
 
 impl Looks {
-    ghost use Rattle.std.specs.Prelude.{◌<◌};
+    ghost use Rattle.std.specs.Prelude.{◌≡◌, ◌<◌};
     ghost use Rattle.model.specs.Planes.{lane_bit};
-    ghost use Rattle.runs.specs.Looks.{kind_look, look_bits};
+    ghost use Rattle.runs.specs.Looks.{kind_look, look_bits, looks_of};
+
+    // What is found where these lanes are not empty, and of them those carry.
+    #[inline(always)]
+    pub fn of(starts: u64, carries: u64) -> Looks
+        ensures { result ≡ looks_of starts carries }
+    {
+        Looks {
+            empty: ONES ^ starts,
+            carries,
+        }
+    }
 
     // What a visit finds of the case in a lane: the kind of a closed case, none of an open one.
     #[inline(always)]
@@ -37,6 +48,14 @@ impl Looks {
     }
 }
 
+// The lanes whose case is not empty: in some state of it the initial formula holds.
+#[inline(always)]
+pub fn start_lanes(problem: &Problem, cases: &Cases) -> u64
+    ensures { NotEmpty (problem_of problem.now).initial (case_of cases.now) result }
+{
+    evaluate(problem.initial, cases).some
+}
+
 // The lanes of `alive` in which the goal holds.
 #[inline(always)]
 pub fn reached_lanes(problem: &Problem, cases: &Cases, alive: u64) -> u64
@@ -48,34 +67,48 @@ pub fn reached_lanes(problem: &Problem, cases: &Cases, alive: u64) -> u64
     alive & evaluate(problem.goal, cases).sure
 }
 
-// The lanes of `lanes` in which the whole plan runs and reaches the goal.
-fn run_lanes(task: &Task, cases: &Cases, conditions: &mut Conditions, lanes: u64) -> u64
-    requires { cases.now.facts ≡ task.now.problem.now.facts }
-    ensures { Reaches (task_of task.now) lanes (case_of cases.now) result }
+// The lanes of `lanes` in which the whole plan runs and reaches the goal. It is run on the cases themselves.
+fn run_lanes(task: &Task, cases: &mut Cases, conditions: &mut Conditions, lanes: u64) -> u64
+    requires { cases.old.facts ≡ task.now.problem.now.facts }
+    ensures facts { cases.new.facts ≡ cases.old.facts }
+    ensures reaches { Reaches (task_of task.now) lanes (case_of cases.old) result }
 {
-    // With no step to obey the cases need not be copied.
-    if task.steps.len() == 0 {
-        return reached_lanes(task.problem, cases, lanes);
-    }
-    let mut current = *cases;
     let mut alive = lanes;
     for i in 0..task.steps.len() {
-        let Ok(left) = obey(task.action(i), &mut current, conditions, alive) else {
+        let Ok(left) = obey(task.action(i), cases, conditions, alive) else {
             return 0;
         };
         alive = left;
     }
-    reached_lanes(task.problem, &current, alive)
+    reached_lanes(task.problem, cases, alive)
 }
 
-// What a visit finds of 64 cases. The conditions are lent, so that no look has to make room for them.
-pub fn look(task: &Task, cases: &Cases, conditions: &mut Conditions) -> Looks
-    requires { cases.now.facts ≡ task.now.problem.now.facts }
-    ensures { LooksAt (task_of task.now) (case_of cases.now) result }
+// What a visit finds of 64 cases, which are used up: the plan is run on them. The conditions are lent, so that no look has to make room for them.
+pub fn look(task: &Task, cases: &mut Cases, conditions: &mut Conditions) -> Looks
+    requires { cases.old.facts ≡ task.now.problem.now.facts }
+    ensures facts { cases.new.facts ≡ cases.old.facts }
+    ensures looks { LooksAt (task_of task.now) (case_of cases.old) result }
 {
-    let initial = evaluate(task.problem.initial, cases);
-    Looks {
-        empty: ONES ^ initial.some,
-        carries: run_lanes(task, cases, conditions, initial.some),
+    let starts = start_lanes(task.problem, cases);
+    Looks::of(starts, run_lanes(task, cases, conditions, starts))
+}
+
+// The same of cases that stay: the plan is run on a copy of them. With no step to obey none is made.
+pub fn look_beside(
+    task: &Task,
+    cases: &Cases,
+    copy: &mut Cases,
+    conditions: &mut Conditions,
+) -> Looks
+    requires facts { cases.now.facts ≡ task.now.problem.now.facts }
+    requires same { copy.old.facts ≡ cases.now.facts }
+    ensures facts { copy.new.facts ≡ copy.old.facts }
+    ensures looks { LooksAt (task_of task.now) (case_of cases.now) result }
+{
+    let starts = start_lanes(task.problem, cases);
+    if task.steps.len() == 0 {
+        return Looks::of(starts, reached_lanes(task.problem, cases, starts));
     }
+    copy.copy_from(cases);
+    Looks::of(starts, run_lanes(task, copy, conditions, starts))
 }

@@ -43,13 +43,13 @@ module _ (p : Problem) (steps : List ℕ) where
 
 -- ---- before the first step
 
-pub begun-root : (root : Root) → IsBegun root [] root.starts root.first.now.cases.now
+pub begun-root : (root : Root) → IsBegun root [] root.starts root.lanes.now
 begun-root root =
     record {
       facts = root.facts;
       named = λ i l. absurd (omega arith);
-      going = λ n more. running-begins (task_with root.problem.now more) root.starts (case_of root.first.now.cases.now);
-      stopped = λ e more. reaches-none (task_with root.problem.now more) root.starts (case_of root.first.now.cases.now) e;
+      going = λ n more. running-begins (task_with root.problem.now more) root.starts (case_of root.lanes.now);
+      stopped = λ e more. reaches-none (task_with root.problem.now more) root.starts (case_of root.lanes.now) e;
     }
 
 -- each step names an action, and so does one more
@@ -69,7 +69,7 @@ module _ (root : Root) (first : List ℕ) (alive : ℕ) (c : Cases) (B : IsBegun
   p = root.problem.now
 
   abbrev case : ℕ → List Kleene
-  case = case_of root.first.now.cases.now
+  case = case_of root.lanes.now
 
   -- a step more, which was obeyed where it could be
   module _ (n : alive ≡ 0 → ⊥) (a : Action) (is : a ≡ action_at (problem p).actions step) (d : Cases) (f : d.facts ≡ c.facts) where
@@ -120,11 +120,11 @@ module _ (root : Root) (first : List ℕ) (alive : ℕ) (c : Cases) (B : IsBegun
 
 pub reached-so :
     (root : Root) (first : List ℕ) (alive : ℕ) (c : Cases) → IsBegun root first alive c → (r : ℕ) → GoalReached (problem root.problem.now).goal (case_of c) alive r →
-    Reaches (task_with root.problem.now first) root.starts (case_of root.first.now.cases.now) r
+    Reaches (task_with root.problem.now first) root.starts (case_of root.lanes.now) r
 reached-so root first zero c B r g =
-    let R = subst (λ (steps : List ℕ). Reaches (task_with root.problem.now steps) root.starts (case_of root.first.now.cases.now) 0) (append-nil first) (B.stopped refl []) in
+    let R = subst (λ (steps : List ℕ). Reaches (task_with root.problem.now steps) root.starts (case_of root.lanes.now) 0) (append-nil first) (B.stopped refl []) in
     λ j l. g j l ∙ rw (bit-zero j) (omega arith) ∙ sym (bit-zero j) ∙ R j l
 reached-so root first (suc n) c B r g =
     let p = root.problem.now in
-    let R = subst (λ (steps : List ℕ). Running (task_with p steps) root.starts (case_of root.first.now.cases.now) (length first) (suc n) (case_of c)) (append-nil first) (B.going (λ e. cc) []) in
-    running-ends (task_with p first) root.starts (case_of root.first.now.cases.now) (length first) (suc n) (case_of c) R (omega (arith, with-length p first)) r (rw (with-goal p first) g)
+    let R = subst (λ (steps : List ℕ). Running (task_with p steps) root.starts (case_of root.lanes.now) (length first) (suc n) (case_of c)) (append-nil first) (B.going (λ e. cc) []) in
+    running-ends (task_with p first) root.starts (case_of root.lanes.now) (length first) (suc n) (case_of c) R (omega (arith, with-length p first)) r (rw (with-goal p first) g)

@@ -1,15 +1,19 @@
 -- A plan judged with the visits left, and plans one after another. Assumes nothing.
-use Rattle.std.proofs.Common.{◌≡◌, refl, sym, ap, ap₂, ◌∙◌, List, [], ◌∷◌, ◌++◌, map, append_assoc, ℕ, suc, ◌+◌, ◌-◌, ◌≤◌, arith, bit_xor, Ok, Err}
+use Rattle.std.proofs.Common.{◌≡◌, refl, sym, ap, ap₂, ◌∙◌, List, [], ◌∷◌, ◌++◌, map, append_assoc, ℕ, suc, ◌+◌, ◌-◌, ◌≤◌, arith, Ok, Err}
 use mathlib.Core.List.{map-append}
 use lib.Seq.{append_snoc}
 use Rattle.model.specs.Walk.{Line, covered, failed, visits, walked}
 use Rattle.model.specs.Operations.{task_of}
-use Rattle.model.specs.Planes.{ones}
 use Rattle.model.specs.Search.{each_step, search}
 use Rattle.model.proofs.Laws.Judging.{judged-in, judged-out}
+use Rattle.model.specs.Kleene.{Kleene}
+use Rattle.model.proofs.Laws.Splitting.{case-first}
 use Rattle.cases.specs.Cases.{case_of}
+use Rattle.cases.specs.Blocks.{block_case}
 use Rattle.blocks.specs.declared.problem.Problem.{Problem}
-use Rattle.runs.specs.Looks.{Reaches, LooksAt}
+use Rattle.runs.specs.Looks.{Reaches, LooksAt, looks_of}
+use Rattle.walk.specs.Lanes.{block_of, first_levels}
+use Rattle.walk.proofs.Walking.{looks-same}
 use Rattle.runs.proofs.Running.{looks-at}
 use Rattle.walk.specs.declared.visits.Closed.{Closed}
 use Rattle.walk.specs.declared.visits.Stopped.TheVariants.{OutOfVisits, Failed}
@@ -23,10 +27,17 @@ use Rattle.search.specs.Trying.{Comes}
 
 -- what a visit finds of the first block
 pub first-looks :
-    (root : Root) (plan : List ℕ) (carries : ℕ) → Reaches (task_with root.problem.now plan) root.starts (case_of root.first.now.cases.now) carries →
-    LooksAt (task_with root.problem.now plan) (case_of root.first.now.cases.now) (record { empty = bit_xor ones root.starts; carries = carries })
+    (root : Root) (plan : List ℕ) (carries : ℕ) → Reaches (task_with root.problem.now plan) root.starts (case_of root.lanes.now) carries →
+    let T = task_with root.problem.now plan in
+    let facts = root.problem.now.facts in
+    LooksAt T (block_of T.width facts 0 0 (first_levels facts)) (looks_of root.starts carries)
 unfolding task_of
-first-looks root plan carries R = looks-at (task_with root.problem.now plan) (case_of root.first.now.cases.now) root.starts root.not_empty carries R
+first-looks root plan carries R =
+    let T = task_with root.problem.now plan in
+    let facts = root.problem.now.facts in
+    looks-same T _ _ (looks_of root.starts carries)
+    (λ j l. root.first j l ∙ ap (λ (x : List Kleene). block_case x 0 (first_levels facts) j) (sym (case-first T.width facts)))
+    (looks-at T (case_of root.lanes.now) root.starts root.not_empty carries R)
 
 -- a state has a bit for each fact
 fits : (p : Problem) (plan : List ℕ) → (task_with p plan).facts ≤ (task_with p plan).width

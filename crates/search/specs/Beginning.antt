@@ -19,5 +19,5 @@ pub record IsBegun (root : Root) (first : List ℕ) (alive : ℕ) (cases : Cases
   pub named : (i : ℕ) → i < length first → slice_index first i < root.problem.now.actions
   pub going :
       (alive ≡ 0 → ⊥) → (more : List ℕ) →
-      Running (task_with root.problem.now (first ++ more)) root.starts (case_of root.first.now.cases.now) (length first) alive (case_of cases)
-  pub stopped : alive ≡ 0 → (more : List ℕ) → Reaches (task_with root.problem.now (first ++ more)) root.starts (case_of root.first.now.cases.now) 0
+      Running (task_with root.problem.now (first ++ more)) root.starts (case_of root.lanes.now) (length first) alive (case_of cases)
+  pub stopped : alive ≡ 0 → (more : List ℕ) → Reaches (task_with root.problem.now (first ++ more)) root.starts (case_of root.lanes.now) 0

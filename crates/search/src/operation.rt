@@ -11,9 +11,9 @@ ghost use Rattle.search.specs.Promise.{SearchPromised};
 use crate::below::try_lengths;
 use crate::plan::Root;
 use blocks::Problem;
-use cases::{Cases, evaluate};
 use model::{Fault, Refusal, Search, ShortPlan};
-use walk::FirstBlock;
+use runs::start_lanes;
+use walk::first_lanes;
 
 // The plans up to a length: the empty one, and each action before every plan that is a step shorter.
 fn plan_count(actions: u64, longest: u64) -> u64
@@ -33,12 +33,11 @@ fn search_problem(problem: &Problem, longest: usize, grant: u64) -> Search
     requires { longest ≤ max_length }
     ensures { search_end result ≡ search (task_with problem.now) grant (plans_in (problem_of problem.now) longest) 0 }
 {
-    let mut cases = Cases::first_case(problem.facts);
-    let first = FirstBlock::of(&mut cases);
+    let lanes = first_lanes(problem.facts);
     let root = Root {
         problem,
-        first: &first,
-        starts: evaluate(problem.initial, first.cases).some,
+        lanes: &lanes,
+        starts: start_lanes(problem, &lanes),
     };
     match try_lengths(&root, longest, grant) {
         Ok(left) => Search::NoneRight {

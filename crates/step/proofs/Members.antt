@@ -1,9 +1,8 @@
 -- The first false member of an "all", and the part of an action that it is. Assumes nothing.
 use Rattle.std.proofs.Common.{◌≡◌, refl, sym, ap, ◌∙◌, Bool, true, false, cond, ℕ, zero, suc, ◌+◌, ◌-◌, ◌≤◌, ◌<◌, List, arith, Option, Some, None}
-use Rattle.model.specs.Kleene.{Kleene, No, Unknown, Yes, both, is_yes, three}
-use Rattle.model.specs.Formula.{Literal, Formula, Formulas, lit, all, any, none, more, eval, eval_all}
-use Rattle.model.specs.FormulaBytes.{member_count}
-use Rattle.model.specs.Run.{first_false, unmet, holds_in}
+use Rattle.model.specs.Kleene.{Kleene, both, is_yes, three}
+use Rattle.model.specs.Formula.{Formula, Formulas, all, none, more, eval, eval_all}
+use Rattle.model.specs.{FormulaBytes.member_count, Run.first_false, Run.unmet, Run.holds_in}
 use Rattle.formula.specs.Decoding.{first, after, head}
 use Rattle.std.specs.Option.{unwrap_or}
 use Rattle.step.specs.Actions.{IsFirstFalse}
@@ -12,6 +11,9 @@ pub count-first : (n : ℕ) (ms : Formulas) → n ≤ member_count ms → member
 count-first zero ms h = refl
 count-first (suc n) none h = absurd (omega arith)
 count-first (suc n) (more m ms) h = ap suc (count-first n ms (omega arith))
+
+first-more : (ms : Formulas) → 0 < member_count ms → ms ≡ more (head ms) (after 1 ms)
+first-more ms l = grind arith
 
 module _ (holds : Formula → Bool) where
   -- i of the members ms hold, and n - i of `rest` are left
@@ -34,19 +36,13 @@ module _ (holds : Formula → Bool) where
       pub some-left : 0 < member_count rest
       some-left = omega (arith, M.enough)
 
-      -- what is left of the count
-      turn : (rest : Formulas) (k : ℕ) → 0 < member_count rest → first_false holds (first (suc k) rest) ≡ first_false holds (more (head rest) (first k (after 1 rest)))
-      turn none k l = absurd (omega arith)
-      turn (more m ms) k l = refl
-
-      counted : (rest : Formulas) (k : ℕ) → suc k ≤ member_count rest → k ≤ member_count (after 1 rest)
-      counted none k l = absurd (omega arith)
-      counted (more m ms) k l = omega arith
+      is-more : rest ≡ more (head rest) (after 1 rest)
+      is-more = first-more rest some-left
 
       next-same : first_false holds (first n ms) ≡ i + first_false holds (more (head rest) (first (n - (i + 1)) (after 1 rest)))
       next-same =
           let z : n - i ≡ suc (n - (i + 1)) = omega arith in
-          M.same ∙ ap (λ (x : ℕ). i + first_false holds (first x rest)) z ∙ ap (λ (x : ℕ). i + x) (turn rest (n - (i + 1)) some-left)
+          M.same ∙ rw z (ap (λ (r : Formulas). i + first_false holds (first (suc (n - (i + 1))) r)) is-more)
 
       pub meeting-false : holds (head rest) ≡ false → i ≡ first_false holds (first n ms)
       unfolding first_false
@@ -57,15 +53,13 @@ module _ (holds : Formula → Bool) where
       meeting-next e rest' r =
           record {
             few = omega arith;
-            enough = rw r (counted rest (n - (i + 1)) (omega (arith, M.enough)));
+            enough = omega (arith, M.enough, ap member_count is-more, ap member_count r);
             same = rw r (next-same ∙ rw (first_false, e) (omega arith));
           }
 
 -- where no member is false, the "all" holds
 turned : (t u : Kleene) (x n : ℕ) → cond (is_yes t) (suc x) 0 ≡ suc n → (x ≡ n → is_yes u ≡ true) → is_yes (both t u) ≡ true
-turned No u x n e h = absurd (omega arith)
-turned Unknown u x n e h = absurd (omega arith)
-turned Yes u x n e h = h (omega arith)
+turned t u x n e h = grind arith
 
 pub none-false : (v : List Kleene) (ms : Formulas) → first_false (holds_in three v) ms ≡ member_count ms → holds_in three v (all ms) ≡ true
 unfolding eval first_false
@@ -74,24 +68,12 @@ none-false v (more m ms) e = turned (eval three v m) (eval_all three v ms) (firs
 
 -- ---- of a formula, which is one alone in ms
 
-only : (f g : Formula) (ms rest : Formulas) → ms ≡ more f none → ms ≡ more g rest → f ≡ g
-only f g ms rest e h = cc
+pub alone : {f g : Formula} {ms rest : Formulas} → ms ≡ more f none → ms ≡ more g rest → f ≡ g
+alone e h = cc
 
-module _ (v : List Kleene) (f : Formula) (ms : Formulas) (one : ms ≡ more f none) where
-  pub unmet-literal : (l : Literal) (rest : Formulas) → ms ≡ more (lit l) rest → 0 ≡ unmet (holds_in three v) f
-  unfolding unmet
-  unmet-literal l rest e = rw (only f _ ms rest one e)
-
-  pub unmet-any : (inner rest : Formulas) → ms ≡ more (any inner) rest → 0 ≡ unmet (holds_in three v) f
-  unfolding unmet
-  unmet-any inner rest e = rw (only f _ ms rest one e)
-
-  pub unmet-all :
-      (inner rest : Formulas) → ms ≡ more (all inner) rest → (r : Option ℕ) → IsFirstFalse (holds_in three v) inner r → holds_in three v f ≡ false →
-      unwrap_or r 0 ≡ unmet (holds_in three v) f
-  unfolding unmet
-  unmet-all inner rest e None h not =
-      let k : f ≡ all inner = only f (all inner) ms rest one e in
-      let yes : holds_in three v f ≡ true = rw k (none-false v inner h) in
-      cc
-  unmet-all inner rest e (Some i) h not = rw (only f (all inner) ms rest one e) h.1
+pub unmet-all :
+    (v : List Kleene) (ms : Formulas) (r : Option ℕ) → IsFirstFalse (holds_in three v) ms r → holds_in three v (all ms) ≡ false →
+    unwrap_or r 0 ≡ unmet (holds_in three v) (all ms)
+unfolding unmet
+unmet-all v ms None h not = let yes = none-false v ms h in absurd (cc)
+unmet-all v ms (Some i) h not = h.1

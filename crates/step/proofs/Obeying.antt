@@ -1,20 +1,12 @@
 -- One action: it is obeyed in the lanes that go on. Assumes nothing.
 use Rattle.std.proofs.Common.{◌≡◌, refl, sym, ap, ◌∙◌, ℕ, ◌≤◌, ◌<◌, min, bit_and, arith}
 use Rattle.std.proofs.lemmas.Nat.{and_le_l}
-use Rattle.model.specs.Kleene.{Kleene, is_yes, three}
-use Rattle.model.specs.Formula.{eval}
-use Rattle.model.specs.Action.{Action, every, exclusive, applicable, step}
-use Rattle.model.specs.Run.{holds_in}
-use Rattle.model.specs.Case.{flag}
-use Rattle.model.specs.Planes.{lane_bit}
+use Rattle.model.specs.{Kleene.Kleene, Kleene.is_yes, Kleene.three, Formula.eval, Action.Action, Action.every, Action.exclusive, Action.applicable, Action.step, Run.holds_in}
+use Rattle.model.specs.{Case.flag, Planes.lane_bit}
 use Rattle.model.proofs.Laws.Planes.{low_bit, bit-and, bit-zero, bit-small}
-use Rattle.cases.specs.declared.value.Value.{Value}
-use Rattle.cases.specs.declared.cases.Cases.{Cases}
-use Rattle.cases.specs.Cases.{case_of, value_at}
-use Rattle.step.specs.declared.conditions.Conditions.{Conditions}
-use Rattle.step.specs.declared.action.Hindrance.TheVariants.{Precondition, Conflict}
-use Rattle.step.specs.Conditions.{Hold, LeftOut, AllLeftOut}
-use Rattle.step.specs.Actions.{applicable_bit, GoesOn, IsHindered}
+use Rattle.cases.specs.{declared.value.Value.Value, declared.cases.Cases.Cases, Cases.case_of, Cases.value_at}
+use Rattle.step.specs.{declared.conditions.Conditions.Conditions, declared.action.Hindrance.TheVariants.Precondition, declared.action.Hindrance.TheVariants.Conflict}
+use Rattle.step.specs.{Conditions.Hold, Conditions.LeftOut, Conditions.AllLeftOut, Actions.applicable_bit, Actions.GoesOn, Actions.IsHindered}
 use Rattle.step.proofs.Conflicts.{sure-yes, flag-and, flag_true, flag-false}
 
 -- lane 0 alone

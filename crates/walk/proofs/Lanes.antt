@@ -1,13 +1,7 @@
 -- The lanes of a block by their numbers: which level a lane is of, which one comes after it, and which case each has. Assumes nothing.
-use mathlib.Core.Path.{◌≡◌, sym, ap, ◌∙◌, subst}
-use mathlib.Core.List.{List}
-use Prim.Native.Nat.{ℕ, zero, suc, ◌+◌, ◌*◌, ◌-◌, ◌/◌, ◌%◌, ◌^◌, ◌≤◌, ◌<◌}
-use native.Mathlib.Omega.{arith}
+use Rattle.std.proofs.Common.{◌≡◌, sym, ap, ◌∙◌, subst, List, ℕ, zero, suc, ◌+◌, ◌*◌, ◌-◌, ◌/◌, ◌%◌, ◌^◌, ◌≤◌, ◌<◌, arith, pow-suc, mul-le-mul_right, mod-eq_of_lt, length, get_or, set, pow-add, pow_pos, pow_mono, shr-shr}
 use native.Mathlib.Decide.{dec_le, ℕ_discrete}
-use native.Mathlib.Nat.{pow-suc, mul-le-mul_right, mod-eq_of_lt}
 use lib.Count.{count_trailing_zeros, under}
-use lib.ListN.{length, get_or, set}
-use lib.Pow.{pow-add, pow_pos, pow_mono, shr-shr}
 use Rattle.model.specs.Kleene.{Kleene, No, Unknown, Yes}
 use Rattle.model.specs.Case.{case_of}
 use Rattle.model.proofs.Laws.Cover.{Block, pow-split, pow-half, rescale, next-block}
@@ -245,8 +239,8 @@ module _ (e lane levels : ℕ) (h : e ≤ levels) (o : OnLevel lane e) where
     edge-fits = let z : 1 * 2 ^ levels ≡ 2 ^ levels = omega arith in rw z (mod-eq_of_lt (omega (arith, pow_mono {i = levels} {j = 5} few)))
 
 -- no number of a case leaves its block
-pub number-room : (w k v e lane : ℕ) → k + e ≤ w → OnLevel lane e → v + 2 ^ (w - k) ≤ 2 ^ w → number_at w k v e lane + 2 ^ (w - (k + e)) ≤ 2 ^ w
-number-room w k v e lane l o h =
+pub number-room : (w k v e lane end : ℕ) → k + e ≤ w → OnLevel lane e → v + 2 ^ (w - k) ≤ end → number_at w k v e lane + 2 ^ (w - (k + e)) ≤ end
+number-room w k v e lane end l o h =
     let p : 2 ^ (w - k) ≡ 2 ^ e * 2 ^ (w - (k + e)) =
     pow-split w k (k + e) (omega arith) l ∙ ap (λ (x : ℕ). 2 ^ x * 2 ^ (w - (k + e))) (omega arith)
     in
@@ -255,5 +249,5 @@ number-room w k v e lane l o h =
     in
     grow (lane - 2 ^ e) (2 ^ (w - (k + e))) (omega (arith, p, m))
   where
-    grow : (d q : ℕ) → v + (d + 1) * q ≤ 2 ^ w → v + d * q + q ≤ 2 ^ w
+    grow : (d q : ℕ) → v + (d + 1) * q ≤ end → v + d * q + q ≤ end
     grow d q i = omega arith

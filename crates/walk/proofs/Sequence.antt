@@ -1,9 +1,5 @@
 -- A walk and then another one: how it ends. Assumes nothing.
-use mathlib.Core.Path.{◌≡◌, refl, sym, ap, ◌∙◌}
-use mathlib.Core.List.{List, [], ◌++◌, append_assoc}
-use Prim.Native.Nat.{ℕ, ◌+◌, ◌≤◌}
-use native.Mathlib.Omega.{arith}
-use Rattle.std.proofs.Common.{append-nil}
+use Rattle.std.proofs.Common.{◌≡◌, refl, sym, ap, ◌∙◌, List, [], ◌++◌, append_assoc, ℕ, ◌+◌, ◌≤◌, arith, append-nil}
 use Rattle.model.specs.Walk.{Line, Walked, covered, failed, visits, join}
 
 pub and_then : Walked → Walked → Walked

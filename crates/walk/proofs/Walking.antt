@@ -1,46 +1,38 @@
 -- The walk through a block, lane after lane: what was walked so far, the walk from the lane that is turned to, and the walks that come after
 -- it are the walk from the block's own case. Assumes nothing.
-use mathlib.Core.Path.{◌≡◌, refl, sym, ap, ◌∙◌, subst}
-use mathlib.Core.Bool.{Bool, true, false, cond}
-use mathlib.Core.Logic.{◌⊎◌, inl, inr}
-use mathlib.Core.List.{List, [], ◌∷◌, ◌++◌}
-use Prim.Native.Nat.{ℕ, zero, suc, ◌+◌, ◌*◌, ◌-◌, ◌/◌, ◌%◌, ◌^◌, ◌≤◌, ◌<◌}
-use native.Mathlib.Omega.{arith}
+use Rattle.std.proofs.Common.{◌≡◌, refl, sym, ap, ◌∙◌, subst, Bool, true, false, cond, ◌⊎◌, inl, inr, List, [], ◌∷◌, ◌++◌, ℕ, zero, suc, ◌+◌, ◌*◌, ◌-◌, ◌/◌, ◌%◌, ◌^◌, ◌≤◌, ◌<◌, arith, pow-suc, eqb, length, length-append, replicate, pow_pos, pow_mono, eq-eqb, ne_eqb, Some, Result, Ok, Err, IsTrue, ◌↔◌}
 use native.Mathlib.Decide.{dec_le}
-use native.Mathlib.Nat.{pow-suc}
-use lib.Dec.{eqb}
-use lib.ListN.{length, length-append}
-use lib.Pow.{pow_pos, pow_mono}
-use borrow.Author.Tests.{eq-eqb, ne_eqb}
-use Rattle.std.specs.Prelude.{Some, Result, Ok, Err, IsTrue, ◌↔◌}
-use Rattle.model.specs.Kleene.{Kleene, three}
+use Rattle.model.specs.Kleene.{Kleene, Unknown, three}
 use Rattle.model.specs.Formula.{eval}
 use Rattle.model.specs.Run.{run}
 use Rattle.model.specs.Case as model-case
 use Rattle.model.specs.Walk as model
 use Rattle.model.specs.Walk.{Line, Walked, covered, failed, opened, visits, join, walk_from, walk, walked, look_of, look_at}
 use Rattle.model.specs.declared.marks.Kind.{Kind}
-use Rattle.model.proofs.Laws.Cover.{block-of-mod, mod-of-block, root-span}
+use Rattle.model.proofs.Laws.Cover.{block-of-mod, mod-of-block, root-span, agree}
 use Rattle.model.proofs.Laws.Grants.{visits-walk}
 use Rattle.model.proofs.Laws.Splitting.{case-first}
+use Rattle.cases.specs.declared.case.Case as table
 use Rattle.cases.specs.declared.cases.Cases.{Cases}
+use Rattle.cases.specs.Cases.{case_of, Common, values_of}
 use Rattle.cases.specs.Blocks.{block_case}
-use Rattle.cases.specs.Facts.{with_facts, fact_of}
-use Rattle.cases.specs.Cases.{case_of}
-use Rattle.cases.proofs.Blocks.{block-path}
-use Rattle.runs.specs.Looks.{kind_look}
+use Rattle.cases.specs.Words.{raised, SameCase}
+use Rattle.cases.proofs.Tables.{raised-bit}
+use Rattle.runs.specs.declared.lanes.Looks.{Looks}
+use Rattle.runs.specs.Looks.{kind_look, LooksAt}
 use Rattle.blocks.specs.declared.task.Task as blocks
 use Rattle.blocks.specs.Values as values
 use Rattle.blocks.proofs.Tasks.{task-width, task-facts, facts-fit}
 use Rattle.walk.specs.declared.block.Block as block
-use Rattle.walk.specs.declared.block.FirstBlock.{FirstBlock}
 use Rattle.walk.specs.declared.case.Case.{Case}
 use Rattle.walk.specs.declared.visits.Closed as done
 use Rattle.walk.specs.declared.visits.Stopped.{Stopped}
 use Rattle.walk.specs.declared.visits.Stopped.TheVariants.{OutOfVisits, Failed}
-use Rattle.walk.specs.Lanes.{IsBlock, OnLevel, IsAfter}
+use Rattle.walk.specs.Lanes.{OnLevel, IsAfter, block_of, first_levels}
 use Rattle.walk.specs.Cases.{closed_line}
-use Rattle.walk.specs.Nodes.{task_of, limits_of, look_in, case_at, walk_of, walk_at}
+use Rattle.walk.specs.declared.tables.Tables.{Tables}
+use Rattle.walk.specs.Tables.{facts_of, StandsAt, AtFirst, block_at}
+use Rattle.walk.specs.Nodes.{task_of, limits_of, look_in, case_at, walk_of, walk_at, At}
 use Rattle.walk.specs.Walks.{Walks}
 use Rattle.walk.proofs.Lanes.{HasCase, lane-case, half-level, level-within, no-level, first-level, level_le, one-level, below_ge, below-number, below-fits, edge-fits, number-no, number-yes, number-room}
 use Rattle.walk.proofs.Sequence.{and_then, nothing, nothing-then, then-nothing, then-covered, then-split, then-failed, visits-then}
@@ -78,32 +70,40 @@ module _ (b : block.Block) where
   T = task_of b
 
   n : ℕ
-  n = b.cases.now.facts
+  n = b.task.now.problem.now.facts
 
-  facts-is : T.facts ≡ b.cases.now.facts
-  facts-is = task-facts b.task.now ∙ sym b.facts
+  facts-is : T.facts ≡ b.task.now.problem.now.facts
+  facts-is = task-facts b.task.now
 
-  n≤w : b.cases.now.facts ≤ T.width
+  n≤w : b.task.now.problem.now.facts ≤ T.width
   n≤w = omega (arith, facts-is, facts-fit b.task.now)
 
   pub most : T.width ≤ 64
   most = omega (arith, task-width b.task.now, b.task.now.problem.now.sensible.word)
 
-  has-case : (e lane : ℕ) → e ≤ b.levels → OnLevel lane e → HasCase T.width b.cases.now.facts b.first b.levels b.number n≤w b.few b.inside (block-of-mod T.width b.first b.number b.begins) e lane
-  has-case e lane h o = lane-case T.width b.cases.now.facts b.first b.levels b.number n≤w b.few b.inside (block-of-mod T.width b.first b.number b.begins) e lane h o
+  has-case : (e lane : ℕ) → e ≤ b.levels → OnLevel lane e → HasCase T.width b.task.now.problem.now.facts b.first b.levels b.number n≤w b.few b.inside (block-of-mod T.width b.first b.number b.begins) e lane
+  has-case e lane h o = lane-case T.width b.task.now.problem.now.facts b.first b.levels b.number n≤w b.few b.inside (block-of-mod T.width b.first b.number b.begins) e lane h o
 
   small : (e lane : ℕ) → e ≤ b.levels → OnLevel lane e → lane < 64
   small e lane h o = omega (arith, o.to, b.few, pow_mono {i = suc e} {j = 6} (omega (arith, b.few)))
 
   -- a lane has its case
-  pub in-lane : (e lane : ℕ) → e ≤ b.levels → OnLevel lane e → case_of b.cases.now lane ≡ model-case.case_of T.width b.cases.now.facts (b.first + e) (case_at b e lane).number
-  in-lane e lane h o = b.lanes lane (small e lane h o) ∙ (has-case e lane h o).is
+  in-lane : (e lane : ℕ) → e ≤ b.levels → OnLevel lane e → block_of T.width b.task.now.problem.now.facts b.first b.number b.levels lane ≡ model-case.case_of T.width b.task.now.problem.now.facts (b.first + e) (case_at b e lane).number
+  in-lane e lane h o = (has-case e lane h o).is
 
   pub begins-at : (e lane : ℕ) → e ≤ b.levels → OnLevel lane e → (case_at b e lane).number % 2 ^ (T.width - (b.first + e)) ≡ 0
   begins-at e lane h o = mod-of-block T.width (b.first + e) (case_at b e lane).number (has-case e lane h o).block
 
   pub room-at : (e lane : ℕ) → e ≤ b.levels → OnLevel lane e → (case_at b e lane).number + 2 ^ (T.width - (b.first + e)) ≤ 2 ^ T.width
-  room-at e lane h o = number-room T.width b.first b.number e lane (omega (arith, b.inside, n≤w)) o b.numbers
+  room-at e lane h o = number-room T.width b.first b.number e lane (2 ^ T.width) (omega (arith, b.inside, n≤w)) o b.numbers
+
+  pub within-block : (e lane : ℕ) → e ≤ b.levels → OnLevel lane e → (case_at b e lane).number < b.number + 2 ^ (T.width - b.first)
+  within-block e lane h o =
+      omega (
+        arith,
+        number-room T.width b.first b.number e lane (b.number + 2 ^ (T.width - b.first)) (omega (arith, b.inside, n≤w)) o (omega arith),
+        pow_pos (T.width - (b.first + e)),
+      )
 
   -- a visit finds what the block says of the lane
   look-is : (e lane : ℕ) → e ≤ b.levels → OnLevel lane e → look_at T (b.first + e) (case_at b e lane).number ≡ look_in b lane
@@ -113,29 +113,29 @@ module _ (b : block.Block) where
       (b.looked lane (small e lane h o) ∙
       ap (λ (x : List Kleene). look_of (eval three x T.initial) (run three T.facts T.goal T.plan 0 x)) (in-lane e lane h o ∙ ap (λ (x : ℕ). model-case.case_of T.width x (b.first + e) (case_at b e lane).number) (sym facts-is)))
 
-  walk-look : (e lane : ℕ) → e ≤ b.levels → OnLevel lane e → walk_at b e lane ≡ walk_from T.width (look_at T) (b.cases.now.facts - (b.first + e)) (look_in b lane) (b.first + e) (case_at b e lane).number
-  walk-look e lane h o = ap (λ (x : model.Look). walk_from T.width (look_at T) (b.cases.now.facts - (b.first + e)) x (b.first + e) (case_at b e lane).number) (look-is e lane h o)
+  walk-look : (e lane : ℕ) → e ≤ b.levels → OnLevel lane e → walk_at b e lane ≡ walk_from T.width (look_at T) (b.task.now.problem.now.facts - (b.first + e)) (look_in b lane) (b.first + e) (case_at b e lane).number
+  walk-look e lane h o = ap (λ (x : model.Look). walk_from T.width (look_at T) (b.task.now.problem.now.facts - (b.first + e)) x (b.first + e) (case_at b e lane).number) (look-is e lane h o)
 
   pub lane-closed : (e lane : ℕ) → e ≤ b.levels → OnLevel lane e → (κ : model.Kind) → look_in b lane ≡ model.closed κ → walk_at b e lane ≡ covered (model.line κ (b.first + e) (case_at b e lane).number ∷ []) 1
   lane-closed e lane h o κ i = walk-look e lane h o ∙ rw (i, walk-closed) refl
 
-  pub lane-fails : (e lane : ℕ) → e ≤ b.levels → OnLevel lane e → look_in b lane ≡ opened → b.first + e ≡ b.cases.now.facts → walk_at b e lane ≡ failed (case_at b e lane).number 1
-  lane-fails e lane h o i z = let d : b.cases.now.facts - (b.first + e) ≡ 0 = omega arith in walk-look e lane h o ∙ rw (i, d, walk-failing) refl
+  pub lane-fails : (e lane : ℕ) → e ≤ b.levels → OnLevel lane e → look_in b lane ≡ opened → b.first + e ≡ b.task.now.problem.now.facts → walk_at b e lane ≡ failed (case_at b e lane).number 1
+  lane-fails e lane h o i z = let d : b.task.now.problem.now.facts - (b.first + e) ≡ 0 = omega arith in walk-look e lane h o ∙ rw (i, d, walk-failing) refl
 
   pub lane-splits : (e lane : ℕ) → e < b.levels → OnLevel lane e → look_in b lane ≡ opened → walk_at b e lane ≡ join (walk_at b (suc e) (2 * lane)) (walk_at b (suc e) (2 * lane + 1))
   lane-splits e lane h o i =
       let l : b.first + e < T.width = omega (arith, b.inside, n≤w) in
       let s : suc (b.first + e) ≡ b.first + suc e = omega arith in
-      let d : b.cases.now.facts - (b.first + e) - 1 ≡ b.cases.now.facts - (b.first + suc e) = omega arith in
+      let d : b.task.now.problem.now.facts - (b.first + e) - 1 ≡ b.task.now.problem.now.facts - (b.first + suc e) = omega arith in
       walk-look e lane (omega arith) o ∙
-      ap (λ (x : model.Look). walk_from T.width (look_at T) (b.cases.now.facts - (b.first + e)) x (b.first + e) (case_at b e lane).number) i ∙
-      walk_split T.width (look_at T) (b.cases.now.facts - (b.first + e)) (b.first + e) (case_at b e lane).number (omega (arith, b.inside)) ∙
-      ap (λ (x : Walked). join x (walk_of T (b.cases.now.facts - (b.first + e) - 1) (suc (b.first + e)) ((case_at b e lane).number + 2 ^ (T.width - suc (b.first + e)))))
+      ap (λ (x : model.Look). walk_from T.width (look_at T) (b.task.now.problem.now.facts - (b.first + e)) x (b.first + e) (case_at b e lane).number) i ∙
+      walk_split T.width (look_at T) (b.task.now.problem.now.facts - (b.first + e)) (b.first + e) (case_at b e lane).number (omega (arith, b.inside)) ∙
+      ap (λ (x : Walked). join x (walk_of T (b.task.now.problem.now.facts - (b.first + e) - 1) (suc (b.first + e)) ((case_at b e lane).number + 2 ^ (T.width - suc (b.first + e)))))
       (same-walk T _ _ _ _ _ _ d s (sym (number-no T.width b.first b.number e lane l))) ∙
       ap (join (walk_at b (suc e) (2 * lane))) (same-walk T _ _ _ _ _ _ d s (sym (number-yes T.width b.first b.number e lane l o.from)))
 
   pub some-visits : (e lane : ℕ) → 1 ≤ visits (walk_at b e lane)
-  some-visits e lane = visits-walk T.width (look_at T) (b.cases.now.facts - (b.first + e)) (look_at T (b.first + e) (case_at b e lane).number) (b.first + e) (case_at b e lane).number
+  some-visits e lane = visits-walk T.width (look_at T) (b.task.now.problem.now.facts - (b.first + e)) (look_at T (b.first + e) (case_at b e lane).number) (b.first + e) (case_at b e lane).number
 
   -- ---- what comes after a lane and all below it
 
@@ -258,7 +258,7 @@ module _ {L : Type 0} (puts : L → List Line → L → Type 0) (b : block.Block
           is = rw (c, one some) (lane-closed b e lane within on _ (sym i));
         }
 
-    pub lane_fails : look_in b lane ≡ opened → 0 < g → b.first + e ≡ b.cases.now.facts → puts old [] old → (case : Case) → case ≡ case_at b e lane → Here (Err (Failed case.number (g - 1))) old
+    pub lane_fails : look_in b lane ≡ opened → 0 < g → b.first + e ≡ b.task.now.problem.now.facts → puts old [] old → (case : Case) → case ≡ case_at b e lane → Here (Err (Failed case.number (g - 1))) old
     lane_fails i some z p case c = record { closed = []; put = p; counted = omega arith; is = rw (c, one some) (lane-fails b e lane within on i z) }
 
   -- ---- through the lanes
@@ -424,13 +424,35 @@ at-level puts b lane e g old r new s W = subst (λ (x : ℕ). Walks puts (walk_a
 pub does-split : (r : Bool) {P : Type 0} → IsTrue r ↔ P → r ≡ true → P
 does-split r i t = i.0 t
 
+-- ---- a look, and a case in a table
+
+pub looks-same :
+    (T : model-case.Task) (case case' : ℕ → List Kleene) (r : Looks) → ((j : ℕ) → j < 64 → case j ≡ case' j) → LooksAt T case r → LooksAt T case' r
+looks-same T case case' r e L j l =
+    L j l ∙ ap (λ (x : List Kleene). look_of (eval three x T.initial) (run three T.facts T.goal T.plan 0 x)) (e j l)
+
+-- a look leaves the tables where they stand
+pub looked-first : (t d : Tables) (facts : ℕ) → d.case ≡ t.case → AtFirst t facts → AtFirst d facts
+looked-first t d facts e A =
+    record { count = ap (λ (c : Cases). c.facts) e ∙ A.count; stands = λ j l. ap (λ (c : Cases). case_of c j) e ∙ A.stands j l }
+
+in-table :
+    (b : block.Block) (n : ℕ) (x : table.Case) (c : Case) → x.fixed ≡ c.k → SameCase (limits_of b).width c.number x.word → n ≡ b.task.now.problem.now.facts →
+    values_of n x ≡ model-case.case_of (task_of b).width b.task.now.problem.now.facts c.k c.number
+in-table b n x c f same e =
+    rw (e, f, task-width b.task.now) (same b.task.now.problem.now.facts c.k (omega (arith, n≤w b, task-width b.task.now)))
+
 -- ---- a block below, and the first one
 
 -- the walk from the block's own case
-pub root-walk : (b : block.Block) → walk_at b 0 1 ≡ walk_of (task_of b) (b.cases.now.facts - b.first) b.first b.number
+pub root-walk : (b : block.Block) → walk_at b 0 1 ≡ walk_of (task_of b) (b.task.now.problem.now.facts - b.first) b.first b.number
 root-walk b =
     let z : b.first + 0 ≡ b.first = omega arith in
-    same-walk (task_of b) _ _ _ _ _ _ (ap (λ (x : ℕ). b.cases.now.facts - x) z) z (omega arith)
+    same-walk (task_of b) _ _ _ _ _ _ (ap (λ (x : ℕ). b.task.now.problem.now.facts - x) z) z (omega arith)
+
+pub own-fits : (b : block.Block) (own : Case) → own ≡ record { k = b.first; number = b.number } → own.number < 2 ^ (limits_of b).width
+own-fits b own o =
+    rw (o, ← task-width b.task.now) (omega (arith, b.numbers, pow_pos ((task_of b).width - b.first)))
 
 -- an open case at a block's edge begins a block of its own
 module _ (b : block.Block) (lane : ℕ) (on : OnLevel lane b.levels) (case : Case) (c : case ≡ case_at b b.levels lane) where
@@ -448,54 +470,106 @@ module _ (b : block.Block) (lane : ℕ) (on : OnLevel lane b.levels) (case : Cas
 
   -- the walk from its block's own case is the walk from it
   below-walk :
-      (t : blocks.Task) (n f v : ℕ) → t ≡ b.task.now → n ≡ b.cases.now.facts → f ≡ case.k → v ≡ case.number →
+      (t : blocks.Task) (n f v : ℕ) → t ≡ b.task.now → n ≡ b.task.now.problem.now.facts → f ≡ case.k → v ≡ case.number →
       walk_of (values.task t) (n - (f + 0)) (f + 0) (v + (1 - 2 ^ 0) * 2 ^ ((values.task t).width - (f + 0))) ≡ walk_at b b.levels lane
   below-walk t n f v i m e h =
       ap (λ (x : blocks.Task). walk_of (values.task x) (n - (f + 0)) (f + 0) (v + (1 - 2 ^ 0) * 2 ^ ((values.task x).width - (f + 0)))) i ∙
       same-walk (task_of b) _ _ _ _ _ _ (omega (arith, m, e, edge-k)) (omega (arith, e, edge-k)) (omega (arith, h, edge-number))
 
   pub below-walks :
-      {L : Type 0} (puts : L → List Line → L → Type 0) (t : blocks.Task) (n f v : ℕ) → t ≡ b.task.now → n ≡ b.cases.now.facts → f ≡ case.k → v ≡ case.number →
+      {L : Type 0} (puts : L → List Line → L → Type 0) (t : blocks.Task) (n f v : ℕ) → t ≡ b.task.now → n ≡ b.task.now.problem.now.facts → f ≡ case.k → v ≡ case.number →
       (g : ℕ) (old : L) (r : Result done.Closed Stopped) (new : L) →
       Walks puts (walk_of (values.task t) (n - (f + 0)) (f + 0) (v + (1 - 2 ^ 0) * 2 ^ ((values.task t).width - (f + 0)))) g old r new →
       Walks puts (walk_at b b.levels lane) g old r new
   below-walks puts t n f v i m e h g old r new W = subst (λ (x : Walked). Walks puts x g old r new) (below-walk t n f v i m e h) W
 
-  module _ (path below : Cases) (levels : ℕ) (n : below.facts ≡ b.cases.now.facts)
-      (P : (j : ℕ) → j < 64 → case_of path j ≡ with_facts b.first (b.first + b.levels) (fact_of (case_of b.cases.now lane)) (case_of b.cases.now j))
-      (X : (j : ℕ) → j < 64 → case_of below j ≡ block_case (case_of path j) case.k levels j) where
-    abbrev own : List Kleene
-    own = model-case.case_of (task_of b).width b.cases.now.facts b.first b.number
+  -- ---- the tables on the way down, and back
 
-    abbrev here : List Kleene
-    here = model-case.case_of (task_of b).width below.facts case.k case.number
+  pub here-fits : case.number < 2 ^ (limits_of b).width
+  here-fits = rw (← task-width b.task.now) (omega (arith, edge-numbers, pow_pos ((task_of b).width - case.k)))
 
-    here-is : case_of b.cases.now lane ≡ here
-    here-is = in-lane b b.levels lane (omega arith) on ∙ rw (c, n) refl
+  module _ (own : Case) (o : own ≡ record { k = b.first; number = b.number }) (above here : table.Case) (f : above.fixed ≡ own.k)
+      (r : above.word ≡ raised (limits_of b).width own.number) (same : SameCase (limits_of b).width own.number above.word) (f' : here.fixed ≡ case.k)
+      (r' : here.word ≡ raised (limits_of b).width case.number) (same' : SameCase (limits_of b).width case.number here.word) where
+    abbrev w : ℕ
+    w = (task_of b).width
 
-    on_path : (j : ℕ) → j < 64 → case_of path j ≡ here
-    on_path j l =
-        let m = small b b.levels lane (omega arith) on in
-        P j l ∙
-        (λ i. with_facts b.first (b.first + b.levels) (fact_of (b.lanes lane m i)) (b.lanes j l i)) ∙
-        block-path own b.first b.levels (b.first + b.levels) lane j refl ∙
-        sym (b.lanes lane m) ∙
-        here-is
+    first-is : above.fixed ≡ b.first
+    first-is = f ∙ ap (λ (x : Case). x.k) o
 
-    pub edge-lanes : IsBlock (case_of below) here case.k levels
-    edge-lanes j l = X j l ∙ ap (λ (x : List Kleene). block_case x case.k levels j) (on_path j l)
+    own-number : own.number ≡ b.number
+    own-number = ap (λ (x : Case). x.number) o
+
+    -- both fix the block's first facts alike
+    alike : (f : ℕ) → f < b.first → model-case.bit 64 above.word f ≡ model-case.bit 64 here.word f
+    alike f l =
+        let within : f < w = omega (arith, b.inside, n≤w b) in
+        rw (r, r', own-number, ← task-width b.task.now)
+        (raised-bit w (most b) b.number f within ∙
+        sym
+        (agree w b.first b.number case.number f (omega (arith, b.inside, n≤w b)) (block-of-mod w b.first b.number b.begins) (omega (arith, edge-number))
+        (rw edge-number (within-block b b.levels lane (omega arith) on)) l) ∙
+        sym (raised-bit w (most b) case.number f within))
+
+    pub going-down : Common above here b.first
+    going-down = record { first = omega (arith, first-is); second = omega (arith, f', edge-k); alike = alike }
+
+    pub coming-back : Common here above b.first
+    coming-back = record { first = omega (arith, f', edge-k); second = omega (arith, first-is); alike = λ g l. sym (alike g l) }
+
+    abbrev here-case : List Kleene
+    here-case = model-case.case_of w b.task.now.problem.now.facts case.k case.number
+
+    above-is : (n : ℕ) → n ≡ b.task.now.problem.now.facts → values_of n above ≡ model-case.case_of w b.task.now.problem.now.facts b.first b.number
+    above-is n e = in-table b n above own f same e ∙ ap (λ (x : Case). model-case.case_of w b.task.now.problem.now.facts x.k x.number) o
+
+    pub stands-below : (t d : Tables) → At t b → facts_of d ≡ facts_of t → (StandsAt t (values_of (facts_of t) above) → StandsAt d (values_of (facts_of t) here)) → StandsAt d here-case
+    stands-below t d A e go = λ j l. go (λ j l. A.stands j l ∙ sym (above-is (facts_of t) A.facts)) j l ∙ in-table b (facts_of t) here case f' same' A.facts
+
+    pub stands-again :
+        (t d : Tables) → facts_of t ≡ b.task.now.problem.now.facts → StandsAt t here-case → facts_of d ≡ facts_of t →
+        (StandsAt t (values_of (facts_of t) here) → StandsAt d (values_of (facts_of t) above)) → At d b
+    stands-again t d n A e go =
+        record {
+          facts = e ∙ n;
+          stands = λ j l. go (λ j l. A j l ∙ sym (in-table b (facts_of t) here case f' same' n)) j l ∙ above-is (facts_of t) n;
+        }
+
+    -- the block below was looked at
+    pub below-looked :
+        (t : Tables) (levels : ℕ) (looks : Looks) → StandsAt t here-case → LooksAt (task_of b) (block_at t case.k levels) looks →
+        LooksAt (task_of b) (block_of w b.task.now.problem.now.facts case.k case.number levels) looks
+    below-looked t levels looks A L = looks-same (task_of b) _ _ looks (λ j l. ap (λ (x : List Kleene). block_case x case.k levels j) (A j l)) L
 
 -- the first block fixes no fact
-module _ (t : blocks.Task) (first : FirstBlock) where
-  pub first-lanes : IsBlock (case_of first.cases.now) (model-case.case_of (values.task t).width first.cases.now.facts 0 0) 0 first.levels
-  first-lanes j l = first.lanes j l ∙ ap (λ (x : List Kleene). block_case x 0 first.levels j) (sym (case-first (values.task t).width first.cases.now.facts))
-
+module _ (t : blocks.Task) where
   pub first-numbers : 0 + 2 ^ ((values.task t).width - 0) ≤ 2 ^ (values.task t).width
   first-numbers = omega (arith, root-span (values.task t).width)
 
   -- the walk from the case that fixes no fact is the walk of the task
   pub first-walk :
-      first.cases.now.facts ≡ t.problem.now.facts →
-      walk_of (values.task t) (first.cases.now.facts - (0 + 0)) (0 + 0) (0 + (1 - 2 ^ 0) * 2 ^ ((values.task t).width - (0 + 0))) ≡ walked (values.task t)
+      walk_of (values.task t) (t.problem.now.facts - (0 + 0)) (0 + 0) (0 + (1 - 2 ^ 0) * 2 ^ ((values.task t).width - (0 + 0))) ≡ walked (values.task t)
   unfolding walked walk
-  first-walk e = same-walk (values.task t) _ _ _ _ _ _ (omega (arith, e, task-facts t)) (omega arith) (omega arith)
+  first-walk = same-walk (values.task t) _ _ _ _ _ _ (omega (arith, task-facts t)) (omega arith) (omega arith)
+
+  -- the tables that stand at it, and what was found of the first block
+  module _ (tables : Tables) (A : AtFirst tables t.problem.now.facts) where
+    stands-first : StandsAt tables (model-case.case_of (values.task t).width t.problem.now.facts 0 0)
+    stands-first j l = A.stands j l ∙ sym (case-first (values.task t).width t.problem.now.facts)
+
+    pub first-looked :
+        (levels : ℕ) (looks : Looks) → levels ≡ first_levels t.problem.now.facts → LooksAt (values.task t) (block_at tables 0 levels) looks →
+        LooksAt (values.task t) (block_of (values.task t).width t.problem.now.facts 0 0 (first_levels t.problem.now.facts)) looks
+    first-looked levels looks e L =
+        looks-same (values.task t) _ _ looks (λ j l. rw e (ap (λ (x : List Kleene). block_case x 0 (first_levels t.problem.now.facts) j) (stands-first j l))) L
+
+  module _ (tables : Tables) (b : block.Block) (f : b.first ≡ 0) (v : b.number ≡ 0) (i : b.task.now ≡ t) where
+    pub at-first : AtFirst tables t.problem.now.facts → At tables b
+    at-first A = record { facts = rw i A.count; stands = rw (i, f, v) (stands-first tables A) }
+
+    pub first-again : At tables b → AtFirst tables t.problem.now.facts
+    first-again A =
+        record {
+          count = A.facts ∙ ap (λ (x : blocks.Task). x.problem.now.facts) i;
+          stands = λ j l. A.stands j l ∙ rw (i, f, v) (case-first (values.task t).width t.problem.now.facts);
+        }

@@ -1,11 +1,20 @@
 -- The lanes of a block.
-use Rattle.std.specs.Prelude.{◌≡◌, List, ℕ, suc, ◌+◌, ◌*◌, ◌%◌, ◌^◌, ◌≤◌, ◌<◌}
+use Rattle.std.specs.Prelude.{◌≡◌, List, ℕ, suc, ◌+◌, ◌-◌, ◌*◌, ◌%◌, ◌^◌, ◌≤◌, ◌<◌}
 use Rattle.model.specs.Kleene.{Kleene}
+use Rattle.model.specs.Case.{case_of}
 use Rattle.cases.specs.Blocks.{block_case}
 
 -- the lanes have the case `root` and the cases of its next facts, from fact k on, so many levels of them
 abbrev pub IsBlock : (ℕ → List Kleene) → List Kleene → ℕ → ℕ → Type 0
 IsBlock case root k levels = (j : ℕ) → j < 64 → case j ≡ block_case root k levels j
+
+-- the case in lane j of the block of (k, v), over n facts
+abbrev pub block_of : ℕ → ℕ → ℕ → ℕ → ℕ → ℕ → List Kleene
+block_of w n k v levels j = block_case (case_of w n k v) k levels j
+
+-- the levels of the first block over so many facts: the odd ones, so that all blocks below it are full
+abbrev pub first_levels : ℕ → ℕ
+first_levels facts = (facts - 1) % 5 + 1
 
 -- the levels of a block below a case that leaves so many facts open
 pub record LevelsOf (left r : ℕ) : Type 0 where

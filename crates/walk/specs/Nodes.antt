@@ -1,5 +1,5 @@
 -- The case in a lane of a block, and the walk from it.
-use Rattle.std.specs.Prelude.{ℕ, ◌+◌, ◌-◌, ◌*◌, ◌^◌}
+use Rattle.std.specs.Prelude.{◌≡◌, ℕ, ◌+◌, ◌-◌, ◌*◌, ◌^◌}
 use Rattle.model.specs.declared.Limits.{Limits}
 use Rattle.model.specs.Case as model
 use Rattle.model.specs.Planes.{lane_bit}
@@ -8,6 +8,8 @@ use Rattle.blocks.specs.Values.{task}
 use Rattle.runs.specs.Looks.{look_bits}
 use Rattle.walk.specs.declared.block.Block.{Block}
 use Rattle.walk.specs.declared.case.Case.{Case}
+use Rattle.walk.specs.declared.tables.Tables.{Tables}
+use Rattle.walk.specs.Tables.{facts_of, StandsAt}
 
 -- the task that is walked, and the numbers of its version
 abbrev pub task_of : Block → model.Task
@@ -34,4 +36,9 @@ walk_of T d k v = walk_from T.width (look_at T) d (look_at T k v) k v
 
 -- the walk from a lane's case
 abbrev pub walk_at : Block → ℕ → ℕ → Walked
-walk_at b e lane = let case = case_at b e lane in walk_of (task_of b) (b.cases.now.facts - case.k) case.k case.number
+walk_at b e lane = let case = case_at b e lane in walk_of (task_of b) (b.task.now.problem.now.facts - case.k) case.k case.number
+
+-- the tables stand at the block's own case
+pub record At (t : Tables) (b : Block) : Type 0 where
+  pub facts : facts_of t ≡ b.task.now.problem.now.facts
+  pub stands : StandsAt t (model.case_of (task_of b).width b.task.now.problem.now.facts b.first b.number)

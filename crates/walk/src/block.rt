@@ -1,12 +1,12 @@
 // Blocks of cases that were looked at.
 ghost use Rattle.std.proofs.Props.{props};
 ghost use Rattle.std.specs.Prelude.{◌≡◌, ◌+◌, ◌-◌, ◌%◌, ◌^◌, ◌≤◌, ◌<◌, replicate};
+ghost use Rattle.model.specs.Limits.{max_facts};
 ghost use Rattle.model.specs.Kleene.{Unknown};
-ghost use Rattle.model.specs.Case.{case_of as case_numbered};
 ghost use Rattle.blocks.specs.Values.{task as task_of};
 ghost use Rattle.cases.specs.Cases.{case_of};
 ghost use Rattle.runs.specs.Looks.{LooksAt};
-ghost use Rattle.walk.specs.Lanes.{IsBlock, IsAfter, LevelsOf};
+ghost use Rattle.walk.specs.Lanes.{IsBlock, IsAfter, LevelsOf, first_levels, block_of};
 
 use crate::case::Case;
 use blocks::Task;
@@ -14,31 +14,46 @@ use cases::Cases;
 use numbers::span;
 use runs::Looks;
 
-// A block: the case of lane 1, which fixes `first` facts to the top bits of `number`, and below it the cases of the next facts, so many
+// A block: its own case, which fixes `first` facts to the top bits of `number`, in lane 1, and below it the cases of the next facts, so many
 // levels of them; and what a visit finds of each. The parts of lane i are the lanes 2i and 2i + 1.
 #[derive(Clone, Copy)]
 pub struct Block<'a> {
     pub task: &'a Task<'a>,
-    pub cases: &'a Cases,
     pub first: usize,
     pub number: u64,
     pub levels: usize,
     pub looks: Looks,
-    pub ghost facts: { cases.now.facts ≡ task.now.problem.now.facts },
     pub ghost some: { 0 < levels },
     pub ghost few: { levels ≤ 5 },
-    pub ghost inside: { first + levels ≤ cases.now.facts },
+    pub ghost inside: { first + levels ≤ task.now.problem.now.facts },
     pub ghost begins: { number % 2 ^ ((task_of task.now).width - first) ≡ 0 },
     pub ghost numbers: { number + 2 ^ ((task_of task.now).width - first) ≤ 2 ^ (task_of task.now).width },
-    pub ghost lanes: { IsBlock (case_of cases.now) (case_numbered (task_of task.now).width cases.now.facts first number) first levels } by { Prim.hlevel props },
-    pub ghost looked: { LooksAt (task_of task.now) (case_of cases.now) looks } by { Prim.hlevel props },
+    pub ghost looked: { LooksAt (task_of task.now) (block_of (task_of task.now).width task.now.problem.now.facts first number levels) looks } by { Prim.hlevel props },
 }
 
-impl Block<'_> {
+impl<'a> Block<'a> {
     ghost use Rattle.std.specs.Prelude.{ℕ, ◌*◌, IsTrue, ◌↔◌};
-    ghost use Rattle.model.specs.Walk.{opened};
+    ghost use Rattle.model.specs.Walk.{opened, walked};
     ghost use Rattle.walk.specs.Lanes.{OnLevel};
-    ghost use Rattle.walk.specs.Nodes.{look_in, case_at};
+    ghost use Rattle.walk.specs.Nodes.{limits_of, look_in, case_at, walk_at};
+
+    // The block that the walk of a task begins with, of which a visit finds so much: the walk of its own case is the whole walk.
+    pub fn first(task: &'a Task<'a>, looks: Looks) -> Block<'a>
+        requires { let facts = task.now.problem.now.facts in LooksAt (task_of task.now) (block_of (task_of task.now).width facts 0 0 (first_levels facts)) looks }
+        ensures first { result.first ≡ 0 }
+        ensures number { result.number ≡ 0 }
+        ensures task { result.task.now ≡ task.entry.now }
+        ensures limits { limits_of result ≡ task.entry.now.problem.now.limits }
+        ensures walk { walk_at result 0 1 ≡ walked (task_of task.entry.now) }
+    {
+        Block {
+            task,
+            first: 0,
+            number: 0,
+            levels: first_levels(task.problem.facts),
+            looks,
+        }
+    }
 
     // Whether the case of a lane is open and its parts are lanes of this block too.
     #[inline(always)]
@@ -47,6 +62,17 @@ impl Block<'_> {
         ensures { IsTrue result ↔ ((look_in self.now lane ≡ opened) × (lane < 2 ^ self.now.levels)) }
     {
         self.looks.kind(lane).is_none() && lane < 1usize << self.levels
+    }
+
+    // Its own case.
+    #[inline(always)]
+    pub fn own_case(&self) -> Case
+        ensures { result ≡ record { k = self.now.first; number = self.now.number } }
+    {
+        Case {
+            k: self.first,
+            number: self.number,
+        }
     }
 
     // The case of a lane. The lanes of the last level go by their numbers, and the first of those below a lane has the lane's number.
@@ -78,54 +104,23 @@ pub fn lane_after(lane: usize) -> usize
     next >> next.trailing_zeros()
 }
 
-// The block that the walk of a task begins with: the case of lane 1 fixes no fact.
-#[derive(Clone, Copy)]
-pub struct FirstBlock<'a> {
-    pub cases: &'a Cases,
-    pub levels: usize,
-    pub ghost some: { 0 < cases.now.facts },
-    pub ghost levels_of: { LevelsOf cases.now.facts levels },
-    pub ghost lanes: { IsBlock (case_of cases.now) (replicate cases.now.facts Unknown) 0 levels } by { Prim.hlevel props },
-}
-
-impl<'a> FirstBlock<'a> {
-    ghost use Rattle.std.specs.Prelude.{ℕ};
-    ghost use Rattle.model.specs.Walk.{walked};
-    ghost use Rattle.walk.specs.Nodes.{limits_of, walk_at};
-
-    // That of cases which fix no fact yet, whatever the plan.
-    pub fn of(cases: &'a mut Cases) -> FirstBlock<'a>
-        requires some { 1 ≤ cases.old.facts }
-        requires first_case { (j : ℕ) → j < 64 → case_of cases.old j ≡ replicate cases.old.facts Unknown }
-        ensures { result.cases.now.facts ≡ cases.old.facts }
-    {
-        let levels = first_levels(cases.facts);
-        cases.fix_levels(0, levels);
-        FirstBlock { cases, levels }
-    }
-
-    // It, of a task of which a visit finds so much there: the walk of its own case is the whole walk.
-    pub fn of_task(&self, task: &'a Task<'a>, looks: Looks) -> Block<'a>
-        requires facts { self.now.cases.now.facts ≡ task.now.problem.now.facts }
-        requires looked { LooksAt (task_of task.now) (case_of self.now.cases.now) looks }
-        ensures limits { limits_of result ≡ task.entry.now.problem.now.limits }
-        ensures walk { walk_at result 0 1 ≡ walked (task_of task.entry.now) }
-    {
-        Block {
-            task,
-            cases: self.cases,
-            first: 0,
-            number: 0,
-            levels: self.levels,
-            looks,
-        }
-    }
+// The lanes of that block, over so many facts.
+pub fn first_lanes(facts: u8) -> Cases
+    requires some { 1 ≤ facts }
+    requires few { facts ≤ max_facts }
+    ensures facts { result.facts ≡ facts }
+    ensures lanes { IsBlock (case_of result) (replicate facts Unknown) 0 (first_levels facts) }
+{
+    let mut cases = Cases::first_case(facts);
+    cases.fix_levels(0, first_levels(facts));
+    cases
 }
 
 // The levels of the first block: the odd ones, so that all blocks below it are full.
-fn first_levels(facts: u8) -> usize
+pub(crate) fn first_levels(facts: u8) -> usize
     requires { 1 ≤ facts }
-    ensures { LevelsOf facts result }
+    ensures is { result ≡ first_levels facts }
+    ensures levels { LevelsOf facts result }
 {
     (facts - 1) as usize % 5 + 1
 }

@@ -5,6 +5,7 @@ ghost use Rattle.model.specs.WellFormed.{Sensible};
 ghost use Rattle.model.specs.Walk as model;
 ghost use Rattle.lines.specs.Lines.{line_of};
 
+use cases::{Case as TableCase, word_of};
 use lines::Line;
 use model::{Kind, Limits};
 
@@ -16,8 +17,25 @@ pub struct Case {
 }
 
 impl Case {
-    ghost use Rattle.std.specs.Prelude.{◌≡◌};
+    ghost use Rattle.std.specs.Prelude.{◌≡◌, ◌^◌, ◌≤◌};
+    ghost use Rattle.cases.specs.Words.{raised, SameCase};
     ghost use Rattle.walk.specs.Cases.{closed_line};
+
+    // It as a table of cases takes it.
+    #[inline(always)]
+    pub(crate) fn in_table(self, width: u8) -> TableCase
+        requires some { 0 < width }
+        requires word { width ≤ 64 }
+        requires fits { self.number < 2 ^ width }
+        ensures fixed { result.fixed ≡ self.k }
+        ensures raised { result.word ≡ raised width self.number }
+        ensures same { SameCase width self.number result.word }
+    {
+        TableCase {
+            fixed: self.k,
+            word: word_of(width as usize, self.number),
+        }
+    }
 
     // The line that closes it.
     #[inline(always)]

@@ -4,9 +4,11 @@
 pub mod block;
 pub mod case;
 pub mod page;
+pub mod tables;
 pub mod visits;
 
-pub use block::{Block, FirstBlock};
+pub use block::{Block, first_lanes};
 pub use case::{Case, Lines, Unkept};
 pub use page::Page;
+pub use tables::Tables;
 pub use visits::{Closed, Stopped, walk_block, walk_task};

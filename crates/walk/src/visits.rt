@@ -4,15 +4,13 @@ ghost use Rattle.std.specs.Prelude.{ℕ, ◌≡◌, ◌+◌, ◌*◌, ◌^◌, �
 ghost use Rattle.model.specs.Walk.{opened, walked};
 ghost use Rattle.blocks.specs.Values.{task as task_of};
 ghost use Rattle.walk.specs.Lanes.{LevelsOf, OnLevel};
-ghost use Rattle.walk.specs.Nodes.{limits_of, look_in, walk_at};
+ghost use Rattle.walk.specs.Nodes.{limits_of, look_in, walk_at, At};
 ghost use Rattle.walk.specs.Walks.{Walks};
 
-use crate::block::{Block, FirstBlock, lane_after};
+use crate::block::{Block, first_levels, lane_after};
 use crate::case::Lines;
+use crate::tables::Tables;
 use blocks::Task;
-use cases::Cases;
-use runs::look;
-use step::Conditions;
 
 // Every case closed, so many with a line; and the visits that are left of the grant.
 #[derive(Clone, Copy)]
@@ -35,15 +33,17 @@ fn levels_of(left: usize) -> usize
     left.min(5)
 }
 
-// The walk from a block's own case, lane 1. The conditions are lent: every look writes over them.
+// The walk from a block's own case, lane 1, at which the tables stand, and do again after it.
 #[cycle(cases)]
 pub fn walk_block<L: Lines>(
     block: &Block,
     grant: u64,
     lines: &mut L,
-    conditions: &mut Conditions,
+    tables: &mut Tables,
 ) -> Result<Closed, Stopped>
-    ensures { Walks (L.gives (limits_of block.now)) (walk_at block.now 0 1) grant lines.old result lines.new }
+    requires { At tables.old block.now }
+    ensures stands { At tables.new block.now }
+    ensures walks { Walks (L.gives (limits_of block.now)) (walk_at block.now 0 1) grant lines.old result lines.new }
 {
     let mut lane = 1;
     let mut count = 0;
@@ -57,7 +57,7 @@ pub fn walk_block<L: Lines>(
             lane = 2 * lane;
             continue;
         }
-        let closed = walk_lane(block, lane, left, lines, conditions)?;
+        let closed = walk_lane(block, lane, left, lines, tables)?;
         count += closed.lines;
         left = closed.left;
         lane = lane_after(lane);
@@ -75,13 +75,15 @@ fn walk_lane<L: Lines>(
     lane: usize,
     left: u64,
     lines: &mut L,
-    conditions: &mut Conditions,
+    tables: &mut Tables,
 ) -> Result<Closed, Stopped>
     requires some { 0 < lane }
     requires inside { lane < 2 * 2 ^ block.now.levels }
     requires edge { look_in block.now lane ≡ opened → 2 ^ block.now.levels ≤ lane }
     requires granted { 0 < left }
-    ensures { (e : ℕ) → OnLevel lane e → Walks (L.gives (limits_of block.now)) (walk_at block.now e lane) left lines.old result lines.new }
+    requires stands { At tables.old block.now }
+    ensures stands { At tables.new block.now }
+    ensures walks { (e : ℕ) → OnLevel lane e → Walks (L.gives (limits_of block.now)) (walk_at block.now e lane) left lines.old result lines.new }
 {
     if let Some(kind) = block.looks.kind(lane) {
         lines.put(&block.task.problem.limits, block.case(lane).line(kind));
@@ -90,53 +92,55 @@ fn walk_lane<L: Lines>(
             left: left - 1,
         });
     }
-    if block.first + block.levels == block.cases.facts as usize {
+    if block.first + block.levels == block.task.problem.facts as usize {
         return Err(Stopped::Failed {
             state: block.case(lane).number,
             left: left - 1,
         });
     }
-    walk_below(block, lane, left, lines, conditions)
+    walk_below(block, lane, left, lines, tables)
 }
 
-// The walk from a case at the edge of its block, which begins a block of its own. Only here a call holds cases.
+// The walk from a case at the edge of its block, which begins a block of its own.
 #[cycle(cases)]
-#[inline(never)]
 fn walk_below<L: Lines>(
     block: &Block,
     lane: usize,
     left: u64,
     lines: &mut L,
-    conditions: &mut Conditions,
+    tables: &mut Tables,
 ) -> Result<Closed, Stopped>
     requires edge { OnLevel lane block.now.levels }
-    requires some { block.now.first + block.now.levels < block.now.cases.now.facts }
-    ensures { Walks (L.gives (limits_of block.now)) (walk_at block.now block.now.levels lane) left lines.old result lines.new }
+    requires some { block.now.first + block.now.levels < block.now.task.now.problem.now.facts }
+    requires stands { At tables.old block.now }
+    ensures stands { At tables.new block.now }
+    ensures walks { Walks (L.gives (limits_of block.now)) (walk_at block.now block.now.levels lane) left lines.old result lines.new }
 {
+    let problem = block.task.problem;
     let case = block.case(lane);
-    let mut below = *block.cases;
-    below.fix_path(block.first, block.levels, lane);
-    let levels = levels_of(below.facts as usize - case.k);
-    below.fix_levels(case.k, levels);
-    let looks = look(block.task, &below, conditions);
-    let inner = Block {
+    let above = block.own_case().in_table(problem.limits.width);
+    let here = case.in_table(problem.limits.width);
+    tables.go(block.first, above, here);
+    let levels = levels_of(problem.facts as usize - case.k);
+    let looks = tables.look(block.task, case.k, levels);
+    let below = Block {
         task: block.task,
-        cases: &below,
         first: case.k,
         number: case.number,
         levels,
         looks,
     };
-    walk_block(&inner, left, lines, conditions)
+    let walked = walk_block(&below, left, lines, tables);
+    tables.go(block.first, here, above);
+    walked
 }
 
 // The walk of a whole task, from the case that fixes no fact.
 pub fn walk_task<L: Lines>(task: &Task, grant: u64, lines: &mut L) -> Result<Closed, Stopped>
     ensures { Walks (L.gives task.now.problem.now.limits) (walked (task_of task.now)) grant lines.old result lines.new }
 {
-    let mut conditions = Conditions::new();
-    let mut cases = Cases::first_case(task.problem.facts);
-    let first = FirstBlock::of(&mut cases);
-    let looks = look(task, first.cases, &mut conditions);
-    walk_block(&first.of_task(task, looks), grant, lines, &mut conditions)
+    let facts = task.problem.facts;
+    let mut tables = Tables::first(facts);
+    let looks = tables.look(task, 0, first_levels(facts));
+    walk_block(&Block::first(task, looks), grant, lines, &mut tables)
 }

@@ -4,6 +4,7 @@ use std::env;
 use std::fs;
 use std::path::{Path, PathBuf};
 use std::process::{self, Command};
+use std::sync::atomic::{AtomicUsize, Ordering};
 
 use conformance::encode;
 use conformance::model::{Action, Effect, Formula, Problem};
@@ -64,6 +65,9 @@ fn deepest_problem(version: &Version) -> Problem {
     }
 }
 
+/// How many were made: two at once stand in folders of their own.
+static MADE: AtomicUsize = AtomicUsize::new(0);
+
 /// The program that measures a call, and the files of the blocks of a version that it
 /// is called with.
 struct Measure {
@@ -72,7 +76,8 @@ struct Measure {
 
 impl Measure {
     fn new(version: &Version) -> Measure {
-        let name = format!("larkhammock-stack-{}-{}", version.byte, process::id());
+        let made = MADE.fetch_add(1, Ordering::Relaxed);
+        let name = format!("larkhammock-stack-{}-{made}", process::id());
         let folder = env::temp_dir().join(name);
         fs::create_dir_all(&folder).expect("the temporary folder can be written");
         let measure = Measure { folder };

@@ -5,30 +5,50 @@
 mod versions;
 
 use bench::stack::measured;
-use conformance::version::Version;
+use conformance::version::{Version, VERSION_1, VERSION_2};
 
-/// "At most 64 KiB of stack on this build."
-const PROMISED: u64 = 64 * 1024;
+/// What the header promises of each operation, in KiB, and in its words.
+const PROMISED: [(&str, u64, &str); 8] = [
+    ("read_problem", 8, "8 KiB to read a problem or a plan"),
+    ("read_plan", 8, "8 KiB to read a problem or a plan"),
+    ("run", 16, "16 KiB to run a state"),
+    ("judge", 32, "32 KiB to judge a plan or to write a list"),
+    (
+        "write_list",
+        32,
+        "32 KiB to judge a plan or to write a list",
+    ),
+    ("follow_list", 24, "24 KiB to follow a list"),
+    ("relevant_facts", 48, "48 KiB to tell relevant facts"),
+    ("search_plans", 36, "36 KiB to search plans"),
+];
+
+/// The operations that walk down to the last fact.
+const WALKS: [&str; 3] = ["judge", "write_list", "search_plans"];
 
 of_each_version! {
     no_call_takes_more_than_the_header_says,
 }
 
 fn no_call_takes_more_than_the_header_says(version: &Version) {
-    let header = include_str!("../../../include/larkhammock.h");
-    let promise = format!("at most\n * {} KiB of stack on this build", PROMISED / 1024);
-    assert!(header.contains(&promise));
-    let walks = ["judge", "write_list", "search_plans"];
+    let header = include_str!("../../../include/larkhammock.h").replace("\n * ", " ");
     for (operation, bytes) in measured(version) {
-        assert!(bytes <= PROMISED, "{operation} takes {bytes} bytes");
-        if walks.contains(&operation) {
-            assert!(bytes > deepest_walk(version), "{operation}: {bytes}");
-        }
+        let promised = PROMISED.iter().find(|(known, ..)| *known == operation);
+        let (_, kib, words) = promised.expect("the header says it of each operation");
+        assert!(header.contains(words), "{words}");
+        assert!(bytes <= kib * 1024, "{operation} takes {bytes} bytes");
     }
 }
 
-/// A walk down to the last fact has cases of 2 KiB for each of its blocks of five
-/// facts: else the measure would not have seen the deepest call.
-fn deepest_walk(version: &Version) -> u64 {
-    u64::from(version.most_facts).div_ceil(5) * 2 * 1024
+/// Each five facts more are a call more on the way down: else the measure would not have
+/// seen the deepest one.
+#[test]
+fn a_walk_over_more_facts_takes_more() {
+    for ((operation, fewer), (_, more)) in
+        measured(&VERSION_1).into_iter().zip(measured(&VERSION_2))
+    {
+        if WALKS.contains(&operation) {
+            assert!(fewer < more, "{operation}: {fewer} bytes, and {more}");
+        }
+    }
 }

@@ -1,16 +1,6 @@
 -- A relation between two logics that every connective keeps is kept by every reading, step and run. Two instances: a case that says
 -- more (`refining`), and a case with every fact fixed (`exact`). Assumes nothing.
-use mathlib.Core.Path.{◌≡◌, refl, sym, ap, ◌∙◌}
-use mathlib.Core.Bool.{Bool, true, false, cond, ◌&&◌, ◌||◌, not}
-use mathlib.Core.List.{List, [], ◌∷◌, map}
-use Prim.Native.Nat.{ℕ, zero, suc, ◌<◌, suc-le-suc}
-use lib.ListN.{get_or, get_or-map}
-use native.Mathlib.Omega.{arith}
-use Rattle.model.specs.Kleene.{Kleene, No, Unknown, Yes, both, either, denied, is_yes, known, Logic, two, three}
-use Rattle.model.specs.Formula.{fact, denial, Formula, Formulas, lit, all, any, none, more, eval, eval_all, eval_any}
-use Rattle.model.specs.Action.{Action, condition_of, tabulate, every, sets, clears, exclusive, applicable, next, step}
-use Rattle.model.specs.Run.{unmet, holds_in, lowest_false, at_member, at_fact, part_of, Outcome, reached, Stop, at_end, goes_on, run}
-use Rattle.model.proofs.Laws.Truth.{and-true}
+use Rattle.model.proofs.Words.{◌≡◌, sym, ap, ◌∙◌, Bool, true, false, List, [], ◌∷◌, map, ℕ, zero, suc, ◌<◌, suc-le-suc, get_or, get_or-map, arith, Kleene, No, Unknown, Yes, both, either, denied, is_yes, known, Logic, two, three, fact, denial, Formula, Formulas, lit, all, any, none, more, eval, eval_all, eval_any, Action, tabulate, sets, clears, exclusive, applicable, next, step, part_of, Outcome, reached, Stop, at_end, goes_on, run}
 use Rattle.model.proofs.Laws.Conflicts.{every-at, every-all}
 
 -- an equation in one value, or in two, by the table of its instances
@@ -18,24 +8,20 @@ abbrev row : {A : Type 0} → (Kleene → A) → List A
 row f = f No ∷ f Unknown ∷ f Yes ∷ []
 
 pub by_row : {A : Type 0} (f g : Kleene → A) → row f ≡ row g → (x : Kleene) → f x ≡ g x
-by_row f g e No = cc
-by_row f g e Unknown = cc
-by_row f g e Yes = cc
+by_row f g e x = grind arith
 
 pub by-table :
     {A : Type 0} (f g : Kleene → Kleene → A) → row (λ x. row (f x)) ≡ row (λ x. row (g x)) → (x y : Kleene) → f x y ≡ g x y
-by-table f g e x = by_row (f x) (g x) (by_row (λ x. row (f x)) (λ x. row (g x)) e x)
+by-table f g e x y = grind arith
 
 -- ---- a run that is reached
 
 pub goes-on-reached : (b : Bool) (r : Outcome) (s : Stop) → goes_on b r s ≡ reached → (b ≡ true) × (r ≡ reached)
 unfolding goes_on
-goes-on-reached true r s e = (refl, e)
-goes-on-reached false r s e = (cc, cc)
+goes-on-reached b r s e = grind arith
 
 pub at-end-reached : (b : Bool) → at_end b ≡ reached → b ≡ true
-at-end-reached true e = refl
-at-end-reached false e = cc
+at-end-reached b e = grind arith
 
 -- ---- the relation
 
@@ -77,11 +63,7 @@ module _ {X Y : Type 0} (L : Logic X) (M : Logic Y) (R : X → Y → Type 0) (K 
 
   pub step_keeps : (n : ℕ) (a : Action) (c : List X) (s : List Y) → Along c s → Along (step L n a c) (step M n a s)
   unfolding step next
-  step_keeps n a c s h =
-      tabulate-keeps n _ _ λ f l.
-      K.either
-      (eval-keeps c s h (condition_of (fact f) a.effects))
-      (K.both (h f) (K.denied (eval-keeps c s h (condition_of (denial f) a.effects))))
+  step_keeps n a c s h = grind (arith, tabulate-keeps, eval-keeps)
 
   -- the "all" of a fact's two conditions, denied
   exclusive-keeps :
@@ -96,14 +78,7 @@ module _ {X Y : Type 0} (L : Logic X) (M : Logic Y) (R : X → Y → Type 0) (K 
       run L n goal plan i c ≡ reached → run M n goal plan i s ≡ reached
   unfolding run goes_on applicable exclusive
   run-keeps up n goal [] i c s h e = rw (up _ _ (eval-keeps c s h goal) (at-end-reached _ e))
-  run-keeps up n goal (a ∷ plan) i c s h e =
-      let (b, r) = goes-on-reached _ _ _ e in
-      let (p, x) = and-true _ _ b in
-      rw (
-        up _ _ (eval-keeps c s h a.precondition) p,
-        every-all n (exclusive M a s) (λ f l. up _ _ (exclusive-keeps a c s h f) (every-at n (exclusive L a c) x f l)),
-      )
-      (run-keeps up n goal plan (suc i) _ _ (step_keeps n a c s h) r)
+  run-keeps up n goal (a ∷ plan) i c s h e = grind (arith, (run-keeps up n goal plan (suc i)), (eval-keeps c), (every-all n (exclusive M a s)), (exclusive-keeps a c s h), (every-at n (exclusive L a c)), (step_keeps n a c s h))
 
   -- where both hold the same, the runs end the same
   pub run-same :
@@ -112,13 +87,7 @@ module _ {X Y : Type 0} (L : Logic X) (M : Logic Y) (R : X → Y → Type 0) (K 
       run L n goal plan i c ≡ run M n goal plan i s
   unfolding run goes_on applicable exclusive part_of
   run-same same n goal [] i c s h = ap at_end (same _ _ (eval-keeps c s h goal))
-  run-same same n goal (a ∷ plan) i c s h =
-      let e : (φ : Formula) → holds_in L c φ ≡ holds_in M s φ = λ φ. same _ _ (eval-keeps c s h φ) in
-      let x : (f : ℕ) → exclusive L a c f ≡ exclusive M a s f = λ f. same _ _ (exclusive-keeps a c s h f) in
-      let rest = run-same same n goal plan (suc i) (step L n a c) (step M n a s) (step_keeps n a c s h) in
-      λ j.
-      goes_on (e a.precondition j && every n (λ f. x f j)) (rest j)
-      (record { step = i; part = cond (e a.precondition j) (at_fact (lowest_false n (λ f. x f j))) (at_member (unmet (λ φ. e φ j) a.precondition)) })
+  run-same same n goal (a ∷ plan) i c s h = grind (arith, (run-same same n goal plan (suc i) (step L n a c) (step M n a s) (step_keeps n a c s h)), (eval-keeps c), (exclusive-keeps a c s h))
 
 -- ---- a case that says more
 
@@ -126,38 +95,20 @@ pub data Refines : Kleene → Kleene → Type 0 where
   same : {t : Kleene} → Refines t t
   wider : {t : Kleene} → Refines Unknown t
 
-both-wider : (t u : Kleene) → Refines (both t Unknown) (both t u)
-both-wider No u = same
-both-wider Unknown u = wider
-both-wider Yes u = wider
-
-both-comm : (x y : Kleene) → both x y ≡ both y x
-both-comm = by-table both (λ x y. both y x) refl
-
 both-refines : {x x' y y' : Kleene} → Refines x y → Refines x' y' → Refines (both x x') (both y y')
-both-refines same same = same
-both-refines (same {t}) (wider {t = u}) = both-wider t u
-both-refines (wider {t = u}) (same {t}) = rw (both-comm Unknown t, both-comm u t) (both-wider t u)
-both-refines wider wider = wider
+both-refines x y = grind arith
 
 denied-refines : {x y : Kleene} → Refines x y → Refines (denied x) (denied y)
-denied-refines same = same
-denied-refines wider = wider
-
--- "an "any" mirrors it"
-either-mirrors : (x y : Kleene) → either x y ≡ denied (both (denied x) (denied y))
-either-mirrors = by-table either (λ x y. denied (both (denied x) (denied y))) refl
+denied-refines x = grind (arith, same, wider)
 
 either-refines : {x x' y y' : Kleene} → Refines x y → Refines x' y' → Refines (either x x') (either y y')
-either-refines {x} {x'} {y} {y'} r t =
-    rw (either-mirrors x x', either-mirrors y y') (denied-refines (both-refines (denied-refines r) (denied-refines t)))
+either-refines r t = grind arith
 
 pub refining : Keeps three three Refines
 refining = record { always = same; never = same; both = both-refines; either = either-refines; denied = denied-refines }
 
 pub refines-yes : (x y : Kleene) → Refines x y → is_yes x ≡ true → is_yes y ≡ true
-refines-yes x y same e = e
-refines-yes x y wider e = cc
+refines-yes x y z e = grind arith
 
 -- ---- a case with every fact fixed
 
@@ -165,31 +116,10 @@ abbrev pub Exact : Kleene → Bool → Type 0
 Exact t b = t ≡ known b
 
 pub yes-exact : (b : Bool) → is_yes (known b) ≡ b
-yes-exact true = refl
-yes-exact false = refl
-
--- the connectives of two known values
-known-both : (b c : Bool) → both (known b) (known c) ≡ known (b && c)
-known-both true c = refl
-known-both false c = refl
-
-known-either : (b c : Bool) → either (known b) (known c) ≡ known (b || c)
-known-either true c = refl
-known-either false c = refl
-
-known-denied : (b : Bool) → denied (known b) ≡ known (not b)
-known-denied true = refl
-known-denied false = refl
+yes-exact b = grind arith
 
 pub exact : Keeps three two Exact
-exact =
-    record {
-      always = refl;
-      never = refl;
-      both = λ {x} {x'} {y} {y'} p q. rw (p, q) (known-both y y');
-      either = λ {x} {x'} {y} {y'} p q. rw (p, q) (known-either y y');
-      denied = λ {x} {y} p. rw p (known-denied y);
-    }
+exact = grind arith
 
 -- a state as a case that fixes every fact
 pub known-along : (st : List Bool) → Along three two Exact exact (map known st) st
@@ -203,6 +133,4 @@ known-inj {b} {b'} e = sym (yes-exact b) ∙ ap is_yes e ∙ yes-exact b'
 
 -- what a case reads as yes or no, one that says more reads so
 pub refines-known : {x y : Kleene} (b : Bool) → Refines x y → x ≡ known b → y ≡ known b
-refines-known b same e = e
-refines-known true wider e = cc
-refines-known false wider e = cc
+refines-known b x e = grind arith

@@ -1,21 +1,6 @@
 -- The solutions from a belief are the right plans: beliefs and runs of single states agree, and every list of n values is a
 -- state. How the run of one state ends is what is said of the belief that has it alone. Assumes nothing.
-use mathlib.Core.Path.{◌≡◌, refl, sym, ap, ◌∙◌, subst}
-use mathlib.Core.Bool.{Bool, true, false, false≢true, not-eq-not}
-use mathlib.Core.Logic.{◌↔◌}
-use mathlib.Core.List.{List, [], ◌∷◌, ◌++◌, append-nil}
-use Prim.Native.Nat.{ℕ, zero, suc, ◌+◌, ◌-◌, ◌^◌, ◌≤◌, ◌<◌}
-use native.Mathlib.Omega.{arith}
-use native.Mathlib.Decide.{ℕ_discrete}
-use lib.ListN.{length, get_or}
-use lib.Seq.{ext_get_or}
-use lib.Pow.{pow_pos}
-use Rattle.model.specs.Kleene.{two}
-use Rattle.model.specs.Formula.{Formula, eval}
-use Rattle.model.specs.Action.{Action, tabulate, applicable, next, step}
-use Rattle.model.specs.Run.{part_of, Stop, Outcome, reached, missed, blocked, at_end, goes_on, run}
-use Rattle.model.specs.Case.{bit, state_of, Task, run_of, initially, IsState, Right}
-use Rattle.model.specs.Belief.{Belief, Entails, only, ApplicableIn, Image, after, Applicable, Solution, initial_belief, IsPart, Blocks, OutcomeMeans}
+use Rattle.model.proofs.Words.{◌≡◌, refl, sym, ap, ◌∙◌, Bool, true, false, false≢true, ◌↔◌, List, [], ◌∷◌, ◌++◌, append-nil, ℕ, zero, suc, ◌+◌, ◌-◌, ◌^◌, ◌≤◌, ◌<◌, arith, length, get_or, ext_get_or, pow_pos, two, Formula, eval, Action, tabulate, applicable, next, step, part_of, Stop, Outcome, reached, missed, blocked, at_end, goes_on, run, bit, state_of, Task, run_of, initially, IsState, Right, Belief, Entails, only, ApplicableIn, Image, after, Applicable, Solution, initial_belief, IsPart, Blocks, OutcomeMeans}
 use Rattle.model.proofs.Laws.Tabulate.{length-tabulate, get_d_tabulate}
 use Rattle.model.proofs.Laws.Conflicts.{applicable-state, part-is, is-part}
 use Rattle.model.proofs.Laws.Agreement.{goes-on-reached, at-end-reached}
@@ -29,22 +14,19 @@ module _ (n : ℕ) (goal : Formula) where
 
   image-step : (a : Action) (B : Belief) (t : List Bool) (m : Image n a B t) → t ≡ step two n a m.before
   unfolding step
-  image-step a B t m =
-      ext_get_or false t (tabulate n (next two a m.before)) (m.size ∙ sym (length-tabulate n _))
-      (λ i h. m.moves i (subst (λ (x : ℕ). i < x) m.size h) ∙ sym (get_d_tabulate n (next two a m.before) i false (subst (λ (x : ℕ). i < x) m.size h)))
+  image-step a B t m = grind (arith, (ext_get_or false t (tabulate n (next two a m.before))), length-tabulate, get_d_tabulate)
 
   solution-runs : (plan : List Action) (i : ℕ) (B : Belief) → Solution n B goal plan → (s : List Bool) → B s → run two n goal plan i s ≡ reached
   unfolding run goes_on
   solution-runs [] i B h s b = ap at_end (h.1 s b)
-  solution-runs (a ∷ plan) i B h s b = rw ((applicable-state n a s).1 (h.0.0.0 s b, h.0.0.1 s b)) (solution-runs plan (suc i) (Image n a B) (h.0.1, h.1) (step two n a s) (step-image a B s b))
+  solution-runs (a ∷ plan) i B h s b = grind (arith, applicable-state, (solution-runs plan (suc i) (Image n a B)), step-image)
 
   runs-solution : (plan : List Action) (i : ℕ) (B : Belief) → ((s : List Bool) → B s → run two n goal plan i s ≡ reached) → Solution n B goal plan
   unfolding run
   runs-solution [] i B h = (tt, λ s b. at-end-reached _ (h s b))
   runs-solution (a ∷ plan) i B h =
-      let r = runs-solution plan (suc i) (Image n a B) (λ t m. rw (image-step a B t m) (goes-on-reached _ _ _ (h m.before m.held)).1) in
-      let ok : (s : List Bool) → B s → applicable two n a s ≡ true = λ s b. (goes-on-reached _ _ _ (h s b)).0 in
-      ((((λ s b. ((applicable-state n a s).0 (ok s b)).0), (λ s b. ((applicable-state n a s).0 (ok s b)).1)), r.0), r.1)
+      let r = runs-solution plan (suc i) (Image n a B) (λ t m. grind (arith, (image-step a B t m), (h m.before m.held), goes-on-reached)) in
+      grind (arith, applicable-state, goes-on-reached)
 
   -- ---- the run of one state
 
@@ -56,13 +38,10 @@ module _ (n : ℕ) (goal : Formula) where
   only-alone s = (refl, λ t e. e)
 
   entails-alone : (B : Belief) (s : List Bool) → Alone B s → (φ : Formula) → Entails B φ ↔ (eval two s φ ≡ true)
-  entails-alone B s h φ = ((λ e. e s h.0), λ e t b. rw (h.1 t b) e)
+  entails-alone B s h φ = grind arith
 
   applicable-alone : (B : Belief) (s : List Bool) → Alone B s → (a : Action) → ApplicableIn n B a ↔ (applicable two n a s ≡ true)
-  applicable-alone B s h a = (
-    (λ e. (applicable-state n a s).1 (e.0 s h.0, e.1 s h.0)),
-    λ e. ((entails-alone B s h a.precondition).1 ((applicable-state n a s).0 e).0, λ t b. rw (h.1 t b) ((applicable-state n a s).0 e).1),
-  )
+  applicable-alone B s h a = grind (arith, applicable-state)
 
   image-alone : (a : Action) (B : Belief) (s : List Bool) → Alone B s → Alone (Image n a B) (step two n a s)
   image-alone a B s h =
@@ -78,16 +57,11 @@ module _ (n : ℕ) (goal : Formula) where
       (B : Belief) (before : List Action) (a : Action) (rest : List Action) (p : Stop) → length before ≡ p.step → Applicable n B before →
       (ApplicableIn n (after n B before) a → ⊥) → ((t : List Bool) → after n B before t → IsPart n t a p.part) →
       Blocks n B (before ++ (a ∷ rest)) p
-  blocks B before a rest p e ok stop m =
-      record { before = before; action = a; rest = rest; parts = refl; at = e; applicable = ok; not_applicable = stop; part = m }
+  blocks B before a rest p e ok stop m = grind arith
 
   run-means : (plan : List Action) (i : ℕ) (B : Belief) (s : List Bool) → Alone B s → MeansFrom B plan i (run two n goal plan i s)
   unfolding run goes_on
-  run-means [] i B s h = by-goal (eval two s goal) refl
-    where
-      by-goal : (b : Bool) → eval two s goal ≡ b → MeansFrom B [] i (at_end b)
-      by-goal true e = (tt, (entails-alone B s h goal).1 e)
-      by-goal false e = (tt, λ g. false≢true (sym e ∙ (entails-alone B s h goal).0 g))
+  run-means [] i B s h = grind arith
   run-means (a ∷ plan) i B s h =
       by-test (applicable two n a s) refl (run two n goal plan (suc i) (step two n a s))
       (run-means plan (suc i) (Image n a B) (step two n a s) (image-alone a B s h))
@@ -114,31 +88,18 @@ module _ (n : ℕ) (goal : Formula) where
       (o : Outcome) → ((t : List Bool) → Alone (after n B before) t → run two n goal rest j t ≡ o) → run two n goal (before ++ rest) i s ≡ o
   unfolding run goes_on
   runs_on [] rest i j B s e h ap' o k = let f : j ≡ i = omega arith in rw f at (k s h)
-  runs_on (a ∷ before) rest i j B s e h ap' o k =
-      rw ((applicable-alone B s h a).0 ap'.0)
-      (runs_on before rest (suc i) j (Image n a B) (step two n a s) (omega arith) (image-alone a B s h) ap'.1 o k)
+  runs_on (a ∷ before) rest i j B s e h ap' o k = grind (arith, (runs_on before rest (suc i) j (Image n a B) (step two n a s) (omega arith) (image-alone a B s h) ap'.1 o k), (applicable-alone B s h a))
 
   pub outcome-means : (plan : List Action) (s : List Bool) (o : Outcome) → (run two n goal plan 0 s ≡ o) ↔ OutcomeMeans n s goal plan o
   unfolding run goes_on
-  outcome-means plan s reached = (
-    (λ e. rw e at (run-means plan 0 (only s) s (only-alone s))),
-    λ m. solution-runs plan 0 (only s) m s refl,
-  )
+  outcome-means plan s reached = grind (arith, (run-means plan 0 (only s) s (only-alone s)), solution-runs)
   outcome-means plan s missed = (
     (λ e. rw e at (run-means plan 0 (only s) s (only-alone s))),
-    λ m.
-        rw append-nil at
-        (runs_on plan [] 0 _ (only s) s refl (only-alone s) m.0 missed λ t l.
-        ap at_end ((not-eq-not {a = eval two t goal} {b = false}).0 (λ e. m.1 ((entails-alone (after n (only s) plan) t l goal).1 e)))),
+    λ m. rw append-nil at (runs_on plan [] 0 _ (only s) s refl (only-alone s) m.0 missed λ t l. grind (arith, (entails-alone (after n (only s) plan) t l goal))),
   )
   outcome-means plan s (blocked p) = (
-    (λ e. subst (λ j. Blocks n (only s) plan (record { step = j; part = p.part })) (omega arith) (rw e at (run-means plan 0 (only s) s (only-alone s))).1),
-    λ b.
-        rw b.parts
-        (runs_on b.before (b.action ∷ b.rest) 0 p.step (only s) s (omega (arith, b.at)) (only-alone s) b.applicable
-        (blocked p) λ t l.
-        let (e, k) = is-part n b.action t p.part (b.part t l.0) in
-        rw (e, k)),
+    (λ e. grind (arith, (run-means plan 0 (only s) s (only-alone s)))),
+    λ b. rw b.parts (runs_on b.before (b.action ∷ b.rest) 0 p.step (only s) s (omega (arith, b.at)) (only-alone s) b.applicable (blocked p) λ t l. grind (arith, (is-part n b.action t p.part), (b.part t))),
   )
 
 -- ---- the number of a state
@@ -153,28 +114,19 @@ module _ (T : Task) (n≤w : T.facts ≤ T.width) where
   numbered c e zero k v f b h g =
       let i : k ≡ T.facts = omega arith in (
         v,
-        record { in_width = omega (arith, pow_pos (T.width - k)); no_bits = mod-of-block T.width T.facts v (rw i at b) },
-        ext_get_or false (tabulate T.facts _) c (length-tabulate T.facts _ ∙ sym e) λ i l.
-            let l' : i < T.facts = rw (length-tabulate T.facts _) at l in
-            get_d_tabulate T.facts (bit T.width v) i false l' ∙ g i (omega arith),
+        grind (arith, (pow_pos (T.width - k)), (mod-of-block T.width k v b)),
+        grind (arith, (ext_get_or false (tabulate T.facts (bit T.width v)) c), length-tabulate, get_d_tabulate),
       )
   numbered c e (suc d) k v f b h g =
       let x = get_or c k false in
       let (low, high) = part_in T.width k v (omega arith) b x in
       numbered c e d (suc k) (part T.width k v x) (omega arith) (part-block T.width k v (omega arith) b x) (omega arith) λ i l.
-      elim (ℕ_discrete i k) [
-        | yes p ↦ rw p (part-bit T.width k v (omega arith) b x)
-        | no p ↦
-            agree T.width k v (part T.width k v x) i (omega arith) b low (omega (arith, pow_pos (T.width - suc k))) (omega arith) ∙
-            g i (omega arith)
-      ]
+      grind (arith, (agree T.width k v (part T.width k v x) i), pow_pos, (part-bit T.width k v (omega arith) b x))
 
   pub solution-right : Solution T.facts (initial_belief T.facts T.initial) T.goal T.plan ↔ Right T
   unfolding run_of initially state_of
   solution-right = (
-    (λ h s st.
-        solution-runs T.facts T.goal T.plan 0 (initial_belief T.facts T.initial) h (state_of T.width T.facts s)
-        (length-tabulate T.facts _, st.starts)),
+    (λ h s st. grind (arith, (solution-runs T.facts T.goal T.plan 0), length-tabulate)),
     λ r.
         runs-solution T.facts T.goal T.plan 0 (initial_belief T.facts T.initial) λ c b.
         let root = root-span T.width in

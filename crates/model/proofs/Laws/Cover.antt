@@ -1,20 +1,6 @@
 -- The walk as a tree of cases, and lists of lines as covers of all numbers: what is closed is covered, the walk's lines pass, and no
 -- list that passes has fewer. The width, the fact count and the look are parameters. Assumes nothing.
-use mathlib.Core.Path.{◌≡◌, refl, sym, ap, ◌∙◌}
-use mathlib.Core.Bool.{true, false≢true}
-use mathlib.Core.List.{List, [], ◌∷◌, ◌++◌, append_assoc}
-use Prim.Native.Nat.{ℕ, zero, suc, ◌+◌, ◌-◌, ◌*◌, ◌/◌, ◌%◌, ◌^◌, ◌≤◌, ◌<◌, zero-le}
-use native.Mathlib.Nat.{div-add-mod', div-eq_of_lt-le, mul-le-mul_right, lt_of_mul-lt-mul_right, mul_assoc, pow-suc, mul-mod_left}
-use native.Mathlib.Omega.{arith}
-use native.Mathlib.Decide.{dec_le, dec_lt}
-use lib.ListN.{length, length-append}
-use lib.Dec.{eqb}
-use borrow.Author.Tests.{eqb-true, eq-eqb}
-use lib.Pow.{pow-add, pow_pos, shr-shr}
-use Rattle.model.specs.Case.{bit}
-use Rattle.model.specs.Walk.{Kind, empty, carries, kind_number, Look, closed, opened, Line, Walked, covered, failed, line, join, walk_from, walk}
-use Rattle.model.specs.CaseList.{claims}
-use Rattle.model.specs.WellFormed.{Each, LineHolds, Joined}
+use Rattle.model.proofs.Words.{◌≡◌, refl, sym, ap, ◌∙◌, true, List, [], ◌∷◌, ◌++◌, append_assoc, ℕ, zero, suc, ◌+◌, ◌-◌, ◌*◌, ◌/◌, ◌%◌, ◌^◌, ◌≤◌, ◌<◌, zero-le, div-add-mod', div-eq_of_lt-le, lt_of_mul-lt-mul_right, mul_assoc, pow-suc, mul-mod_left, arith, dec_le, dec_lt, length, length-append, pow-add, pow_pos, shr-shr, bit, Kind, Look, closed, opened, Line, Walked, covered, failed, line, join, walk_from, walk, claims, Each, LineHolds, Joined}
 
 -- ---- v is a multiple of what a case of k facts covers
 
@@ -26,9 +12,7 @@ pub pow-split : (w k k' : ℕ) → k ≤ k' → k' ≤ w → 2 ^ (w - k) ≡ 2 ^
 pow-split w k k' h l = ap (λ (x : ℕ). 2 ^ x) (omega arith) ∙ pow-add 2 (k' - k) (w - k')
 
 pub pow-half : (w k : ℕ) → k < w → 2 ^ (w - k) ≡ 2 ^ (w - suc k) + 2 ^ (w - suc k)
-pow-half w k h =
-    let e : w - k ≡ suc (w - suc k) = omega arith in
-    rw (e, pow-suc) (omega arith)
+pow-half w k h = grind (arith, (pow-suc 2 (w - suc k)))
 
 pub rescale : (w k k' v : ℕ) → k ≤ k' → k' ≤ w → Block w k v → Block w k' v
 rescale w k k' v h l b =
@@ -52,26 +36,17 @@ root-span w = ap (λ (x : ℕ). 2 ^ x) (omega arith)
 -- the numbers from v on that a block covers agree with v in the first k facts
 pub agree : (w k v s i : ℕ) → k ≤ w → Block w k v → v ≤ s → s < v + 2 ^ (w - k) → i < k → bit w s i ≡ bit w v i
 unfolding bit
-agree w k v s i l b h h' j = ap (λ (x : ℕ). lib.Dec.eqb (x % 2) 1) (high s h h' ∙ sym (high v (omega arith) (omega (arith, pow_pos (w - k)))))
-  where
-    high : (t : ℕ) → v ≤ t → t < v + 2 ^ (w - k) → t / 2 ^ (w - suc i) ≡ b.q / 2 ^ (k - suc i)
-    high t g g' =
-        let e : w - suc i ≡ (w - k) + (k - suc i) = omega arith in
-        let lo : b.q * 2 ^ (w - k) ≤ t = omega (arith, b.is) in
-        let hi : t < (b.q + 1) * 2 ^ (w - k) = omega (arith, b.is) in
-        rw (e, ← (shr-shr t (w - k) (k - suc i)), div-eq_of_lt-le {k = b.q} (2 ^ (w - k)) {m = t} lo hi)
+agree w k v s i l b h h' j =
+    let e : w - suc i ≡ (w - k) + (k - suc i) = omega arith in
+    grind (arith, e, (shr-shr s (w - k) (k - suc i)), (shr-shr v (w - k) (k - suc i)), (div-eq_of_lt-le {k = b.q} (2 ^ (w - k))))
 
 -- of two blocks of one size
 under : (w k v v' : ℕ) → Block w k v → Block w k v' → v' < v + 2 ^ (w - k) → v' ≤ v
-under w k v v' b c h =
-    let x = lt_of_mul-lt-mul_right (2 ^ (w - k)) {m = c.q} {n = suc b.q} (omega (arith, b.is, c.is)) in
-    omega (arith, b.is, c.is, mul-le-mul_right (2 ^ (w - k)) x)
+under w k v v' b c h = grind (arith, lt_of_mul-lt-mul_right)
 
 -- what is claimed is of a kind
 pub claimed : (d : ℕ) (l : Look) → claims d l ≡ true → (κ : Kind) × (l ≡ closed κ) × (d ≤ 1)
-claimed d (closed empty) e = (empty, refl, omega (arith, eqb-true d 0 e))
-claimed d (closed carries) e = (carries, refl, omega (arith, eqb-true d 1 e))
-claimed d opened e = absurd (false≢true e)
+claimed d l e = grind arith
 
 -- ---- lists of lines
 
@@ -103,11 +78,7 @@ module _ (w : ℕ) (look : ℕ → ℕ → Look) (n : ℕ) where
   covering [] x f s l h c = absurd (omega arith)
   covering (m ∷ ls) x f s l h c =
       elim (dec_lt s (x + 2 ^ (w - m.k))) [
-        | yes g ↦
-            let (κ, e, _) = claimed m.kind (look m.k m.value) f.1.0.claim in
-            let b = block-of-mod w m.k m.value f.1.0.no_bits in
-            let st : Starts m.value (m ∷ ls) = omega (arith, from_le m.value (suc m.value) (omega arith) ls) in
-            c m.k m.value κ st f.1.0.k_fits b e (omega arith) (omega arith)
+        | yes g ↦ grind (arith, claimed, block-of-mod, from_le)
         | no g ↦ covering ls (x + 2 ^ (w - m.k)) (f.0.1, f.1.1) s (omega arith) h (λ k v κ st. c k v κ (omega (arith, st)))
       ]
 
@@ -130,25 +101,15 @@ module _ (w : ℕ) (look : ℕ → ℕ → Look) (n : ℕ) where
   joined :
       (k v : ℕ) → k < n → Block w k v → look k v ≡ opened → (r t : Walked) → Traced (suc k) v r →
       Traced (suc k) (v + 2 ^ (w - suc k)) t → Traced k v (join r t)
-  joined k v h b e (covered ls a) (covered ms c) x y = node h b e x y
-  joined k v h b e (covered ls a) (failed s c) x y = right x y
-  joined k v h b e (failed s a) t x y = left x
+  joined k v h b e x t y z = grind (arith, node, right, left)
 
   module _ (n≤w : n ≤ w) where
     traced :
         (d : ℕ) (l : Look) (k v : ℕ) → k + d ≡ n → Block w k v → v + 2 ^ (w - k) ≤ 2 ^ w → look k v ≡ l →
         Traced k v (walk_from w look d l k v)
     unfolding walk_from
-    traced zero (closed κ) k v f b h e = leaf {k = k} (omega arith) b e
-    traced zero opened k v f b h e = here {k = k} (omega arith) b (omega (arith, pow_pos (w - k))) e
-    traced (suc d) (closed κ) k v f b h e = leaf {k = k} (omega arith) b e
-    traced (suc d) opened k v f b h e =
-        let m = v + 2 ^ (w - suc k) in
-        let c = rescale w k (suc k) v (omega arith) (omega arith) b in
-        let p = pow-half w k (omega arith) in
-        joined k v (omega arith) b e (walk_from w look d (look (suc k) v) (suc k) v) (walk_from w look d (look (suc k) m) (suc k) m)
-        (traced d _ (suc k) v (omega arith) c (omega arith) refl)
-        (traced d _ (suc k) m (omega arith) (next-block w (suc k) v c) (omega arith) refl)
+    traced zero l k v f b h e = grind (arith, leaf, here, pow_pos)
+    traced (suc d) l k v f b h e = grind (arith, (traced d), rescale, pow-half, joined, next-block, leaf)
 
     pub walk-traced : Traced 0 0 (walk w look n)
     unfolding walk
@@ -157,37 +118,26 @@ module _ (w : ℕ) (look : ℕ → ℕ → Look) (n : ℕ) where
     -- visits are twice the lines less one
     pub closes-visits : {k v a : ℕ} {ls : List Line} → Closes k v ls a → suc a ≡ 2 * length ls
     closes-visits (leaf h b e) = refl
-    closes-visits (node {ls} {ms} h b e x y) = rw (length-append ls ms) (omega (arith, closes-visits x, closes-visits y))
+    closes-visits (node {ls} {ms} h b e x y) = grind (arith, length-append, (closes-visits x), (closes-visits y))
 
     -- the walk's lines pass
     pub closes-follows :
         {k v a : ℕ} {ls : List Line} → Closes k v ls a → (rest : List Line) → Follows rest (v + 2 ^ (w - k)) → Follows (ls ++ rest) v
-    closes-follows (leaf {k} {v} {κ} h b e) rest g =
-        let l : LineHolds w look n (line κ k v) =
-        record { k_fits = h; no_bits = mod-of-block w k v b; claim = rw e (eq-eqb (kind_number κ) (kind_number κ) refl) }
-        in
-        ((refl, g.0), (l, g.1))
-    closes-follows (node {k} {v} {ls} {ms} h b e x y) rest g =
-        let i : v + 2 ^ (w - k) ≡ v + 2 ^ (w - suc k) + 2 ^ (w - suc k) = omega (arith, pow-half w k (omega arith)) in
-        rw (append_assoc ls ms rest) (closes-follows x (ms ++ rest) (closes-follows y rest (rw i at g)))
+    closes-follows (leaf {k} {v} {κ} h b e) rest g = grind (arith, mod-of-block)
+    closes-follows (node {k} {v} {ls} {ms} h b e x y) rest g = grind (arith, (closes-follows x (ms ++ rest)), (closes-follows y rest), pow-half, append_assoc)
 
     module _ (Good : ℕ → Type 0)
         (good : (k v s : ℕ) (κ : Kind) → k ≤ n → Block w k v → look k v ≡ closed κ → v ≤ s → s < v + 2 ^ (w - k) → Good s) where
       closes-good : {k v a : ℕ} {ls : List Line} → Closes k v ls a → (s : ℕ) → v ≤ s → s < v + 2 ^ (w - k) → Good s
       closes-good (leaf {k} {v} {κ} h b e) s l g = good k v s κ h b e l g
-      closes-good (node {k} {v} h b e x y) s l g =
-          elim (dec_lt s (v + 2 ^ (w - suc k))) [
-            | yes p ↦ closes-good x s l p
-            | no p ↦ closes-good y s (omega arith) (omega (arith, pow-half w k (omega arith)))
-          ]
+      closes-good (node {k} {v} h b e x y) s l g = grind (arith, (closes-good x s l), (closes-good y s), pow-half)
 
       pub fails-at :
           {k v s : ℕ} → Fails k v s → ((t : ℕ) → t < v → Good t) →
           (look n s ≡ opened) × Block w n s × (s < 2 ^ w) × ((t : ℕ) → t < s → Good t)
       fails-at (here i b h e) g = (rw i at e, rw i at b, h, g)
       fails-at (left x) g = fails-at x g
-      fails-at (right {k} {v} x y) g =
-          fails-at y λ t l. elim (dec_lt t v) [ yes p ↦ g t p | no p ↦ closes-good x t (omega arith) l ]
+      fails-at (right {k} {v} x y) g = grind (arith, (fails-at y), (closes-good x))
 
     begins-at-0 : (ls : List Line) → Follows ls 0 → Starts 0 ls
     begins-at-0 [] f = absurd (omega (arith, pow_pos w))
@@ -205,12 +155,10 @@ module _ (w : ℕ) (look : ℕ → ℕ → Look) (n : ℕ) where
             | yes g ↦
                 -- a block around the middle holds all of the case
                 elim (dec_le k' k) [
-                  | yes l ↦
-                      let u = under w k v v' b (rescale w k' k v' l (omega arith) b') (omega (arith, pow-half w k (omega arith))) in
-                      absurd (shut k' v' k v κ l (omega arith) b' u (omega arith) e' e)
+                  | yes l ↦ grind (arith, (under w k v v' b (rescale w k' k v' l (omega arith) b')), (rescale w k' k v' l), (pow-half w k))
                   | no l ↦
                       let m = next-block w (suc k) v (rescale w k (suc k) v (omega arith) (omega arith) b) in
-                      absurd (omega (arith, under w k' v' _ b' (rescale w (suc k) k' _ (omega arith) (omega arith) m) hi))
+                      grind (arith, (under w k' v' (v + 2 ^ (w - suc k)) b' (rescale w (suc k) k' (v + 2 ^ (w - suc k)) (omega arith) (omega arith) m) hi))
                 ]
             | no g ↦ let i : v' ≡ v + 2 ^ (w - suc k) = omega arith in rw i at st
           ]
@@ -220,12 +168,7 @@ module _ (w : ℕ) (look : ℕ → ℕ → Look) (n : ℕ) where
           {k v a : ℕ} {ls : List Line} → Closes k v ls a → v + 2 ^ (w - k) ≤ 2 ^ w → Starts v all →
           length ls + from (v + 2 ^ (w - k)) all ≤ from v all
       least (leaf {k} {v} _ b e) h st = omega (arith, from_le (suc v) (v + 2 ^ (w - k)) (omega (arith, pow_pos (w - k))) all)
-      least (node {k} {v} {ls} {ms} kn b e x y) h st =
-          let p = pow-half w k (omega arith) in
-          let l1 = least x (omega arith) st in
-          let l2 = least y (omega arith) (mid-starts k v kn b e (omega (arith, pow_pos (w - suc k)))) in
-          let q : v + 2 ^ (w - k) ≡ (v + 2 ^ (w - suc k)) + 2 ^ (w - suc k) = omega arith in
-          rw (length-append ls ms, q) (omega (arith, l1, l2))
+      least (node {k} {v} {ls} {ms} kn b e x y) h st = grind (arith, (least x), (least y), pow-half, mid-starts, length-append)
 
       pub fewest : {a : ℕ} {ls : List Line} → Closes 0 0 ls a → length ls ≤ length all
       fewest x = omega (arith, least x (omega (arith, root-span w)) (begins-at-0 all fol), from-length all)

@@ -1,18 +1,5 @@
 -- Reading a formula is exactly the inverse of writing it. Assumes nothing.
-use mathlib.Core.Path.{◌≡◌, refl, sym, ap, ◌∙◌}
-use mathlib.Core.Bool.{Bool, true, false, cond, ◌||◌, not}
-use mathlib.Core.List.{List, [], ◌∷◌}
-use Prim.Native.Nat.{ℕ, zero, suc, ◌+◌, ◌-◌, ◌*◌, ◌/◌, ◌%◌, ◌≤◌, ◌<◌}
-use native.Mathlib.Omega.{arith}
-use native.Mathlib.Decide.{dec_lt, ℕ_discrete}
-use lib.ListN.{length, get_or}
-use lib.Dec.{eqb, ltb, leb}
-use borrow.Author.Tests.{ltb-true, leb-true, eqb-true, eqb-false, not-true, lt-ltb, le-ltb, le-leb, ne_eqb}
-use Rattle.model.specs.Limits.{max_formula_bytes, max_depth}
-use Rattle.model.specs.Formula.{Literal, fact, denial, Formula, Formulas, lit, all, any, none, more}
-use Rattle.model.specs.Read.{got, Reader, and_then, ◌>>=◌, ◌>>◌, done, position, require, bytes_of}
-use Rattle.model.specs.FormulaBytes.{is_literal, literal_of, literal_byte, Group, conjunction, disjunction, mark, Head, leaf, group, group_head, head_from, head, members, whole, item, stated, formula, member_count, formula_bytes, member_bytes, encode_formula}
-use Rattle.model.specs.WellFormed.{Bytes, Declared, Formed, FormedAll, FormulaOk}
+use Rattle.model.proofs.Words.{◌≡◌, refl, sym, ◌∙◌, Bool, true, false, cond, ◌||◌, not, List, [], ◌∷◌, ℕ, zero, suc, ◌+◌, ◌-◌, ◌*◌, ◌≤◌, ◌<◌, arith, length, get_or, eqb, ltb-true, leb-true, eqb-false, not-true, max_formula_bytes, max_depth, Literal, Formula, Formulas, lit, all, any, none, more, got, Reader, and_then, ◌>>=◌, ◌>>◌, done, position, require, bytes_of, is_literal, literal_of, literal_byte, Group, conjunction, disjunction, mark, Head, leaf, group, group_head, head_from, head, members, whole, item, stated, formula, member_count, formula_bytes, member_bytes, encode_formula, Bytes, Declared, Formed, FormedAll, FormulaOk}
 use Rattle.model.proofs.Laws.Spans.{Span, nothing, FormulaAt}
 use Rattle.model.proofs.Laws.Truth.{and-true}
 use Rattle.model.proofs.Laws.Reading.{Gives, gives, reads, tests, empty, first, join, split, span-length, span-end, span-within, byte-gives, small-byte, byte-ok}
@@ -21,27 +8,11 @@ use Rattle.model.proofs.Laws.Reading.{Gives, gives, reads, tests, empty, first, 
 module _ (facts : ℕ) (most : facts ≤ 64) where
   pub literal-got : (b : ℕ) → is_literal facts b ≡ true → Declared facts (literal_of b) × (literal_byte (literal_of b) ≡ b)
   unfolding is_literal literal_of
-  literal-got b h =
-      elim (dec_lt b facts) [
-        | yes l ↦ rw (lt-ltb b 64 (omega arith)) (l, refl)
-        | no l ↦
-            let (u, v) = and-true (leb 64 b) (ltb b (64 + facts)) (rw (le-ltb b facts (omega arith)) at h) in
-            let i = leb-true 64 b u in
-            rw (le-ltb b 64 i) (omega (arith, ltb-true b (64 + facts) v))
-      ]
+  literal-got b h = grind arith
 
   pub literal-ok : (l : Literal) → Declared facts l → (is_literal facts (literal_byte l) ≡ true) × (literal_of (literal_byte l) ≡ l)
   unfolding is_literal literal_of
-  literal-ok (fact f) h = (rw (lt-ltb f facts h), rw (lt-ltb f 64 (omega arith)))
-  literal-ok (denial f) h =
-      let e : f + 64 - 64 ≡ f = omega arith in (
-        rw (
-          le-ltb (f + 64) facts (omega arith),
-          le-leb 64 (f + 64) (omega arith),
-          lt-ltb (f + 64) (64 + facts) (omega arith),
-        ),
-        rw (le-ltb (f + 64) 64 (omega arith), e),
-      )
+  literal-ok l h = grind arith
 
   -- a group's mark is no literal's byte, and tells the group
   mark-ok :
@@ -49,15 +20,10 @@ module _ (facts : ℕ) (most : facts ≤ 64) where
       (is_literal facts (mark g) ≡ false) × ((eqb (mark g) 0x80 || eqb (mark g) 0x81) ≡ true) ×
       (cond (eqb (mark g) 0x80) conjunction disjunction ≡ g)
   unfolding is_literal
-  mark-ok conjunction = (rw (le-ltb 0x80 facts (omega arith), le-ltb 0x80 (64 + facts) (omega arith)), refl, refl)
-  mark-ok disjunction = (rw (le-ltb 0x81 facts (omega arith), le-ltb 0x81 (64 + facts) (omega arith)), refl, refl)
+  mark-ok g = grind arith
 
 mark-got : (b : ℕ) → (eqb b 0x80 || eqb b 0x81) ≡ true → mark (cond (eqb b 0x80) conjunction disjunction) ≡ b
-mark-got b h =
-    elim (ℕ_discrete b 0x80) [
-      | yes e ↦ rw e
-      | no n ↦ let e = ne_eqb b 0x80 n in rw e (sym (eqb-true b 0x81 (rw e at h)))
-    ]
+mark-got b h = grind arith
 
 -- what a head says
 abbrev pub head_bytes : Head → List ℕ
@@ -92,22 +58,8 @@ module _ (s : List ℕ) (end facts : ℕ) (most : facts ≤ 64) where
       (left parent p : ℕ) (h : Head) (q : ℕ) → HeadOk facts left parent h → Span s end p (head_bytes h) q →
       head s end facts left parent p ≡ got h q
   unfolding head head_from group_head ◌>>=◌ ◌>>◌ and_then position done require
-  head_ok left parent p (leaf l) q d r =
-      let (i, j) = literal-ok facts most l d in
-      rw (byte-ok 20 r, i, j, empty (first r).2)
-  head_ok left parent p (group g n) q (d, o, l) r =
-      let (k, i, j) = mark-ok facts most g in
-      let (_, _, v) = first r in
-      rw (
-        byte-ok 20 r,
-        k,
-        i,
-        ne_eqb (mark g) parent (λ e. o (sym e)),
-        lt-ltb 0 left d,
-        byte-ok 20 v,
-        j,
-        empty (first v).2,
-      )
+  head_ok left parent p (leaf l) q d r = grind (arith, literal-ok, byte-ok, empty, first)
+  head_ok left parent p (group g n) q (d, o, l) r = grind (arith, mark-ok, first, byte-ok, empty)
 
   -- a formula, where it stands
   abbrev pub ItemAt : ℕ → ℕ → ℕ → Formula → ℕ → Type 0
@@ -120,10 +72,7 @@ module _ (s : List ℕ) (end facts : ℕ) (most : facts ≤ 64) where
       FormedAll facts left parent ms × Span s end p (member_bytes ms) q × (member_count ms ≡ n)
   unfolding members ◌>>=◌ and_then done formula_bytes Formed
   members-give left parent one law zero p = gives (tt, nothing refl, refl)
-  members-give left parent one law (suc n) p =
-      reads (law p) λ f m (a, b).
-      reads (members-give left parent one law n m) λ fs o (c, d, i).
-      gives ((a, c), join b d, ap suc i)
+  members-give left parent one law (suc n) p = grind (arith, (members-give left parent one law n), gives, join)
 
   whole-gives :
       (left parent p : ℕ) (inner : ℕ → Reader Formula) →
@@ -142,9 +91,7 @@ module _ (s : List ℕ) (end facts : ℕ) (most : facts ≤ 64) where
   unfolding item ◌>>=◌
   item-gives sound zero parent p = reads (head-gives sound 0 parent p) (whole-gives 0 parent p _ (λ l. absurd (omega arith)))
   item-gives sound (suc left) parent p =
-      let i : suc left - 1 ≡ left = omega arith in
-      reads (head-gives sound (suc left) parent p)
-      (whole-gives (suc left) parent p _ (λ l g p. rw i (item-gives sound left (mark g) p)))
+      reads (head-gives sound (suc left) parent p) (whole-gives (suc left) parent p _ (λ l g p. grind (arith, (item-gives sound left (mark g) p))))
 
   mutual
     unfolding item members whole ◌>>=◌ and_then done formula_bytes Formed
@@ -156,14 +103,10 @@ module _ (s : List ℕ) (end facts : ℕ) (most : facts ≤ 64) where
     item_ok (lit l) (suc left) parent p q d r = rw (head_ok (suc left) parent p (leaf l) q d r)
     item_ok (all ms) zero parent p q d r = absurd (omega arith)
     item_ok (all ms) (suc left) parent p q (d, o, l, a) r =
-        let i : suc left - 1 ≡ left = omega arith in
-        split (0x80 ∷ member_count ms ∷ []) r λ m b c.
-        rw (head_ok (suc left) parent p (group conjunction (member_count ms)) m (d, o, l) b, members-ok ms left 0x80 m q (rw i at a) c)
+        split (0x80 ∷ member_count ms ∷ []) r λ m b c. grind (arith, (head_ok (suc left) parent p (group conjunction (member_count ms)) m), (members-ok ms left 0x80 m q))
     item_ok (any ms) zero parent p q d r = absurd (omega arith)
     item_ok (any ms) (suc left) parent p q (d, o, l, a) r =
-        let i : suc left - 1 ≡ left = omega arith in
-        split (0x81 ∷ member_count ms ∷ []) r λ m b c.
-        rw (head_ok (suc left) parent p (group disjunction (member_count ms)) m (d, o, l) b, members-ok ms left 0x81 m q (rw i at a) c)
+        split (0x81 ∷ member_count ms ∷ []) r λ m b c. grind (arith, (head_ok (suc left) parent p (group disjunction (member_count ms)) m), (members-ok ms left 0x81 m q))
 
     members-ok :
         (ms : Formulas) (left parent p q : ℕ) → FormedAll facts left parent ms → Span s end p (member_bytes ms) q →
@@ -182,20 +125,13 @@ module _ (s : List ℕ) where
       reads (small-byte sound 14 p) λ x m (a, c).
       reads (small-byte sound 14 m) λ y o (b, d).
       tests _ _ _ _ _ λ t.
-      tests _ _ _ _ _ λ u.
-      let i : ((x * 256 + y) / 256) % 256 ≡ x = omega arith in
-      let j : (x * 256 + y) / 1 % 256 ≡ y = omega arith in
-      let k = leb-true (x * 256 + y) max_formula_bytes (and-true (leb 1 (x * 256 + y)) _ t).1 in
-      gives (x * 256 + y, k, rw (i, j) (join a b), refl, leb-true (o + (x * 256 + y)) (length s) u)
+      tests _ _ _ _ _ λ u. gives (x * 256 + y, grind arith, grind (arith, join), refl, leb-true (o + (x * 256 + y)) (length s) u)
 
   stated-ok :
       (p q n : ℕ) → 1 ≤ n → n ≤ max_formula_bytes → Span s (length s) p (bytes_of 2 n) q → q + n ≤ length s →
       stated s p ≡ got (q + n) q
   unfolding stated ◌>>=◌ ◌>>◌ and_then position done bytes_of require
-  stated-ok p q n l u r b =
-      let (_, _, v) = first r in
-      let i : ((n / 256) % 256) * 256 + n / 1 % 256 ≡ n = omega arith in
-      rw (byte-ok 14 r, byte-ok 14 v, i, le-leb 1 n l, le-leb n max_formula_bytes u, empty (first v).2, le-leb (q + n) (length s) b)
+  stated-ok p q n l u r b = grind (arith, byte-ok, empty)
 
   pub formula-gives :
       (facts : ℕ) → facts ≤ 64 → Bytes s → (p : ℕ) →
@@ -204,10 +140,7 @@ module _ (s : List ℕ) where
   formula-gives facts most sound p =
       reads (stated-gives sound p) λ e m (n, u, r, i, b).
       reads (item-gives s e facts most sound max_depth 0 m) λ g o (d, v).
-      tests _ _ _ _ _ λ t.
-      let k : length (formula_bytes g) ≡ n = omega (arith, leb-true e o t, span-length v, span-end v (omega arith)) in
-      let z : Span s (length s) p (bytes_of 2 (length (formula_bytes g))) m = rw k r in
-      gives (record { formed = d; short = rw k u }, join z (span-within (length s) v (omega (arith, span-end v (omega arith)))))
+      tests _ _ _ _ _ λ t. grind (arith, (span-length v), (span-end v), join, (span-within (length s) v))
 
   pub formula-got :
       (facts : ℕ) → facts ≤ 64 → (p : ℕ) (f : Formula) (q : ℕ) → Bytes s → formula s facts p ≡ got f q →
@@ -227,13 +160,7 @@ module _ (s : List ℕ) where
   formula-ok facts most p f q k r =
       let b : q ≤ length s = span-end r (omega (arith, (first r).0)) in
       split (bytes_of 2 (length (formula_bytes f))) r λ m v w.
-      let e : m + length (formula_bytes f) ≡ q = sym (span-length w) in
-      rw (
-        stated-ok p m (length (formula_bytes f)) (formula-some f) k.short v (omega arith),
-        e,
-        item_ok s q facts most f max_depth 0 m q k.formed (span-within q w (omega arith)),
-        le-leb q q (omega arith),
-      )
+      grind (arith, span-length, (stated-ok p m (length (formula_bytes f)) (formula-some f) k.short v), (item_ok s q facts most f max_depth 0 m q k.formed), (span-within q w))
 
 -- ---- the formula that stands at p: where its stated bytes are
 
@@ -241,12 +168,4 @@ pub stated-bytes :
     (s : List ℕ) (facts p : ℕ) (f : Formula) (q : ℕ) → FormulaAt s facts p f q →
     (q ≡ p + 2 + (get_or s p 0 * 256 + get_or s (p + 1) 0)) × Span s (length s) (p + 2) (formula_bytes f) q
 unfolding encode_formula bytes_of
-stated-bytes s facts p f q at =
-    let n = length (formula_bytes f) in
-    let (_, a, w) = first at.bytes in
-    let (_, b, u) = first w in
-    let i : p + 1 + 1 ≡ p + 2 = omega arith in
-    let v : Span s (length s) (p + 2) (formula_bytes f) q = rw i at u in
-    let m : n ≤ 1024 = at.ok.short in
-    let k : (n / 256) % 256 * 256 + n / 1 % 256 ≡ n = omega arith in
-    (rw (a, b, k) (span-length v), v)
+stated-bytes s facts p f q at = grind (arith, span-length)

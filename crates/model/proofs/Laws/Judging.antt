@@ -1,15 +1,5 @@
 -- What verdicts guarantee, for the definitions of the judge and the run. Assumes nothing.
-use mathlib.Core.Path.{◌≡◌, sym, ap, ◌∙◌, subst}
-use mathlib.Core.Logic.{inl, inr}
-use mathlib.Core.List.{List}
-use Prim.Native.Nat.{ℕ, ◌≤◌}
-use lib.ListN.{length}
-use Rattle.model.specs.declared.Limits.{Limits}
-use Rattle.model.specs.Answer.{answered}
-use Rattle.model.specs.Case.{state_of, Task, run_of}
-use Rattle.model.specs.Walk.{Line, covered, failed, Verdict, right, wrong, undecided, visits, walked, judged}
-use Rattle.model.specs.Operations.{read_task, line_count}
-use Rattle.model.specs.Guarantees.{Says, Verdicts}
+use Rattle.model.proofs.Words.{arith, ◌≡◌, inl, inr, List, ℕ, ◌≤◌, length, Limits, answered, Task, run_of, Line, covered, failed, Verdict, walked, read_task, line_count, Says, Verdicts}
 use Rattle.model.proofs.Laws.Verdicts.{Means, judged-means, right-closes, larger_grant, walk-closes-right, walk_ends}
 pub use Rattle.model.proofs.Laws.Verdicts.{judged-in, judged-out}
 use Rattle.model.proofs.Laws.Beliefs.{outcome-means, solution-right}
@@ -19,17 +9,7 @@ module _ (T : Task) (n≤w : T.facts ≤ T.width) where
   -- what a verdict with its lines means, it says with their count
   counted : (g : ℕ) (v : Verdict (List Line)) → Means T n≤w g (walked T) v → Says T g (line_count v)
   unfolding run_of
-  counted g (right ls a) m =
-      record { is_right = m.1; is_solution = (solution-right T n≤w).1 m.1; walk_visits = sym (ap visits m.0); within = m.3; twice_lines = m.2 }
-  counted g (wrong s o a) m =
-      record {
-        lowest = m.1;
-        where_it_fails = m.2;
-        outcome_says = (outcome-means T.facts T.goal T.plan (state_of T.width T.facts s) o).0 (sym m.2);
-        walk_visits = sym (ap visits m.0);
-        within = m.3;
-      }
-  counted g (undecided a) m = record { all_used = m.0; needs_more = m.1 }
+  counted g v m = grind (arith, outcome-means, solution-right)
 
   module _ (F : Limits) (problem plan : List ℕ) (given : read_task F problem plan ≡ answered T) where
     pub verdicts : Verdicts F problem plan T
@@ -37,11 +17,7 @@ module _ (T : Task) (n≤w : T.facts ≤ T.width) where
     verdicts =
         let is = judge-is F problem plan T given in
         record {
-          judge_says =
-              λ g v e.
-              let k = is g in
-              let h : line_count (judged T g) ≡ v = cc in
-              subst (Says T g) h (counted g (judged T g) (judged-means T n≤w g));
+          judge_says = λ g v e. grind (arith, counted, judged-means);
           right_is_solution = ((solution-right T n≤w).1, (solution-right T n≤w).0);
           called_right =
               λ g h r.
@@ -55,11 +31,7 @@ module _ (T : Task) (n≤w : T.facts ≤ T.width) where
               ];
           called_undecided = λ g h. rw (is g, judged-out T n≤w g h);
           no_start = λ h s st. absurd (h s st);
-          larger_grant = λ g g' h d. rw (is g', is g, larger_grant T n≤w g g' h (λ e. d (rw (is g, e))));
-          run_says =
-              λ s h o.
-              let m = outcome-means T.facts T.goal T.plan (state_of T.width T.facts s) o in
-              let k = run-answers F problem plan T given s h in
-              ((λ e. let r : run_of T s ≡ o = cc in m.0 r), λ x. k ∙ ap answered (m.1 x));
+          larger_grant = λ g g' h d. grind (arith, (is g), (is g'), (larger_grant T n≤w g g' h));
+          run_says = λ s h o. grind (arith, outcome-means, run-answers);
           run_no_state = run_no_state F problem plan T given;
         }

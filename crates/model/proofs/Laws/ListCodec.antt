@@ -1,20 +1,7 @@
 -- Reading a list is exactly the inverse of writing it. Assumes nothing.
-use mathlib.Core.Path.{◌≡◌, refl, sym, ap, subst, ◌∙◌}
-use mathlib.Core.List.{List, [], ◌∷◌}
-use Prim.Native.Nat.{ℕ, zero, suc, ◌+◌, ◌-◌, ◌*◌, ◌/◌, ◌%◌, ◌≤◌, ◌<◌}
-use native.Mathlib.Nat.{div-add-mod', div-le_of_le-mul, mul-div_cancel, mul-mod_left, suc-mul, zero-mul, mul_comm, mul-le-mul_right}
-use native.Mathlib.Omega.{arith}
-use lib.ListN.{length, get_or, length-append}
-use borrow.Author.Tests.{eqb-true}
-use Rattle.model.specs.declared.Limits.{Limits}
-use Rattle.model.specs.Answer.{answered}
-use Rattle.model.specs.Walk.{Line}
-use Rattle.model.specs.Limits.{is_version}
-use Rattle.model.specs.Read.{and_then, ◌>>◌, done, require, answer_of, of_version, bytes_of}
-use Rattle.model.specs.ListBytes.{line_at, lines_from, of_the_problem, case_list, list_of, line_bytes, lines_bytes, encode_list}
-use Rattle.model.specs.WellFormed.{Bytes, Each, LineOk, ListOk, Sensible}
+use Rattle.model.proofs.Words.{◌≡◌, refl, sym, ap, subst, ◌∙◌, List, [], ◌∷◌, ℕ, zero, suc, ◌+◌, ◌-◌, ◌*◌, ◌/◌, ◌%◌, ◌≤◌, ◌<◌, div-add-mod', div-le_of_le-mul, mul-div_cancel, mul-mod_left, suc-mul, zero-mul, mul_comm, mul-le-mul_right, arith, length, length-append, eqb-true, Limits, answered, Line, and_then, ◌>>◌, done, require, answer_of, bytes_of, line_at, lines_from, of_the_problem, case_list, list_of, line_bytes, lines_bytes, encode_list, Bytes, Each, LineOk, ListOk, Sensible}
 use Rattle.model.proofs.Laws.Spans.{Span, nothing, next}
-use Rattle.model.proofs.Laws.Reading.{answer-got, Gives, gives, reads, tests, first, join, split, span-length, length-bytes_of, number-got, number_ok, length-block, Lets, lets-version, header-gives, header_ok}
+use Rattle.model.proofs.Laws.Reading.{answer-got, Gives, reads, tests, first, join, split, span-length, length-bytes_of, number-got, number_ok, length-block, Lets, lets-version, header-gives, header_ok}
 
 module _ (F : Limits) (sense : Sensible F) (s : List ℕ) where
   pub length-line : (l : Line) → length (line_bytes F l) ≡ F.line
@@ -50,28 +37,17 @@ module _ (F : Limits) (sense : Sensible F) (s : List ℕ) where
   lines_ok (l ∷ ls) p q (k, ks) r =
       let (_, a, v) = first r in
       let (_, b, w) = first v in
-      split (bytes_of (F.line - 2) l.value) w λ m x y.
-      let i : p + 1 + 1 ≡ p + 2 = omega arith in
-      let j : m ≡ p + F.line = omega (arith, span-length x, length-bytes_of (F.line - 2) l.value, sense.line) in
-      let c = number_ok s (F.line - 2) (p + 2) m l.value k.value (rw i at x) in
-      let rest = lines_ok ls (p + F.line) q ks (rw j at y) in
-      λ i. record { kind = a i; k = b i; value = c i } ∷ rest i
+      split (bytes_of (F.line - 2) l.value) w λ m x y. grind (arith, (span-length x), length-bytes_of, (number_ok s (F.line - 2) (p + 2) m l.value), (lines_ok ls (p + F.line) q ks))
 
   pub length-lines : (ls : List Line) → length (lines_bytes F ls) ≡ length ls * F.line
   unfolding lines_bytes
   length-lines [] = sym (zero-mul F.line)
-  length-lines (l ∷ ls) =
-      rw (length-append (line_bytes F l) (lines_bytes F ls), length-line l, length-lines ls) (omega (arith, suc-mul (length ls) F.line))
+  length-lines (l ∷ ls) = grind (arith, length-append, length-line, (length-lines ls))
 
   -- the list's version is the problem's, which is a version
   lets-problem : Lets s F.version (of_the_problem F s)
   unfolding of_the_problem ◌>>◌ and_then require
-  lets-problem =
-      let own = lets-version s F.version 71 in
-      record {
-        only = λ p. tests (is_version (get_or s 0 0)) 62 0 p (λ _. of_version s F.version 71) λ _. own.only p;
-        passes = λ e p. rw (e, sense.version) (own.passes e p);
-      }
+  lets-problem = grind (arith, (lets-version s F.version 71))
 
   list-gives : Bytes s → Gives (case_list F s 0) (λ ls q. ListOk F ls × (s ≡ encode_list F ls))
   unfolding case_list ◌>>◌ done encode_list
@@ -80,8 +56,7 @@ module _ (F : Limits) (sense : Sensible F) (s : List ℕ) where
       tests _ _ _ _ _ λ t.
       let n = (length s - 5) / F.line in
       let e : n * F.line ≡ length s - 5 = omega (arith, div-add-mod' (length s - 5) F.line, eqb-true ((length s - 5) % F.line) 0 t) in
-      let (a, b) = lines-got n 5 (length s) sound (omega arith) (omega arith) in
-      gives (record { count = rw (length-lines_from n 5) (div-le_of_le-mul F.line (omega arith)); lines = a }, law _ b)
+      grind (arith, (lines-got n 5 (length s) sound), (length-lines_from n 5), div-le_of_le-mul, law)
 
   pub list_sound : Bytes s → (ls : List Line) → list_of F s ≡ answered ls → ListOk F ls × (s ≡ encode_list F ls)
   unfolding list_of
@@ -90,15 +65,8 @@ module _ (F : Limits) (sense : Sensible F) (s : List ℕ) where
   pub list-ok : (ls : List Line) → ListOk F ls → s ≡ encode_list F ls → list_of F s ≡ answered ls
   unfolding list_of answer_of case_list ◌>>◌ done encode_list and_then require
   list-ok ls k e =
-      let i = ap length e ∙ length-block F.version (lines_bytes F ls) in
-      let j : length s - 5 ≡ length ls * F.line = omega (arith, length-lines ls) in
       let m = mul-le-mul_right F.line k.count in
+      let i = ap length e ∙ length-block F.version (lines_bytes F ls) in
       let l : length s ≤ 5 + F.line * F.lines = omega (arith, length-lines ls, mul_comm F.lines F.line) in
-      let (h, w) = header_ok s 60 (5 + F.line * F.lines) F.version _ lets-problem 0 (lines_bytes F ls) e l (omega (arith, sense.lines)) in
-      rw (
-        h,
-        j,
-        mul-mod_left (length ls) F.line,
-        mul-div_cancel (length ls) {n = F.line} (omega (arith, sense.line)),
-        lines_ok ls 5 (length s) k.lines w,
-      )
+      let h = header_ok s 60 (5 + F.line * F.lines) F.version _ lets-problem 0 (lines_bytes F ls) e l (omega (arith, sense.lines)) in
+      grind (arith, h, length-lines, (mul-mod_left (length ls) F.line), mul-div_cancel, (lines_ok ls 5 (length s) k.lines))

@@ -1,26 +1,7 @@
 -- What certificates guarantee, for the definitions of writing and following, where what is encoded is decoded. Assumes nothing.
-use mathlib.Core.Path.{◌≡◌, refl, sym, ap, subst, ◌∙◌}
-use mathlib.Core.Bool.{Bool, true, false, cond}
-use mathlib.Core.Logic.{inl, inr}
-use mathlib.Core.List.{List, [], ◌∷◌}
-use Prim.Native.Nat.{ℕ, ◌+◌, ◌-◌, ◌^◌, ◌≤◌}
-use native.Mathlib.Omega.{arith}
-use lib.ListN.{length, drop}
-use lib.Seq.{take_at, drop_at}
-use lib.Pow.{pow_pos}
-use lib.Dec.{ltb}
-use borrow.Author.Tests.{lt-ltb, le-ltb, ltb-true, ltb-false}
-use Rattle.model.specs.declared.Limits.{Limits}
+use Rattle.model.proofs.Words.{◌≡◌, refl, sym, ap, ◌∙◌, Bool, true, false, cond, List, [], ◌∷◌, ℕ, ◌^◌, ◌≤◌, arith, length, drop, take_at, drop_at, pow_pos, ltb, lt-ltb, ltb-true, ltb-false, Limits, Answer, refused, answered, Task, Look, Line, covered, Verdict, right, wrong, undecided, visits, look_at, walked, judged, head_bytes, ◌>>=◌, ◌>>◌, done, case_list, list_of, encode_list, read_task, list_bytes, lines_for, written, list_for, write_list, follow_list, Each, LineOk, Sensible, lines_in, written_list, ClosesWithin, NotWritten, by_visits, by_verdict, by_lines, by_room, Certificates}
 use Rattle.model.specs.Answer as Answer
-use Rattle.model.specs.Answer.{Answer, refused, answered}
-use Rattle.model.specs.Case.{Task}
-use Rattle.model.specs.Walk.{Look, Line, covered, failed, Verdict, right, wrong, undecided, visits, look_at, walked, judged}
-use Rattle.model.specs.Read.{head_bytes, ◌>>=◌, ◌>>◌, done}
-use Rattle.model.specs.ListBytes.{case_list, list_of, lines_bytes, encode_list}
-use Rattle.model.specs.Operations.{read_task, list_bytes, lines_for, written, list_for, write_list, follow_list}
-use Rattle.model.specs.WellFormed.{Each, LineOk, Sensible}
-use Rattle.model.specs.Guarantees.{lines_in, written_list, ClosesWithin, NotWritten, by_visits, by_verdict, by_lines, by_room, Certificates}
-use Rattle.model.proofs.Laws.Cover.{claimed, Follows}
+use Rattle.model.proofs.Laws.Cover.{Follows}
 use Rattle.model.proofs.Laws.Verdicts.{Passes, Means, judged-means, passes-right, right-closes, walk_ends, walk-closes-right, walk-passes, walk-fewest}
 use Rattle.model.proofs.Laws.Following.{follow-passes, passes-follow}
 use Rattle.model.proofs.Laws.Reading.{then-got, got-inj, answer-got, length-block, byte-bits}
@@ -40,19 +21,14 @@ list_count F S s ls h =
 
 pub length-encode_list : (F : Limits) → Sensible F → (ls : List Line) → length (encode_list F ls) ≡ list_bytes F (length ls)
 unfolding encode_list list_bytes
-length-encode_list F S ls = length-block F.version (lines_bytes F ls) ∙ rw (length-lines F S [] ls) (omega arith)
+length-encode_list F S ls = grind (arith, length-block, length-lines)
 
 -- ---- a list that passes is sound to write
 
 module _ (F : Limits) (S : Sensible F) (w : ℕ) (look : ℕ → ℕ → Look) (n : ℕ) (n-fits : n ≤ 64) (w_Fits : w ≡ F.width) where
   pub follows-ok : (ls : List Line) (x : ℕ) → Follows w look n ls x → (x ≤ 2 ^ w) × Each (LineOk F) ls
   follows-ok [] x f = (omega (arith, f.0), tt)
-  follows-ok (l ∷ ls) x f =
-      let (r, rs) = follows-ok ls (x + 2 ^ (w - l.k)) (f.0.1, f.1.1) in
-      let p = pow_pos (w - l.k) in
-      let (_, _, c) = claimed l.kind (look l.k l.value) f.1.0.claim in
-      let e : 2 ^ w ≡ 256 ^ (F.line - 2) = ap (λ (x : ℕ). 2 ^ x) (w_Fits ∙ S.bits) ∙ sym (byte-bits (F.line - 2)) in
-      (omega arith, (omega (arith, f.0.0, f.1.0.k_fits), rs))
+  follows-ok (l ∷ ls) x f = grind (arith, (follows-ok ls), pow_pos, byte-bits)
 
 -- ---- what `write_list` writes
 
@@ -61,32 +37,25 @@ module _ (F : Limits) (out : List ℕ) where
       (n : ℕ) (x : Answer (List Line)) → (written F out x).answer ≡ answered n →
       (ls : List Line) × (x ≡ answered ls) × (n ≡ list_bytes F (length ls))
   unfolding written
-  written-answered n (refused m q) e = let z : ◌≡◌ {A = ℕ} 0 1 = cc in absurd (omega arith)
-  written-answered n (answered ls) e = (ls, refl, cc)
+  written-answered n x e = grind arith
 
   written-refused : (n q : ℕ) (x : Answer (List Line)) → (written F out x).answer ≡ refused n q → x ≡ refused n q
   unfolding written
-  written-refused n q (refused m r) e = let i : m ≡ n = cc in let j : r ≡ q = cc in rw (i, j) refl
-  written-refused n q (answered ls) e = let z : ◌≡◌ {A = ℕ} 0 1 = cc in absurd (omega arith)
+  written-refused n q x e = grind arith
 
   pub refused_unchanged : (n q : ℕ) (x : Answer (List Line)) → (written F out x).answer ≡ refused n q → (written F out x).buffer ≡ out
   unfolding written
-  refused_unchanged n q (refused m r) e = refl
-  refused_unchanged n q (answered ls) e = let z : ◌≡◌ {A = ℕ} 0 1 = cc in absurd (omega arith)
+  refused_unchanged n q x e = grind arith
 
 -- a refusal that was not met
 passed :
     (n q : ℕ) {ls : List Line} (b : Bool) (x : Answer (List Line)) → cond b (refused n q) x ≡ answered ls → (b ≡ false) × (x ≡ answered ls)
-passed n q true x e = (cc, cc)
-passed n q false x e = (refl, e)
+passed n q b x e = grind arith
 
 -- what is said of a refusal's number and place, of an equal one
 as-refused :
     {A : Type 0} (P : ℕ → ℕ → Type 0) (m p n q : ℕ) → ◌≡◌ {A = Answer A} (refused m p) (refused n q) → P m p → P n q
-as-refused P m p n q e x =
-    let i : m ≡ n = cc in
-    let j : p ≡ q = cc in
-    subst (λ (y : ℕ). P n y) j (subst (λ (y : ℕ). P y p) i x)
+as-refused P m p n q e x = grind arith
 
 module _ (F : Limits) (S : Sensible F) (T : Task) (fits : Fits F T) where
   pub n≤w : T.facts ≤ T.width
@@ -97,21 +66,11 @@ module _ (F : Limits) (S : Sensible F) (T : Task) (fits : Fits F T) where
       (room grant : ℕ) (ls : List Line) (v : Verdict (List Line)) → Means T n≤w grant (walked T) v → lines_for F room v ≡ answered ls →
       (a : ℕ) × (walked T ≡ covered ls a) × (length ls ≤ F.lines) × (list_bytes F (length ls) ≤ room) × (a ≤ grant)
   unfolding lines_for
-  chosen room grant ls (right ms a) m e =
-      let (p, e₁) = passed 52 _ (ltb F.lines (length ms)) _ e in
-      let (q, e₂) = passed 53 _ (ltb room (list_bytes F (length ms))) _ e₁ in
-      let i : ms ≡ ls = cc in
-      let few = ltb-false F.lines (length ms) p in
-      let room_for = ltb-false room (list_bytes F (length ms)) q in
-      (a, m.0 ∙ ap (λ l. covered l a) i, rw i at few, rw i at room_for, m.3)
-  chosen room grant ls (wrong s o a) m e = let z : ◌≡◌ {A = ℕ} 0 1 = cc in absurd (omega arith)
-  chosen room grant ls (undecided a) m e = let z : ◌≡◌ {A = ℕ} 0 1 = cc in absurd (omega arith)
+  chosen room grant ls v m e = grind arith
 
   -- a walk that closes, with its visits as they are counted
   closes-within : (grant a : ℕ) (ls : List Line) → walked T ≡ covered ls a → a ≤ grant → ClosesWithin T grant ls
-  closes-within grant a ls e l =
-      let v : visits (walked T) ≡ a = ap visits e in
-      record { closes = e ∙ ap (covered ls) (sym v); within = omega arith }
+  closes-within grant a ls e l = grind arith
 
   -- a verdict whose lines are not written
   not-written :
@@ -144,10 +103,7 @@ module _ (F : Limits) (S : Sensible F) (T : Task) (fits : Fits F T) where
         n ≡ list_bytes F (length ls) →
         (written_list F problem plan grant out n ≡ encode_list F ls) × (drop n (write_list F problem plan grant out).buffer ≡ drop n out)
     unfolding write_list written
-    buffer grant out n ls e l =
-        let k = length-encode_list F S ls in
-        let after = drop (list_bytes F (length ls)) out in
-        rw (e, l) (take_at (encode_list F ls) after _ k, drop_at (encode_list F ls) after _ k)
+    buffer grant out n ls e l = grind (arith, length-encode_list, take_at, drop_at)
 
     -- what was written, as the walk's lines
     pub record Wrote (grant : ℕ) (out : List ℕ) (n : ℕ) : Type 0 where
@@ -176,20 +132,13 @@ module _ (F : Limits) (S : Sensible F) (T : Task) (fits : Fits F T) where
         (ls : List Line) × (list_of F list ≡ answered ls) × Passes T n≤w ls × (m ≡ length ls)
     followed list m e =
         answer-then (sym (follow-is F problem plan T given list) ∙ e) λ ls r h.
-        let (p, c) = follow-passes T.width (look_at T) T.facts ls 0 0 m h in
-        (ls, r, p, omega arith)
+        let (p, c) = follow-passes T.width (look_at T) T.facts ls 0 0 m h in (ls, r, p, omega arith)
 
     follow-lines :
         (ls : List Line) → length ls ≤ F.lines → Passes T n≤w ls →
         (follow_list F problem plan (encode_list F ls) ≡ answered (length ls)) × (lines_in F (encode_list F ls) ≡ length ls)
     unfolding Answer.◌>>=◌
-    follow-lines ls few p =
-        let ok = follows-ok F S T.width (look_at T) T.facts (omega (arith, fits.facts, S.facts)) fits.width ls 0 p in
-        let r = list-ok F S (encode_list F ls) ls (record { count = few; lines = ok.1 }) refl in (
-          follow-is F problem plan T given (encode_list F ls) ∙
-              rw r (passes-follow T.width (look_at T) T.facts ls 0 0 p ∙ ap answered (omega arith)),
-          sym (list_count F S (encode_list F ls) ls r),
-        )
+    follow-lines ls few p = grind (arith, (follows-ok F S T.width (look_at T) T.facts), (list-ok F S (encode_list F ls) ls), (follow-is F problem plan T given), (passes-follow T.width (look_at T) T.facts ls 0 0), list_count)
 
     -- the lines of a task whose verdict is known
     lines-are :
@@ -205,50 +154,17 @@ module _ (F : Limits) (S : Sensible F) (T : Task) (fits : Fits F T) where
     unfolding write_list written lines_for
     lists =
         record {
-          passes_only_right =
-              λ list m e.
-              let (ls, r, p, c) = followed list m e in
-              (passes-right T n≤w ls p, c ∙ list_count F S list ls r);
-          passes_exactly =
-              λ list b m. (
-                (λ e.
-                    let (ls, r, (joined, hold), c) = followed list m e in
-                    let (ok, is) = list_sound F S list b ls r in
-                    (ls, record { sound = ok; block = is; joined = joined; hold = hold }, c)),
-                λ (ls, p, e). rw (p.block, e) (follow-lines ls p.sound.count (p.joined, p.hold)).0,
-              );
+          passes_only_right = λ list m e. grind (arith, followed, passes-right, n≤w, list_count);
+          passes_exactly = λ list b m. grind (arith, (followed list m), (list_sound F S list), follow-lines);
           writes_walk =
               λ r.
               let (ls, a, e) = right-closes T n≤w r in
-              let v : visits (walked T) ≡ a = ap visits e in (
-                ls,
-                e ∙ ap (covered ls) (sym v),
-                λ grant out h few room.
-                    let l : list_for F problem plan grant (length out) ≡ answered ls =
-                    list-for-is F problem plan T given grant (length out) ∙
-                    ap (lines_for F (length out)) (judged-in T n≤w grant (covered ls a) e h) ∙
-                    rw (le-ltb F.lines (length ls) few, le-ltb (length out) (list_bytes F (length ls)) room)
-                    in
-                    (rw l, (buffer grant out _ ls l refl).0),
-              );
+              (ls, grind arith, λ grant out h few room. grind (arith, (list-for-is F problem plan T given grant (length out)), (judged-in T n≤w grant (covered ls a) e h), (buffer grant out (list_bytes F (length ls)) ls)));
           out_of_visits = λ grant out h. rw (lines-are grant (length out) _ (judged-out T n≤w grant h));
-          not_right =
-              λ grant out h nr.
-              elim (walk_ends (walked T)) [
-                | inl (ls, a, e) ↦ absurd (nr (walk-closes-right T n≤w ls a e))
-                | inr (s, a, e) ↦
-                    let v : visits (walked T) ≡ a = ap visits e in
-                    rw (lines-are grant (length out) _ (judged-in T n≤w grant (failed s a) e h)) (ap (λ (x : ℕ). refused 51 x) (sym v))
-              ];
+          not_right = λ grant out h nr. grind (arith, walk_ends, walk-closes-right, n≤w, lines-are, judged-in);
           too_many_lines = λ grant out ls c many. rw (closed-lines grant (length out) ls c, lt-ltb F.lines (length ls) many);
-          short_buffer =
-              λ grant out ls c few short.
-              rw (closed-lines grant (length out) ls c, le-ltb F.lines (length ls) few, lt-ltb (length out) (list_bytes F (length ls)) short);
-          refused_for =
-              λ grant out n q e.
-              let x = written-refused F out n q (list_for F problem plan grant (length out)) e in
-              not-written (length out) grant n q (judged T grant) (judged-means T n≤w grant)
-              (sym (list-for-is F problem plan T given grant (length out)) ∙ x);
+          short_buffer = λ grant out ls c few short. grind (arith, (closed-lines grant (length out) ls c));
+          refused_for = λ grant out n q e. grind (arith, (written-refused F out n q), (not-written (length out) grant n q (judged T grant) (judged-means T n≤w grant)), (list-for-is F problem plan T given grant (length out)));
           written_is =
               λ grant out n e.
               let o = wrote grant out n e in
@@ -259,16 +175,6 @@ module _ (F : Limits) (S : Sensible F) (T : Task) (fits : Fits F T) where
                 o.size,
                 record { sound = record { count = o.few; lines = ok.1 }; block = o.block; joined = p.0; hold = p.1 },
               );
-          written_passes =
-              λ grant out n e.
-              let o = wrote grant out n e in
-              let (f, c) = follow-lines o.lines o.few (walk-passes T n≤w o.lines o.used o.closes) in
-              rw (o.block, c) f;
-          written_least =
-              λ grant out n e list m f.
-              let o = wrote grant out n e in
-              let c = (follow-lines o.lines o.few (walk-passes T n≤w o.lines o.used o.closes)).1 in
-              let (ms, r, p, _) = followed list m f in
-              let l = walk-fewest T n≤w o.lines o.used o.closes ms p in
-              rw (o.block, c) (omega (arith, list_count F S list ms r));
+          written_passes = λ grant out n e. let o = wrote grant out n e in grind (arith, (follow-lines o.lines o.few), (walk-passes T n≤w o.lines o.used o.closes), o.block);
+          written_least = λ grant out n e list m f. let o = wrote grant out n e in grind (arith, (follow-lines o.lines o.few), (walk-passes T n≤w o.lines o.used o.closes), o.block, (followed list m f), (walk-fewest T n≤w o.lines o.used o.closes), (list_count F S list));
         }

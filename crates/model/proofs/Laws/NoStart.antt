@@ -1,19 +1,6 @@
 -- A problem whose initial formula is the empty "any": the walk closes at once, whatever the plan. Assumes nothing.
-use mathlib.Core.Path.{◌≡◌, refl, ap}
-use mathlib.Core.List.{List, [], ◌∷◌, ◌++◌}
-use Prim.Native.Nat.{ℕ, zero, suc, ◌≤◌}
-use native.Mathlib.Omega.{arith}
-use lib.ListN.{length, drop}
-use borrow.Author.Tests.{le-ltb}
-use Rattle.model.specs.declared.Limits.{Limits}
+use Rattle.model.proofs.Words.{◌≡◌, ap, List, [], ◌∷◌, ◌++◌, ℕ, ◌≤◌, arith, length, drop, le-ltb, Limits, answered, any, none, eval, Task, Kind, empty, Look, closed, Line, line, covered, right, visits, walk_from, walk, look_at, walked, Problem, problem_of, plan_of, encode_list, read_plan, task_of, read_task, judge, list_bytes, lines_for, written, write_list}
 use Rattle.model.specs.Answer as Answer
-use Rattle.model.specs.Answer.{answered}
-use Rattle.model.specs.Formula.{any, none, eval}
-use Rattle.model.specs.Case.{Task}
-use Rattle.model.specs.Walk.{Kind, empty, Look, closed, Line, line, covered, right, visits, walk_from, walk, look_at, walked}
-use Rattle.model.specs.ProblemBytes.{Problem, problem_of, plan_of}
-use Rattle.model.specs.ListBytes.{encode_list}
-use Rattle.model.specs.Operations.{read_plan, task_of, read_task, judge, list_bytes, lines_for, written, write_list}
 use Rattle.model.proofs.Laws.Tasks.{answer-then, task-fits, judge-is, list-for-is}
 use Rattle.model.proofs.Laws.Judging.{judged-in}
 
@@ -21,8 +8,7 @@ use Rattle.model.proofs.Laws.Judging.{judged-in}
 walk-closed :
     (w : ℕ) (look : ℕ → ℕ → Look) (d : ℕ) (κ : Kind) (k v : ℕ) → walk_from w look d (closed κ) k v ≡ covered (line κ k v ∷ []) 1
 unfolding walk_from
-walk-closed w look zero κ k v = refl
-walk-closed w look (suc d) κ k v = refl
+walk-closed w look d κ k v = grind arith
 
 -- the only line of the walk
 abbrev only : List Line
@@ -30,7 +16,7 @@ only = line empty 0 0 ∷ []
 
 walks-once : (T : Task) → T.initial ≡ any none → walked T ≡ covered only 1
 unfolding eval look_at walk walked
-walks-once T empty-any = rw empty-any (walk-closed T.width _ T.facts empty 0 0)
+walks-once T e = grind (arith, walk-closed)
 
 module _ (F : Limits) (f≤w : F.facts ≤ F.width) (problem : List ℕ) {p : Problem} (reads : problem_of F problem ≡ answered p) where
   pub no_start :

@@ -1,18 +1,5 @@
 -- Reading a problem or a plan is exactly the inverse of writing it. Assumes nothing.
-use mathlib.Core.Path.{◌≡◌, refl, sym, ap, subst, ◌∙◌}
-use mathlib.Core.List.{List, [], ◌∷◌}
-use Prim.Native.Nat.{ℕ, zero, suc, ◌+◌, ◌-◌, ◌≤◌, ◌<◌}
-use native.Mathlib.Omega.{arith}
-use lib.ListN.{length, get_or}
-use borrow.Author.Tests.{ltb-true, leb-true, lt-ltb, le-leb}
-use Rattle.model.specs.declared.Limits.{Limits}
-use Rattle.model.specs.Limits.{max_actions, max_steps, max_problem_bytes}
-use Rattle.model.specs.Answer.{answered}
-use Rattle.model.specs.Action.{Effect, Action}
-use Rattle.model.specs.Read.{got, and_then, ◌>>=◌, ◌>>◌, done, position, require, counted, answer_of}
-use Rattle.model.specs.FormulaBytes.{literal_byte, encode_formula}
-use Rattle.model.specs.ProblemBytes.{Problem, effect, effects, effect_list, action, actions, ending, parts, body, problem, problem_of, steps, plan, plan_of, effects_bytes, action_bytes, actions_bytes, encode_problem, encode_plan}
-use Rattle.model.specs.WellFormed.{Bytes, Each, Declared, FormulaOk, EffectsOk, ActionOk, ProblemOk, PlanOk, Sensible}
+use Rattle.model.proofs.Words.{◌≡◌, refl, sym, ap, subst, List, [], ◌∷◌, ℕ, zero, suc, ◌+◌, ◌-◌, ◌≤◌, ◌<◌, arith, length, leb-true, Limits, max_actions, max_steps, max_problem_bytes, answered, Effect, Action, got, and_then, ◌>>=◌, ◌>>◌, done, position, require, counted, answer_of, literal_byte, encode_formula, Problem, effect, effects, effect_list, action, actions, ending, parts, body, problem, problem_of, steps, plan, plan_of, effects_bytes, action_bytes, actions_bytes, encode_problem, encode_plan, Bytes, Each, Declared, FormulaOk, EffectsOk, ActionOk, ProblemOk, PlanOk, Sensible}
 use Rattle.model.proofs.Laws.Spans.{Span, nothing, next}
 use Rattle.model.proofs.Laws.Reading.{Gives, gives, reads, ends, tests, empty, first, join, split, span-length, span-end, byte-gives, byte-ok, length-block, lets-version, header-gives, header_ok, count_gives, count-ok}
 use Rattle.model.proofs.Laws.FormulaCodec.{literal-got, literal-ok, formula-gives, formula-ok}
@@ -28,9 +15,7 @@ module _ (s : List ℕ) (facts : ℕ) (most : facts ≤ 64) where
       reads (byte-gives 14 p) λ b m r.
       tests _ _ _ _ _ λ t.
       tests _ _ _ _ _ λ u.
-      reads (formula-gives s facts most sound m) λ f o (k, v).
-      let (d, i) = literal-got facts most b t in
-      gives (d, rw i (leb-true least b u), k, rw i (join r v))
+      reads (formula-gives s facts most sound m) λ f o (k, v). grind (arith, literal-got, gives, join)
 
   effects-give :
       Bytes s → (n least p : ℕ) →
@@ -48,17 +33,9 @@ module _ (s : List ℕ) (facts : ℕ) (most : facts ≤ 64) where
   unfolding effects effect ◌>>=◌ ◌>>◌ and_then position done effects_bytes require
   effects-ok [] least p q d r = rw (empty r)
   effects-ok (e ∷ es) least p q (d, l, f, k) r =
-      let (i, j) = literal-ok facts most e.literal d in
       let (_, _, v) = first r in
       split (encode_formula e.condition) v λ m a b.
-      rw (
-        byte-ok 14 r,
-        i,
-        j,
-        le-leb least (literal_byte e.literal) l,
-        formula-ok s facts most (p + 1) e.condition m f a,
-        effects-ok es (literal_byte e.literal + 1) m q k b,
-      )
+      grind (arith, literal-ok, (byte-ok 14 r), (formula-ok s facts most (p + 1) e.condition m f a), (effects-ok es (literal_byte e.literal + 1) m q k b))
 
 module _ (F : Limits) (s : List ℕ) (facts : ℕ) (most : facts ≤ 64) where
   action-gives : Bytes s → (p : ℕ) → Gives (action F s facts p) (λ a q. ActionOk F facts a × Span s (length s) p (action_bytes a) q)
@@ -84,11 +61,7 @@ module _ (F : Limits) (s : List ℕ) (facts : ℕ) (most : facts ≤ 64) where
   action-ok p a q k r =
       split (encode_formula a.precondition) r λ m b c.
       let (_, _, v) = first c in
-      rw (
-        formula-ok s facts most p a.precondition m k.precondition b,
-        count-ok s 22 0 F.effects m (omega arith) k.count c,
-        effects-ok s facts most a.effects 0 (m + 1) q k.effects v,
-      )
+      grind (arith, (formula-ok s facts most p a.precondition m k.precondition b), (count-ok s 22 0 F.effects m (omega arith) k.count c), (effects-ok s facts most a.effects 0 (m + 1) q k.effects v))
 
   actions-give :
       Bytes s → (n p : ℕ) →
@@ -96,10 +69,7 @@ module _ (F : Limits) (s : List ℕ) (facts : ℕ) (most : facts ≤ 64) where
       Each (ActionOk F facts) as' × Span s (length s) p (actions_bytes as') q × (length as' ≡ n)
   unfolding actions ◌>>=◌ and_then done actions_bytes
   actions-give sound zero p = gives (tt, nothing refl, refl)
-  actions-give sound (suc n) p =
-      reads (action-gives sound p) λ a m (b, c).
-      reads (actions-give sound n m) λ rest o (d, e, i).
-      gives ((b, d), join c e, ap suc i)
+  actions-give sound (suc n) p = grind (arith, (actions-give sound n), (action-gives sound p), gives, join)
 
   pub actions-ok :
       (as' : List Action) (p q : ℕ) → Each (ActionOk F facts) as' → Span s (length s) p (actions_bytes as') q →
@@ -139,15 +109,7 @@ module _ (F : Limits) (sense : Sensible F) (s : List ℕ) where
       let (_, _, w₂) = first w₁ in
       split (encode_formula x.initial) w₂ λ m a r.
       split (encode_formula x.goal) r λ o b c.
-      rw (
-        h,
-        count-ok s 15 1 F.facts 5 k.some_fact k.facts w,
-        count-ok s 16 0 max_actions 6 (omega arith) k.count w₁,
-        formula-ok s x.facts most 7 x.initial m k.initial a,
-        formula-ok s x.facts most m x.goal o k.goal b,
-        actions-ok F s x.facts most x.actions o (length s) k.actions c,
-        le-leb (length s) (length s) (omega arith),
-      )
+      grind (arith, h, (count-ok s 15 1 F.facts 5 k.some_fact k.facts w), (count-ok s 16 0 max_actions 6 (omega arith) k.count w₁), (formula-ok s x.facts most 7 x.initial m k.initial a), (formula-ok s x.facts most m x.goal o k.goal b), (actions-ok F s x.facts most x.actions o (length s) k.actions c))
 
 -- plans
 module _ (s : List ℕ) where
@@ -156,32 +118,20 @@ module _ (s : List ℕ) where
       Gives (steps s m n p) (λ bs q. Each (λ b. b < m) bs × Span s (length s) p bs q × (q ≡ p + n))
   unfolding steps counted ◌>>=◌ ◌>>◌ and_then position done
   steps-give m zero p l = gives (tt, nothing refl, omega arith)
-  steps-give m (suc n) p l =
-      tests _ _ _ _ _ λ t.
-      reads (steps-give m n (p + 1) (omega arith)) λ rest o (a, b, c).
-      let d : p < length s = omega arith in
-      gives ((ltb-true (get_or s p 0) m t, a), next d refl b, omega arith)
+  steps-give m (suc n) p l = grind (arith, tests, gives, next, (steps-give m n (p + 1) (omega arith)))
 
   pub steps-ok :
       (m : ℕ) (bs : List ℕ) (p q : ℕ) → Each (λ b. b < m) bs → Span s (length s) p bs q → steps s m (length bs) p ≡ got bs q
   unfolding steps counted ◌>>=◌ ◌>>◌ and_then position done require
   steps-ok m [] p q k r = rw (empty r)
-  steps-ok m (b ∷ bs) p q (l, k) r =
-      let (_, e, v) = first r in
-      rw (e, lt-ltb b m l, steps-ok m bs (p + 1) q k v)
+  steps-ok m (b ∷ bs) p q (l, k) r = grind (arith, (steps-ok m bs (p + 1) q k), first)
 
   pub plan-gives : (m : ℕ) → Bytes s → Gives (plan s m 0) (λ bs q. PlanOk m bs × (s ≡ encode_plan bs) × (q ≡ length s))
   unfolding plan ◌>>◌ encode_plan
   plan-gives m sound =
       reads (header-gives s 30 (5 + max_steps) 1 _ (lets-version s 1 32) 0 sound) λ _ o (i, l, z, law).
-      ends (steps-give m (length s - 5) o (omega arith)) λ bs q (a, b, c).
-      let e : q ≡ length s = omega arith in
-      (record { count = omega (arith, span-length b); actions = a }, law bs (rw (i, e) at b), e)
+      ends (steps-give m (length s - 5) o (omega arith)) λ bs q (a, b, c). grind (arith, span-length, law)
 
   pub plan-ok : (m : ℕ) (bs : List ℕ) → PlanOk m bs → s ≡ encode_plan bs → plan_of s m ≡ answered bs
   unfolding plan_of answer_of plan ◌>>◌ encode_plan and_then
-  plan-ok m bs k e =
-      let l = ap length e ∙ length-block 1 bs in
-      let (h, w) = header_ok s 30 (5 + max_steps) 1 _ (lets-version s 1 32) 0 bs e (omega (arith, k.count)) (omega arith) in
-      let n : length s - 5 ≡ length bs = omega (arith, span-length w) in
-      rw (h, n, steps-ok m bs 5 (length s) k.actions w)
+  plan-ok m bs k e = grind (arith, (length-block 1 bs), (header_ok s 30 (5 + max_steps) 1), (lets-version s 1 32), (steps-ok m bs 5 (length s) k.actions))

@@ -1,21 +1,5 @@
 -- The laws of readers: what a reader that succeeds has found, and when one succeeds; numbers in bytes; headers. Assumes nothing.
-use mathlib.Core.Path.{◌≡◌, refl, sym, ap, subst, subst₂, ◌∙◌}
-use mathlib.Core.Bool.{Bool, true, false}
-use mathlib.Core.List.{List, [], ◌∷◌, ◌++◌}
-use Prim.Native.Nat.{ℕ, zero, suc, ◌+◌, ◌-◌, ◌*◌, ◌/◌, ◌%◌, ◌^◌, ◌≤◌, ◌<◌}
-use native.Mathlib.Nat.{pow-suc, div-div-eq-div-mul, div-lt_iff_lt-mul, one-le-pow, mod-eq_of_lt, zero-mul, one-mul, mul_comm, mul_assoc, add-mul, zero-add, add_assoc, mod-one}
-use native.Mathlib.Numerals.{add-one}
-use native.Mathlib.Omega.{arith}
-use native.Mathlib.Decide.{dec_lt}
-use lib.ListN.{length, get_or, take, drop, length-append}
-use lib.Seq.{drop-cons, take_all, take-length}
-use lib.Arith.{mod-mul}
-use lib.Pow.{pow-add}
-use lib.Dec.{eqb, leb, lit<}
-use borrow.Author.Tests.{leb-true, eqb-true, lt-ltb, le-ltb, le-leb, eq-eqb}
-use Rattle.model.specs.Answer.{answered}
-use Rattle.model.specs.Read.{Read, reject, got, Reader, and_then, ◌>>=◌, ◌>>◌, done, position, require, answer_of, big_endian_from, big_endian, bytes_of, block, byte, of_version, header, count}
-use Rattle.model.specs.WellFormed.{Bytes}
+use Rattle.model.proofs.Words.{◌≡◌, refl, sym, ap, subst, subst₂, ◌∙◌, Bool, true, List, [], ◌∷◌, ◌++◌, ℕ, zero, suc, ◌+◌, ◌-◌, ◌*◌, ◌/◌, ◌%◌, ◌^◌, ◌≤◌, ◌<◌, pow-suc, div-div-eq-div-mul, one-le-pow, mod-eq_of_lt, zero-mul, mul_comm, mul_assoc, zero-add, mod-one, add-one, arith, length, get_or, take, drop, length-append, drop-cons, take_all, take-length, mod-mul, pow-add, leb, leb-true, eqb-true, lt-ltb, le-leb, answered, Read, got, Reader, and_then, ◌>>=◌, ◌>>◌, done, position, require, answer_of, big_endian_from, big_endian, bytes_of, block, byte, of_version, header, count, Bytes}
 use Rattle.model.proofs.Laws.Spans.{Span, nothing, next}
 use Rattle.model.proofs.Laws.Truth.{and-true}
 
@@ -24,8 +8,7 @@ pub then-got :
     {A B C : Type 0} {x : Read A} {k : A → Reader B} {b : B} {q : ℕ} → and_then x k ≡ got b q →
     ((a : A) (m : ℕ) → x ≡ got a m → k a m ≡ got b q → C) → C
 unfolding and_then
-then-got {x = reject n p} h f = let z : ◌≡◌ {A = ℕ} 0 1 = cc in absurd (omega arith)
-then-got {x = got a m} h f = f a m refl h
+then-got h f = grind arith
 
 pub got-inj : {A : Type 0} {a b : A} {p q : ℕ} → got a p ≡ got b q → (a ≡ b) × (p ≡ q)
 got-inj h = (cc, cc)
@@ -35,8 +18,7 @@ pub needed :
     {B C : Type 0} {b : B} {q : ℕ} (t : Bool) (n o p : ℕ) (k : Unit {0} → Reader B) → and_then (require t n o p) k ≡ got b q →
     (t ≡ true → k tt p ≡ got b q → C) → C
 unfolding and_then require
-needed true n o p k h f = f refl h
-needed false n o p k h f = let z : ◌≡◌ {A = ℕ} 0 1 = cc in absurd (omega arith)
+needed t n o p k h f = grind arith
 
 -- what a reader that succeeds gives
 pub record Gives {A : Type 0} (x : Read A) (P : A → ℕ → Type 0) : Type 0 where
@@ -62,13 +44,11 @@ module _ {B : Type 0} {Q : B → ℕ → Type 0} where
 -- a test alone
 pub passed : {Q : Unit {0} → ℕ → Type 0} (t : Bool) (n o p : ℕ) → (t ≡ true → Q tt p) → Gives (require t n o p) Q
 unfolding require
-passed true n o p f = gives (f refl)
-passed false n o p f = record { of = λ b q e. let z : ◌≡◌ {A = ℕ} 0 1 = cc in absurd (omega arith) }
+passed t n o p f = grind arith
 
 pub answer-got : {A : Type 0} {a : A} (x : Read A) → answer_of x ≡ answered a → (q : ℕ) × (x ≡ got a q)
 unfolding answer_of
-answer-got (reject n q) h = let z : ◌≡◌ {A = ℕ} 0 1 = cc in absurd (omega arith)
-answer-got (got b q) h = (q, cc)
+answer-got x h = grind arith
 
 -- ---- bytes that stand in a block
 
@@ -104,11 +84,7 @@ module _ {s : List ℕ} {end : ℕ} where
   -- one byte
   pub byte-got : {b p q : ℕ} (number : ℕ) → byte s end number p ≡ got b q → Span s end p (b ∷ []) q
   unfolding byte
-  byte-got {b} {p} {q} number h =
-      elim (dec_lt p end) [
-        | yes l ↦ let (i, j) = got-inj (rw (lt-ltb p end l) at h) in next l i (nothing j)
-        | no l ↦ let e = le-ltb p end (omega arith) in let z : ◌≡◌ {A = ℕ} 0 1 = cc in absurd (omega arith)
-      ]
+  byte-got {b} {p} {q} number h = grind (arith, next, nothing)
 
   pub byte-gives : (number p : ℕ) → Gives (byte s end number p) (λ b q. Span s end p (b ∷ []) q)
   byte-gives number p = record { of = λ b q e. byte-got number e }
@@ -142,9 +118,7 @@ module _ {s : List ℕ} where
 -- numbers in bytes; a byte is eight bits
 pub byte-bits : (n : ℕ) → 256 ^ n ≡ 2 ^ (8 * n)
 byte-bits zero = refl
-byte-bits (suc n) =
-    let e : 8 * suc n ≡ 8 * n + 8 = omega arith in
-    rw (pow-suc 256 n, byte-bits n, e, pow-add 2 (8 * n) 8)
+byte-bits (suc n) = grind (arith, (byte-bits n), (pow-add 2 (8 * n) 8))
 
 pub length-bytes_of : (k n : ℕ) → length (bytes_of k n) ≡ k
 unfolding bytes_of
@@ -154,8 +128,7 @@ length-bytes_of (suc k) n = ap suc (length-bytes_of k n)
 from-bytes_of : (k n a : ℕ) → big_endian_from a (bytes_of k n) ≡ a * 256 ^ k + n % 256 ^ k
 unfolding big_endian_from bytes_of
 from-bytes_of zero n a = omega (arith, mod-one n)
-from-bytes_of (suc k) n a =
-    rw (from-bytes_of k n (a * 256 + (n / 256 ^ k) % 256), pow-suc 256 k, mul_comm (256 ^ k) 256, mod-mul n {m = 256} {c = 256 ^ k} (lit< tt) (one-le-pow k 256 (lit< tt)), add-mul, mul_assoc, add_assoc)
+from-bytes_of (suc k) n a = grind (arith, mul_comm, mod-mul, mul_assoc, (from-bytes_of k n (a * 256 + (n / 256 ^ k) % 256)))
 
 from-div : (xs : List ℕ) (a : ℕ) → Bytes xs → big_endian_from a xs / 256 ^ length xs ≡ a
 unfolding big_endian_from
@@ -171,22 +144,14 @@ bytes_of-from (x ∷ xs) a h =
 
 span-bytes : {s : List ℕ} {end : ℕ} {xs : List ℕ} {p q : ℕ} → Bytes s → Span s end p xs q → Bytes xs
 span-bytes sound (nothing e) i = omega arith
-span-bytes sound (next {p = p} l e h) zero = rw e at (sound p)
-span-bytes sound (next l e h) (suc i) = span-bytes sound h i
+span-bytes sound (next {p = p} l e h) i = grind (arith, (span-bytes sound h))
 
 -- a number that stands in s as k bytes from p up to q
 module _ (s : List ℕ) (k p q : ℕ) where
   pub number-got :
       Bytes s → p + k ≡ q → q ≤ length s →
       (big_endian (take k (drop p s)) < 256 ^ k) × Span s (length s) p (bytes_of k (big_endian (take k (drop p s)))) q
-  number-got sound e l =
-      let r = span-here {s = s} k p q e l in
-      let n : length (take k (drop p s)) ≡ k = omega (arith, span-length r) in
-      let b = span-bytes sound r in
-      let f : big_endian (take k (drop p s)) / 256 ^ k < 1 = omega (arith, rw n at (from-div (take k (drop p s)) 0 b)) in (
-        rw one-mul at ((div-lt_iff_lt-mul {y = 1} (one-le-pow k 256 (lit< tt))).0 f),
-        rw (rw n at (bytes_of-from (take k (drop p s)) 0 b)) r,
-      )
+  number-got sound e l = grind (arith, (span-here k p q e l), span-length, span-bytes, (from-div (take k (drop p s)) 0), one-le-pow, (bytes_of-from (take k (drop p s)) 0))
 
   pub number_ok : (n : ℕ) → n < 256 ^ k → Span s (length s) p (bytes_of k n) q → big_endian (take k (drop p s)) ≡ n
   number_ok n l h = rw (rw length-bytes_of at (span-is h)) (from-bytes_of k n 0 ∙ rw (mod-eq_of_lt l, zero-mul, zero-add))
@@ -203,11 +168,7 @@ pub record Lets (s : List ℕ) (version : ℕ) (versions : Reader (Unit {0})) : 
 
 pub lets-version : (s : List ℕ) (version number : ℕ) → Lets s version (of_version s version number)
 unfolding of_version require
-lets-version s version number =
-    record {
-      only = λ p. passed (eqb (get_or s 0 0) version) number 0 p (eqb-true _ _);
-      passes = λ e p. rw (eq-eqb (get_or s 0 0) version e);
-    }
+lets-version s version number = grind arith
 
 module _ (s : List ℕ) (number most version : ℕ) (versions : Reader (Unit {0})) (lets : Lets s version versions) (p : ℕ) where
   pub header-gives :
@@ -222,15 +183,9 @@ module _ (s : List ℕ) (number most version : ℕ) (versions : Reader (Unit {0}
       tests _ _ _ _ _ λ t₄.
       let l = leb-true 5 (length s) t₂ in
       let o : 0 < length s = omega arith in
+      let n = (number-got s 4 1 5 sound (omega arith) l).1 in
       let f = eqb-true (big_endian (take 4 (drop 1 s))) (length s - 5) t₄ in
-      gives (
-        refl,
-        leb-true (length s) most t₁,
-        l,
-        λ body k.
-            let e : big_endian (take 4 (drop 1 s)) ≡ length body = omega (arith, span-length k) in
-            whole_is (next o v (join (rw e at (number-got s 4 1 5 sound (omega arith) l).1) k)),
-      )
+      gives (refl, leb-true (length s) most t₁, l, λ body k. grind (arith, whole_is, next, join, span-length))
 
   pub header_ok :
       (body : List ℕ) → s ≡ block version body → length s ≤ most → most < 5 + 256 ^ 4 →
@@ -238,18 +193,7 @@ module _ (s : List ℕ) (number most version : ℕ) (versions : Reader (Unit {0}
   unfolding header ◌>>◌ block and_then require
   header_ok body e l k =
       let (o, v, r) = first (subst (λ (xs : List ℕ). Span s (length s) 0 xs (length s)) e is_whole) in
-      split (bytes_of 4 (length body)) r λ m a c.
-      let i : m ≡ 5 = omega (arith, span-length a, length-bytes_of 4 (length body)) in
-      let j = span-length c in
-      let n : big_endian (take 4 (drop 1 s)) ≡ length s - 5 = number_ok s 4 1 m (length body) (omega arith) a ∙ omega arith in (
-        rw (
-          le-leb (length s) most l,
-          le-leb 5 (length s) (omega arith),
-          lets.passes v p,
-          eq-eqb (big_endian (take 4 (drop 1 s))) (length s - 5) n,
-        ),
-        rw i at c,
-      )
+      split (bytes_of 4 (length body)) r λ m a c. grind (arith, span-length, length-bytes_of, (number_ok s 4 1 m (length body)), lets.passes)
 
 -- counts
 module _ (s : List ℕ) (number low high p : ℕ) where

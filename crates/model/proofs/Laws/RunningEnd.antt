@@ -1,18 +1,7 @@
 -- The running value is the end of what the lines cover together, and following is one test of it after the last line. The width,
 -- the fact count and the look are parameters. Assumes nothing.
-use mathlib.Core.Path.{◌≡◌, refl, sym, ap, ◌∙◌, subst}
-use mathlib.Core.Logic.{◌↔◌, inl, inr, ⊎_elim}
-use mathlib.Core.List.{List, [], ◌∷◌}
-use Prim.Native.Nat.{ℕ, zero, suc, ◌+◌, ◌-◌, ◌^◌, ◌≤◌, ◌<◌, zero-le}
-use native.Mathlib.Omega.{arith}
-use native.Mathlib.Decide.{dec_le, dec_lt}
-use lib.ListN.{length, take, drop}
-use lib.Dec.{eqb}
-use borrow.Author.Tests.{eqb-true}
-use Rattle.model.specs.Answer.{Answer, refused, answered, ◌>>=◌}
-use Rattle.model.specs.Walk.{Look, Line}
-use Rattle.model.specs.CaseList.{refuse_at, ends, fault, follow}
-use Rattle.model.specs.Cover.{CoveredBy, CoveredOnce, CoversTo, cover_end, FaultAt, RunningEnd}
+use Rattle.model.proofs.Words.{◌≡◌, refl, sym, ap, ◌∙◌, subst, ◌↔◌, List, [], ◌∷◌, ℕ, zero, suc, ◌+◌, ◌-◌, ◌^◌, ◌≤◌, ◌<◌, zero-le, arith, dec_lt, length, take, drop, eqb, eqb-true, Answer, refused, answered, Look, Line, refuse_at, ends, fault, follow, CoveredBy, CoveredOnce, CoversTo, cover_end, FaultAt, RunningEnd}
+use Rattle.model.specs.Answer.{◌>>=◌}
 use Rattle.model.proofs.Laws.Following.{refuse-at-answered, ends-answered, fault-none}
 use Rattle.model.proofs.Laws.Tasks.{answer-then}
 
@@ -28,32 +17,14 @@ module _ (w : ℕ) (look : ℕ → ℕ → Look) (n : ℕ) where
       (x ≤ e) × ((y : ℕ) → ((x ≤ y) × (y < e)) ↔ CoveredBy w ls y) × CoveredOnce w ls
   unfolding cover_end
   between [] i x e h = let z : x ≡ e = cc in (omega arith, (λ y. ((λ (a, b). absurd (omega arith)), (λ c. absurd c))), tt)
-  between (l ∷ ls) i x e h =
-      let (none, r) = refuse-at-answered (fault w look n l x) i e _ h in
-      let begins = (fault-none w look n l x none).0 in
-      let (up, there, once) = between ls (suc i) _ e r in (
-        omega arith,
-        (λ y. (
-          (λ (a, b).
-              elim (dec_lt y (x + 2 ^ (w - l.k))) [
-                | yes c ↦ inl (record { begun = omega arith; not_past = omega arith })
-                | no c ↦ inr ((there y).0 (omega arith, b))
-              ]),
-          (λ s. ⊎_elim (λ c. (omega (arith, c.begun), omega (arith, c.not_past))) (λ c. let (a, b) = (there y).1 c in (omega arith, b)) s),
-        )),
-        ((λ y c d. let (a, _) = (there y).1 d in omega (arith, c.not_past)), once),
-      )
+  between (l ∷ ls) i x e h = grind (arith, (between ls (suc i)), refuse-at-answered, fault-none)
 
   pub covers-to : (ls : List Line) (e : ℕ) → cover_end w look n ls 0 0 ≡ answered e → CoversTo w ls e
   covers-to ls e h =
       let (_, there, once) = between ls 0 0 e h in
       let exactly : (x : ℕ) → (x < e) ↔ CoveredBy w ls x = λ x. ((λ a. (there x).0 (zero-le, a)), (λ c. ((there x).1 c).1)) in
       record {
-        is_end =
-            record {
-              above = λ x c. (exactly x).1 c;
-              least = λ d below. elim (dec_le e d) [ yes p ↦ p | no p ↦ let c = below d ((exactly d).0 (omega arith)) in absurd (omega arith) ];
-            };
+        is_end = record { above = λ x c. (exactly x).1 c; least = λ d below. grind (arith, (exactly d), (below d)) };
         exactly = exactly;
         once = once;
       }
@@ -65,12 +36,8 @@ module _ (w : ℕ) (look : ℕ → ℕ → Look) (n : ℕ) where
   next-line l ls i x e = rw (e, refuse_at)
 
   pub fault-line : (l : Line) (ls : List Line) (i x f : ℕ) → fault w look n l x ≡ f → 0 < f → cover_end w look n (l ∷ ls) i x ≡ refused f i
-  unfolding cover_end
-  fault-line l ls i x f e h = rw e (refuses f h)
-    where
-      refuses : (f : ℕ) → 0 < f → refuse_at f i (cover_end w look n ls (suc i) (x + 2 ^ (w - l.k))) ≡ refused f i
-      refuses zero h = absurd (omega arith)
-      refuses (suc f) h = unfold refuse_at in refl
+  unfolding cover_end refuse_at
+  fault-line l ls i x f e h = grind arith
 
   -- lines among which no fault was found have a running value after the first i
   prefix :
@@ -79,14 +46,7 @@ module _ (w : ℕ) (look : ℕ → ℕ → Look) (n : ℕ) where
   unfolding cover_end
   prefix ls j x zero h = (x, refl)
   prefix [] j x (suc i) h = (x, refl)
-  prefix (l ∷ ls) j x (suc i) h =
-      elim (dec_lt 0 (fault w look n l x)) [
-        | yes q ↦ let k = h _ j (fault-line l ls j x _ refl q) in absurd (omega arith)
-        | no q ↦
-            let none : fault w look n l x ≡ 0 = omega arith in
-            let (e, r) = prefix ls (suc j) (x + 2 ^ (w - l.k)) i (λ f p g. let k = h f p (next-line l ls j x none ∙ g) in omega arith) in
-            (e, next-line l (take i ls) j x none ∙ r)
-      ]
+  prefix (l ∷ ls) j x (suc i) h = grind (arith, (prefix ls (suc j) (x + 2 ^ (w - l.k)) i), fault-line, next-line)
 
   -- where the first fault is found, from line j and number x on
   found :
@@ -113,19 +73,15 @@ module _ (w : ℕ) (look : ℕ → ℕ → Look) (n : ℕ) where
 
   refuse-then : (c i : ℕ) (a : Answer ℕ) (k : ℕ → Answer ℕ) → refuse_at c i (a >>= k) ≡ refuse_at c i a >>= k
   unfolding refuse_at ◌>>=◌
-  refuse-then zero i a k = refl
-  refuse-then (suc c) i a k = refl
+  refuse-then c i a k = grind arith
 
   follow-ends : (ls : List Line) (i x : ℕ) → follow w look n ls i x ≡ cover_end w look n ls i x >>= λ e. ends (eqb e (2 ^ w)) (i + length ls)
   unfolding follow cover_end ◌>>=◌
   follow-ends [] i x = ap (ends (eqb x (2 ^ w))) (omega arith)
-  follow-ends (l ∷ ls) i x =
-      let z : suc i + length ls ≡ i + suc (length ls) = omega arith in
-      ap (refuse_at (fault w look n l x) i) (follow-ends ls (suc i) (x + 2 ^ (w - l.k))) ∙
-      rw z (refuse-then (fault w look n l x) i _ _)
+  follow-ends (l ∷ ls) i x = grind (arith, refuse-then, (follow-ends ls (suc i) (x + 2 ^ (w - l.k))))
 
   pub same_answers : (ls : List Line) → follow w look n ls 0 0 ≡ cover_end w look n ls 0 0 >>= λ e. ends (eqb e (2 ^ w)) (length ls)
-  same_answers ls = follow-ends ls 0 0 ∙ ap (λ (m : ℕ). cover_end w look n ls 0 0 >>= λ e. ends (eqb e (2 ^ w)) m) (omega arith)
+  same_answers ls = grind (arith, (follow-ends ls 0 0))
 
   -- lines among which no fault was found have an end after the first i, which is that of what they cover
   pub end_kept :
@@ -140,10 +96,7 @@ module _ (w : ℕ) (look : ℕ → ℕ → Look) (n : ℕ) where
   unfolding cover_end follow refuse_at
   continues ls j x zero e h l = let z : x ≡ e = cc in rw z (ap (λ (k : ℕ). follow w look n ls k e) (omega arith))
   continues [] j x (suc i) e h l = absurd (omega arith)
-  continues (l ∷ ls) j x (suc i) e h k =
-      let (none, r) = refuse-at-answered (fault w look n l x) j e _ h in
-      let z : suc j + i ≡ j + suc i = omega arith in
-      rw (none, refuse_at, ← z) (continues ls (suc j) _ i e r (omega arith))
+  continues (l ∷ ls) j x (suc i) e h k = grind (arith, (continues ls (suc j) (x + 2 ^ (w - l.k)) i e))
 
   whole : (ls : List Line) (m : ℕ) → follow w look n ls 0 0 ≡ answered m → CoversTo w ls (2 ^ w)
   whole ls m h =
@@ -155,10 +108,7 @@ module _ (w : ℕ) (look : ℕ → ℕ → Look) (n : ℕ) where
   unfolding ◌>>=◌
   running-end =
       record {
-        is_end =
-            λ ls i h.
-            let (e, r, c) = end_kept ls i (λ f p g. h f p (same_answers ls ∙ rw g)) in
-            record { end = e; running = r; continues = λ l. continues ls 0 0 i e r l ∙ ap (λ (k : ℕ). follow w look n (drop i ls) k e) (omega arith); covers = c };
+        is_end = λ ls i h. grind (arith, (end_kept ls i), (same_answers ls), (continues ls 0 0 i));
         at_fault = fault-at;
         same_answers = same_answers;
         passes_whole = whole;

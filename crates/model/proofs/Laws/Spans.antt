@@ -1,11 +1,5 @@
 -- Where the parts of a block stand: each is known by the bytes that encode it, and by no reader.
-use Rattle.std.specs.Prelude.{◌≡◌, List, [], ◌∷◌, ℕ, ◌+◌, ◌≤◌, ◌<◌, length, get_or}
-use Rattle.model.specs.Limits.{max_effects}
-use Rattle.model.specs.Formula.{Formula}
-use Rattle.model.specs.Action.{Action}
-use Rattle.model.specs.FormulaBytes.{encode_formula}
-use Rattle.model.specs.ProblemBytes.{action_bytes}
-use Rattle.model.specs.WellFormed.{FormulaOk, EffectsOk}
+use Rattle.model.proofs.Words.{◌≡◌, List, [], ◌∷◌, ℕ, ◌+◌, ◌≤◌, ◌<◌, length, get_or, max_effects, Formula, Action, encode_formula, action_bytes, FormulaOk, EffectsOk}
 
 -- the bytes xs stand in s from p up to q, before `end`
 pub data Span (s : List ℕ) (end : ℕ) : ℕ → List ℕ → ℕ → Type 0 where

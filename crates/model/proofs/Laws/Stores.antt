@@ -1,19 +1,11 @@
 -- Runs of stores. Assumes nothing.
-use mathlib.Core.Path.{◌≡◌, sym, ap, ◌∙◌}
-use mathlib.Core.List.{List, [], ◌∷◌, ◌++◌, append_assoc}
-use Prim.Native.Nat.{ℕ, suc, ◌+◌, ◌≤◌}
-use native.Mathlib.Nat.{add-zero, add-suc, suc-add}
-use native.Mathlib.Omega.{arith}
-use lib.ListN.{length, set, take, drop}
-use lib.Seq.{sets, sets-eq, drop-drop}
-use borrow.Rule.Slice.PartMut.{put_mid}
+use lib.Seq.{sets, sets-eq}
+use Rattle.model.proofs.Words.{◌≡◌, sym, ap, ◌∙◌, List, [], ◌∷◌, ◌++◌, append_assoc, ℕ, suc, ◌+◌, ◌≤◌, add-zero, arith, length, set, take, drop, drop-drop, put_mid}
 
 -- one run of stores after another
 pub sets-append : (vs ws l : List ℕ) (i : ℕ) → sets l i (vs ++ ws) ≡ sets (sets l i vs) (i + length vs) ws
 sets-append [] ws l i = ap (λ (j : ℕ). sets l j ws) (sym (add-zero i))
-sets-append (v ∷ vs) ws l i =
-    sets-append vs ws (set l i v) (suc i) ∙
-    ap (λ (j : ℕ). sets (sets (set l i v) (suc i) vs) j ws) (suc-add i (length vs) ∙ sym (add-suc i (length vs)))
+sets-append (v ∷ vs) ws l i = grind (arith, (sets-append vs ws (set l i v) (suc i)))
 
 -- a part of a buffer that was written
 pub part-put : (at k : ℕ) (out part : List ℕ) → at + k ≤ length out → length part ≡ k → put_mid at k out part ≡ sets out at part

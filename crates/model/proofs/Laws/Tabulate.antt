@@ -1,11 +1,5 @@
 -- Lists by a rule. Assumes nothing.
-use mathlib.Core.Path.{◌≡◌, refl, ap}
-use mathlib.Core.List.{[], ◌∷◌, ◌++◌}
-use Prim.Native.Nat.{ℕ, zero, suc, ◌≤◌, ◌<◌}
-use native.Mathlib.Nat.{le_of_suc-le-suc, not-suc-le-zero}
-use native.Mathlib.Omega.{arith}
-use lib.ListN.{length, get_or, set, get_or-eq_default}
-use Rattle.model.specs.Action.{tabulate}
+use Rattle.model.proofs.Words.{◌≡◌, refl, ap, [], ◌∷◌, ◌++◌, ℕ, zero, suc, ◌≤◌, ◌<◌, le_of_suc-le-suc, not-suc-le-zero, arith, length, get_or, set, get_or-eq_default, tabulate}
 
 pub length-tabulate : {X : Type 0} (n : ℕ) (f : ℕ → X) → length (tabulate n f) ≡ n
 length-tabulate zero f = refl
@@ -18,8 +12,7 @@ get_d_tabulate (suc n) f (suc i) d h = get_d_tabulate n (λ j. f (suc j)) i d (l
 
 pub tabulate-below : {X : Type 0} (n : ℕ) (f g : ℕ → X) → ((i : ℕ) → i < n → f i ≡ g i) → tabulate n f ≡ tabulate n g
 tabulate-below zero f g h = refl
-tabulate-below (suc n) f g h =
-    λ i. h zero (omega arith) i ∷ tabulate-below n (λ j. f (suc j)) (λ j. g (suc j)) (λ j l. h (suc j) (omega arith)) i
+tabulate-below (suc n) f g h = grind (arith, (tabulate-below n (λ j. f (suc j)) (λ j. g (suc j))))
 
 -- with one value changed
 pub set-tabulate :
@@ -27,14 +20,11 @@ pub set-tabulate :
     set (tabulate n f) k (g k) ≡ tabulate n g
 set-tabulate zero f g k h e = absurd (not-suc-le-zero h)
 set-tabulate (suc n) f g zero h e = ap (λ l. g zero ∷ l) (tabulate-below n _ _ λ i l. e (suc i) (omega arith) (λ p. omega arith))
-set-tabulate (suc n) f g (suc k) h e =
-    λ j.
-    e zero (omega arith) (λ p. omega arith) j ∷
-    set-tabulate n (λ i. f (suc i)) (λ i. g (suc i)) k (omega arith) (λ i l d. e (suc i) (omega arith) (λ p. d (omega arith))) j
+set-tabulate (suc n) f g (suc k) h e = grind (arith, (set-tabulate n (λ i. f (suc i)) (λ i. g (suc i)) k))
 
 -- past the end
 pub getD-tabulate-past : {X : Type 0} (n : ℕ) (f : ℕ → X) (i : ℕ) (d : X) → n ≤ i → get_or (tabulate n f) i d ≡ d
-getD-tabulate-past n f i d h = get_or-eq_default (tabulate n f) d (rw (length-tabulate n f) h)
+getD-tabulate-past n f i d h = grind (arith, length-tabulate, get_or-eq_default)
 
 -- one more value
 pub tabulate-last : {X : Type 0} (n : ℕ) (f : ℕ → X) → tabulate (suc n) f ≡ tabulate n f ++ (f n ∷ [])

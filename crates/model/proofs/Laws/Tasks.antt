@@ -1,54 +1,26 @@
 -- A task that was read is within the limits of its version, and the operations on it. Assumes nothing.
-use mathlib.Core.Path.{◌≡◌, refl, sym, ◌∙◌, subst}
-use mathlib.Core.Bool.{Bool, true, false, ◌&&◌, false≢true}
-use mathlib.Core.Logic.{◌⊎◌, inl, inr}
-use mathlib.Core.List.{List}
-use Prim.Native.Nat.{ℕ, ◌+◌, ◌-◌, ◌%◌, ◌^◌, ◌≤◌}
-use native.Mathlib.Omega.{arith}
-use lib.ListN.{length, take}
-use lib.Dec.{eqb, ltb, leb}
-use borrow.Author.Tests.{lt-ltb, ltb-true, leb-true, eq-eqb, eqb-true}
-use Rattle.model.specs.declared.Limits.{Limits}
-use Rattle.model.specs.Limits.{max_steps}
+use Rattle.model.proofs.Words.{◌≡◌, subst, true, false, ◌⊎◌, inl, inr, List, ℕ, ◌≤◌, arith, take, Limits, Answer, refused, answered, Task, run_of, IsState, judged, look_at, follow, cover_end, ◌>>=◌, ◌>>◌, done, Problem, ending, parts, body, problem, problem_of, plan, list_of, is_state_number, task_of, read_task, run_state, line_count, judge, lines_for, list_for, follow_list, cover_after}
 use Rattle.model.specs.Answer as Answer
-use Rattle.model.specs.Answer.{Answer, refused, answered}
-use Rattle.model.specs.Case.{Task, run_of, IsState}
-use Rattle.model.specs.Walk.{judged, look_at}
-use Rattle.model.specs.CaseList.{follow}
-use Rattle.model.specs.Cover.{cover_end}
-use Rattle.model.specs.Read.{◌>>=◌, ◌>>◌, done, head_bytes, header}
-use Rattle.model.specs.ProblemBytes.{Problem, ending, parts, body, problem, problem_of, plan, plan_of}
-use Rattle.model.specs.ListBytes.{list_of}
-use Rattle.model.specs.Operations.{is_state_number, task_of, read_task, run_state, line_count, judge, lines_for, list_for, follow_list, cover_after}
-use Rattle.model.proofs.Laws.Reading.{then-got, needed, got-inj, answer-got, count_gives}
+use Rattle.model.proofs.Laws.Reading.{then-got, got-inj, answer-got, count_gives}
 
 -- what comes after an answer
 pub answer-then :
     {A B C : Type 0} {x : Answer A} {k : A → Answer B} {b : B} → Answer.◌>>=◌ x k ≡ answered b →
     ((a : A) → x ≡ answered a → k a ≡ answered b → C) → C
 unfolding Answer.◌>>=◌
-answer-then {x = refused n q} h f = let z : ◌≡◌ {A = ℕ} 0 1 = cc in absurd (omega arith)
-answer-then {x = answered a} h f = f a refl h
+answer-then h f = grind arith
 
 -- what a refusal is of
 pub refusal-of :
     {A B : Type 0} {k : A → Answer B} {n q : ℕ} (x : Answer A) → Answer.◌>>=◌ x k ≡ refused n q →
     (x ≡ refused n q) ⊎ ((a : A) × (x ≡ answered a) × (k a ≡ refused n q))
 unfolding Answer.◌>>=◌
-refusal-of (refused m p) h = inl (cc)
-refusal-of (answered a) h = inr (a, refl, h)
+refusal-of x h = grind arith
 
 -- the test of a state's number tells
 pub state-tested : (T : Task) (s : ℕ) → (IsState T s × (is_state_number T s ≡ true)) ⊎ ((IsState T s → ⊥) × (is_state_number T s ≡ false))
 unfolding is_state_number
-state-tested T s = by_tests (ltb s (2 ^ T.width)) (eqb (s % 2 ^ (T.width - T.facts)) 0) refl refl
-  where
-    by_tests :
-        (b c : Bool) → ltb s (2 ^ T.width) ≡ b → eqb (s % 2 ^ (T.width - T.facts)) 0 ≡ c →
-        (IsState T s × ((b && c) ≡ true)) ⊎ ((IsState T s → ⊥) × ((b && c) ≡ false))
-    by_tests true true p q = inl (record { in_width = ltb-true _ _ p; no_bits = eqb-true _ _ q }, refl)
-    by_tests true false p q = inr ((λ h. false≢true (sym q ∙ eq-eqb _ _ h.no_bits)), refl)
-    by_tests false c p q = inr ((λ h. false≢true (sym p ∙ lt-ltb _ _ h.in_width)), refl)
+state-tested T s = grind arith
 
 module _ (F : Limits) where
   -- the bounds that the guarantees need
@@ -72,21 +44,8 @@ module _ (F : Limits) where
       subst (λ (x : Problem). x.facts ≤ F.facts) (got-inj g₇).0 l
 
   pub task-fits : (problem plan : List ℕ) (T : Task) → read_task F problem plan ≡ answered T → Fits T
-  unfolding read_task task_of
-  task-fits problem plan T h =
-      answer-then h λ p e h₁.
-      answer-then h₁ λ steps _ h₂.
-      let t : task_of F p steps ≡ T = cc in
-      subst Fits t (record { facts = problem-fits problem p e; width = refl })
-
-  -- "30 over 261 bytes": a plan that was read is no longer
-  pub plan-short : (problem' plan' : List ℕ) (T : Task) → read_task F problem' plan' ≡ answered T → length plan' ≤ head_bytes + max_steps
-  unfolding read_task plan_of plan header ◌>>◌
-  plan-short problem' plan' T h =
-      answer-then h λ p _ h₁.
-      answer-then h₁ λ steps e _.
-      then-got (answer-got _ e).1 λ _ _ g _.
-      needed (leb (length plan') (head_bytes + max_steps)) _ _ _ _ g λ t _. leb-true _ _ t
+  unfolding read_task task_of Answer.◌>>=◌
+  task-fits problem plan T h = grind (arith, problem-fits)
 
   -- the operations on a task that was read
   module _ (problem plan : List ℕ) (T : Task) (given : read_task F problem plan ≡ answered T) where

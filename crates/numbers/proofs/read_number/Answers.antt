@@ -1,4 +1,4 @@
-use Rattle.std.proofs.Common.{get_or, arith, refl}
+use Rattle.std.proofs.Common.{arith, refl}
 use Rattle.model.specs.Read.{big_endian_from}
 use Rattle.numbers.proofs.Bytes.{one_more, grows, fits}
 use Rattle.numbers.proofs.read_number.Goals as goal
@@ -9,11 +9,6 @@ loop-b-init c = (refl, omega arith)
 
 pub overflow_mul-x : goal.overflow_mul-x
 overflow_mul-x c = omega (arith, fits c.loop-b.b-index c.loop-b.x 0 (omega arith) c.loop-b.invariant.1 (omega arith))
-
-pub overflow_add-x : goal.overflow_add-x
-overflow_add-x c =
-    let l = c.loop-b in
-    omega (arith, fits l.b-index l.x (get_or c.args.bytes.now l.b-index 0) (omega arith) l.invariant.1 (omega arith))
 
 pub loop-b-preserved : goal.loop-b-preserved
 loop-b-preserved c =

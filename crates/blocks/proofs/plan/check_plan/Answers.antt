@@ -1,7 +1,5 @@
 use Rattle.std.proofs.Common.{◌≡◌, ◌+◌, sym}
-use Rattle.model.specs.Limits.{max_steps}
-use Rattle.model.specs.Read.{head_bytes, of_version, header, ◌>>◌, and_then}
-use Rattle.model.specs.ProblemBytes.{plan}
+use Rattle.model.specs.{Limits.max_steps, Read.head_bytes, Read.of_version, Read.header, Read.◌>>◌, Read.and_then, ProblemBytes.plan}
 use Rattle.formula.specs.Readings.{forgotten}
 use Rattle.fields.proofs.Readers.{header-got}
 use Rattle.formula.proofs.Readers.{returned}
@@ -11,12 +9,10 @@ pub returns-in_err-at : goal.returns-in_err-at
 unfolding plan ◌>>◌ and_then forgotten
 returns-in_err-at c =
     let head : _ ≡ header c.args.s.now 30 (head_bytes + max_steps) (of_version c.args.s.now 1 32) 0 = c.in_err-at.ensures in
-    rw (returned c.from_residual.result c.from_residual.ensures.1) (rw (← head))
+    rw (returned c.from_residual.result c.from_residual.ensures.1, ← head)
 
 pub check_steps-requires : goal.check_steps-requires
-check_steps-requires c =
-    let h = header-got _ _ _ _ _ _ (sym c.in_ok-at.ensures) in
-    rw h.1 h.0
+check_steps-requires c = let h = header-got _ _ _ _ _ _ (sym c.in_ok-at.ensures) in rw h.1 h.0
 
 pub returns : goal.returns
 unfolding plan ◌>>◌ and_then

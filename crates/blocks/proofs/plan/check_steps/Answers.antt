@@ -1,6 +1,5 @@
 use Rattle.std.proofs.Common.{◌≡◌, ◌<◌, ◌≤◌, suc, ◌+◌, ◌-◌, length, get_or, sym, ◌∙◌, arith, lt-ltb, le-ltb}
-use Rattle.model.specs.Read.{◌>>=◌, ◌>>◌, and_then, position, require, done, counted}
-use Rattle.model.specs.ProblemBytes.{steps}
+use Rattle.model.specs.{Read.◌>>=◌, Read.◌>>◌, Read.and_then, Read.position, Read.require, Read.done, Read.counted, ProblemBytes.steps}
 use Rattle.formula.specs.Readings.{forgotten}
 use Rattle.formula.proofs.Readers.{then_next}
 use Rattle.blocks.proofs.plan.check_steps.Goals as goal
@@ -8,8 +7,7 @@ use Rattle.blocks.proofs.plan.check_steps.Goals as goal
 pub returns-then-actions-s : goal.returns-then-actions-s
 unfolding steps ◌>>=◌ ◌>>◌ and_then position counted require forgotten
 returns-then-actions-s c =
-    let left = length c.args.s.now - c.loop-place.place in
-    let e : left ≡ suc (left - 1) = omega arith in
+    let e : length c.args.s.now - c.loop-place.place ≡ suc (length c.args.s.now - c.loop-place.place - 1) = omega arith in
     let over : c.args.actions ≤ get_or c.args.s.now c.loop-place.place 0 = omega arith in
     rw (c.at_byte.ensures, c.loop-place.invariant, e, le-ltb _ _ over)
 

@@ -1,4 +1,4 @@
-use borrow.Author.Tests.{eqb-true}
+use Rattle.std.proofs.Common.{eqb-true}
 use Rattle.cases.proofs.Lanes.{no-word, yes-word}
 use Rattle.cases.proofs.evaluator.is_decided.Goals as goal
 

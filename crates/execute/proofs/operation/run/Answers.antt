@@ -1,7 +1,6 @@
 use Rattle.std.proofs.lemmas.Result.{err_from_is_err_and}
 use Rattle.blocks.proofs.Tasks.{read_task-refused, read_task-from}
-use Rattle.execute.proofs.Promise.{run-promised}
-use Rattle.execute.proofs.Starting.{run-refused, run-found}
+use Rattle.execute.proofs.{Promise.run-promised, Starting.run-refused, Starting.run-found}
 use Rattle.execute.proofs.operation.run.Goals as goal
 
 pub returns-in_err-problem : goal.returns-in_err-problem

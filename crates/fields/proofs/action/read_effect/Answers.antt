@@ -1,6 +1,6 @@
 -- each answer is a case of the definition
-use Rattle.std.proofs.Common.{sym, ◌∙◌}
-use borrow.Author.Tests.{lt-ltb, le-ltb, lt-leb}
+use Rattle.std.proofs.Common.{sym, ◌∙◌, lt-ltb, le-ltb}
+use borrow.Author.Tests.{lt-leb}
 use Rattle.model.specs.Read.{and_then, position, byte, require, ◌>>=◌, ◌>>◌}
 use Rattle.model.specs.ProblemBytes.{effect}
 use Rattle.fields.proofs.Readers.{effect-formula}

@@ -1,5 +1,5 @@
 -- the tests are those of the definition, in its order
-use borrow.Author.Tests.{le-leb, eq-eqb, ne_eqb}
+use Rattle.std.proofs.Common.{le-leb, eq-eqb, ne_eqb}
 use Rattle.model.specs.Read.{of_version, header, ◌>>◌, and_then, require}
 use Rattle.fields.specs.Headers.{length_read}
 use Rattle.fields.proofs.header.check_header.Goals as goal

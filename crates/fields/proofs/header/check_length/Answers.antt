@@ -1,6 +1,5 @@
 -- the test is the definition's
-use Rattle.std.proofs.Common.{sym, ◌∙◌}
-use borrow.Author.Tests.{eq-eqb, ne_eqb}
+use Rattle.std.proofs.Common.{sym, ◌∙◌, eq-eqb, ne_eqb}
 use Rattle.model.specs.Read.{and_then, require}
 use Rattle.fields.specs.Headers.{length_read}
 use Rattle.fields.proofs.header.check_length.Goals as goal

@@ -1,6 +1,5 @@
 -- the tests are those of the definition, in its order
-use Rattle.std.proofs.Common.{sym, ◌∙◌}
-use borrow.Author.Tests.{le-leb, eq-eqb, ne_eqb}
+use Rattle.std.proofs.Common.{sym, ◌∙◌, le-leb, eq-eqb, ne_eqb}
 use Rattle.model.specs.Read.{of_version, header, ◌>>◌, and_then, require}
 use Rattle.model.specs.ListBytes.{of_the_problem}
 use Rattle.fields.specs.Headers.{length_read}

@@ -1,6 +1,6 @@
 -- each refusal is a case of the definition
-use Rattle.std.proofs.Common.{add-zero}
-use borrow.Author.Tests.{lt-leb, le-leb}
+use Rattle.std.proofs.Common.{add-zero, le-leb}
+use borrow.Author.Tests.{lt-leb}
 use Rattle.model.specs.Read.{header, ◌>>◌, and_then, require}
 use Rattle.fields.proofs.header.check_room.Goals as goal
 

@@ -1,5 +1,6 @@
 -- each answer is a case of the definition
-use borrow.Author.Tests.{lt-ltb, le-ltb, lt-leb, le-leb}
+use Rattle.std.proofs.Common.{lt-ltb, le-ltb, le-leb}
+use borrow.Author.Tests.{lt-leb}
 use Rattle.model.specs.Read.{count, ◌>>=◌, ◌>>◌, position, byte, and_then, require, done}
 use Rattle.fields.proofs.header.count_at.Goals as goal
 use Rattle.fields.proofs.header.count_at.Goals.{then-n-low-via-then-n-low, then-n-low-via-else-n-low+then-high-n}

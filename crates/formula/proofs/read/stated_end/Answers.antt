@@ -1,5 +1,5 @@
 -- each return is a case of `stated`
-use Rattle.std.proofs.Common.{◌≡◌, ◌+◌, ◌-◌, arith}
+use Rattle.std.proofs.Common.{arith}
 use Rattle.formula.proofs.Lengths.{stated-refuses, stated-none, stated-length, stated-short, stated-whole}
 use Rattle.formula.proofs.read.stated_end.Goals as goal
 
@@ -8,20 +8,11 @@ returns-then-len-at c = stated-refuses _ _ c.at_byte.ensures (stated-none _ _ (o
 
 pub returns-then-n-eq0 : goal.returns-then-n-eq0
 returns-then-n-eq0 c =
-    let two : c.args.at + 2 - c.args.at ≡ 2 = omega arith in
-    stated-refuses _ _ c.at_byte-then-n-eq0.ensures
-    (stated-length _ _ (omega arith) _ (rw two at c.read_number-n.ensures.value) (λ l m. omega (arith, c.then-n-eq0.either)))
+    stated-refuses _ _ c.at_byte-then-n-eq0.ensures (stated-length _ _ (omega arith) (λ l m. omega (arith, c.then-n-eq0.either)))
 
 pub returns-then-len-begin : goal.returns-then-len-begin
 returns-then-len-begin c =
-    let two : c.args.at + 2 - c.args.at ≡ 2 = omega arith in
-    stated-refuses _ _ c.at_byte-then-len-begin.ensures
-    (stated-short _ _ (omega arith) _ (rw two at c.read_number-n.ensures.value) (omega arith) (omega arith) (omega arith))
+    stated-refuses _ _ c.at_byte-then-len-begin.ensures (stated-short _ _ (omega arith) (omega arith) (omega arith) (omega arith))
 
 pub returns : goal.returns
-returns c = record {
-  is =
-      let two : c.args.at + 2 - c.args.at ≡ 2 = omega arith in
-      stated-whole _ _ (omega arith) _ (rw two at c.read_number-n.ensures.value) (omega arith) (omega arith) (omega arith);
-  within = (omega arith, omega arith);
-}
+returns c = record { is = stated-whole _ _ (omega arith) (omega arith) (omega arith) (omega arith); within = (omega arith, omega arith) }

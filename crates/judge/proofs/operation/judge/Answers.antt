@@ -3,8 +3,7 @@ use Rattle.std.proofs.lemmas.Result.{err_from_is_err_and}
 use Rattle.model.specs.Answer.{answered}
 use Rattle.model.proofs.Laws.Tasks.{judge-is}
 use Rattle.blocks.proofs.Tasks.{read_task-refused, read_task-from}
-use Rattle.judge.proofs.Promise.{judge-promised}
-use Rattle.judge.proofs.Verdicts.{judge-refused}
+use Rattle.judge.proofs.{Promise.judge-promised, Verdicts.judge-refused}
 use Rattle.judge.proofs.operation.judge.Goals as goal
 
 pub returns-in_err-found : goal.returns-in_err-found

@@ -6,10 +6,4 @@ use Rattle.judge.proofs.operation.outcome_of.Goals as goal
 pub unreachable-requires : goal.unreachable-requires
 unreachable-requires c =
     let h = sym (ap run_answer c.in-Err.is) ∙ c.run_task.ensures ∙ state-run _ _ c.requires in
-    let z : ◌≡◌ {A = ℕ} 0 1 = cc in
-    omega arith
-
-pub returns : goal.returns
-returns c =
-    let h = sym (ap run_answer c.in-Ok.is) ∙ c.run_task.ensures ∙ state-run _ _ c.requires in
     cc

@@ -1,10 +1,10 @@
-use Rattle.std.proofs.Common.{◌≡◌, sym, ap, ◌∙◌, ℕ, List, ◌+◌, ◌*◌, ◌≤◌, suc, length, take, arith}
-use lib.ListN.{length-take}
+use Rattle.std.proofs.Common.{◌≡◌, sym, ap, ◌∙◌, ℕ, List, ◌+◌, ◌*◌, ◌≤◌, suc, length, take, arith, length-take}
 use Rattle.std.proofs.lemmas.Result.{err_from_is_err_and}
 use Rattle.blocks.specs.Values.{task}
 use Rattle.blocks.proofs.Promise.{of-slice}
-use Rattle.blocks.proofs.Tasks.{read_task-refused, read_task-from, facts-fit}
+use Rattle.blocks.proofs.Tasks.{read_task-refused, read_task-from, facts-fit, plan-length}
 use Rattle.blocks.specs.declared.problem.Problem as problems
+use Rattle.model.specs.Limits.{max_steps}
 use Rattle.model.specs.Relevance.{work_bytes}
 use Rattle.relevance.proofs.Answers.{relevant-refused, relevant-no-state, relevant-unrun, relevant-short, relevant-found, traces-task, need-is, need-small, has-rows}
 use Rattle.relevance.proofs.Promise.{relevant-promised}
@@ -41,16 +41,20 @@ returns-in_err-check_run c =
     let t = c.in_ok-task.task in
     let k = c.in_ok-task.ensures.problem in
     let e = read_task-from _ _ c.args.plan.now c.in_ok-found.ensures.read c.in_ok-found.ensures.limits c.in_ok-task.ensures.read in
-    let l = relevant-unrun c.args.problem.now c.args.plan.now (task t) e c.args.state c.args.work.now _ c.in_ok-cases.ensures.state _ c.in_err-check_run.ensures.checks in
+    let l = relevant-unrun c.args.problem.now c.args.plan.now (task t) e c.args.state c.args.work.now (facts-fit t) _ c.in_ok-cases.ensures.state _ c.in_err-check_run.ensures.checks in
     rw (p.1, p.2) (record { answer = l.0; buffer = l.1; promised = relevant-promised c.args.problem.now c.args.plan.now c.args.state c.args.work.now l })
 
--- the rows of the run fit apart
-small : (c : In_ok-cases) → (length c.in_ok-task.task.steps.now + 1) * c.in_ok-found.found.facts ≤ 16448
-small c =
-    let t = c.in_ok-task.task in
+-- the rows of the run fit apart, and so do the marks of its steps
+short : (c : In_ok-cases) → length (task c.in_ok-task.task).plan ≤ max_steps
+short c =
     let e = read_task-from _ _ c.args.plan.now c.in_ok-found.ensures.read c.in_ok-found.ensures.limits c.in_ok-task.ensures.read in
-    let w = read-within c.args.problem.now c.args.plan.now (of-slice c.args.problem.now c.type_inv.problem) (of-slice c.args.plan.now c.type_inv.plan) _ e in
-    need-small t _ c.in_ok-task.ensures.problem w.1
+    (read-within c.args.problem.now c.args.plan.now (of-slice c.args.problem.now c.type_inv.problem) (of-slice c.args.plan.now c.type_inv.plan) _ e).1
+
+small : (c : In_ok-cases) → (length c.in_ok-task.task.steps.now + 1) * c.in_ok-found.found.facts ≤ 16448
+small c = need-small c.in_ok-task.task _ c.in_ok-task.ensures.problem (short c)
+
+few-steps : (c : In_ok-cases) → length c.in_ok-task.task.steps.now ≤ 256
+few-steps c = omega (arith, short c, plan-length c.in_ok-task.task)
 
 pub overflow_mul-need : goal.overflow_mul-need
 overflow_mul-need c = omega (arith, small (goal.at.overflow_mul-need c).In_ok-cases)
@@ -65,7 +69,7 @@ returns-in_err-check_room c =
     let k = c.in_ok-task.ensures.problem in
     let e = read_task-from _ _ c.args.plan.now c.in_ok-found.ensures.read c.in_ok-found.ensures.limits c.in_ok-task.ensures.read in
     let l =
-    relevant-short c.args.problem.now c.args.plan.now (task t) e c.args.state c.args.work.now _ c.in_ok-cases.ensures.state _ c.in_ok-check_run.ensures.checks _
+    relevant-short c.args.problem.now c.args.plan.now (task t) e c.args.state c.args.work.now (facts-fit t) _ c.in_ok-cases.ensures.state _ c.in_ok-check_run.ensures.checks _
     (need-is t _ k) _ c.in_err-check_room.ensures
     in
     rw (p.1, p.2) (record { answer = l.0; buffer = l.1; promised = relevant-promised c.args.problem.now c.args.plan.now c.args.state c.args.work.now l })
@@ -101,10 +105,11 @@ copy_from_slice-requires c =
     let room = has-rows t _ c.in_ok-task.ensures.problem _ c.in_ok-check_room.ensures in
     omega (arith, length-take need c.args.work.now, rw k at room) ∙ sym (part (goal.at.copy_from_slice-requires c).In_ok-cases _ c.check_run.auto.rows)
 
-pub trace_rows-requires-clause-room : goal.trace_rows-requires-clause-room
-trace_rows-requires-clause-room c =
-    let l = fits (goal.at.trace_rows-requires-clause-room c).In_ok-cases in
-    rw (c.check_run.ensures.facts) (omega (arith, c.check_run.auto.rows, l))
+pub check_run-requires-clause-marks : goal.check_run-requires-clause-marks
+check_run-requires-clause-marks c = few-steps (goal.at.check_run-requires-clause-marks c).In_ok-cases
+
+pub trace_marks-requires : goal.trace_marks-requires
+trace_marks-requires c = omega (arith, c.check_run.auto.marks, few-steps (goal.at.trace_marks-requires c).In_ok-cases)
 
 pub returns : goal.returns
 returns c =
@@ -114,8 +119,9 @@ returns c =
     let w = read-within c.args.problem.now c.args.plan.now (of-slice c.args.problem.now c.type_inv.problem) (of-slice c.args.plan.now c.type_inv.plan) _ e in
     let room : work_bytes (task t) ≤ 16448 = rw (← need-is t _ k) (small (goal.at.returns c).In_ok-cases) in
     let l =
-    relevant-found c.args.problem.now c.args.plan.now (task t) e c.args.state c.args.work.now _ c.in_ok-cases.ensures.state _ c.in_ok-check_run.ensures.checks _
+    relevant-found c.args.problem.now c.args.plan.now (task t) e c.args.state c.args.work.now (facts-fit t) _ c.in_ok-cases.ensures.state _ c.in_ok-check_run.ensures.checks _
     (need-is t _ k) _ c.in_ok-check_room.ensures _ _
-    (traces-task (task t) (facts-fit t) w.0 c.in_ok-cases.cases c.check_run.new.cases _ c.check_run.new.rows room c.check_run.ensures.puts _ c.trace_rows.ensures _ _ _ (need-is t _ k) c.copy_from_slice.ensures.after)
+    (traces-task (task t) (facts-fit t) w.0 c.in_ok-cases.cases _ c.check_run.new.rows c.check_run.new.marks room c.check_run.ensures.puts _ c.trace_marks.ensures _ _ _
+    (need-is t _ k) c.copy_from_slice.ensures.after)
     in
     record { answer = l.0; buffer = l.1; promised = relevant-promised c.args.problem.now c.args.plan.now c.args.state c.args.work.now l }

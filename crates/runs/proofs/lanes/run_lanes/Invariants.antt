@@ -6,4 +6,4 @@ use Rattle.runs.specs.Looks.{Running}
 use Rattle.runs.proofs.lanes.run_lanes.Given as goal
 
 abbrev pub invariant-loop-i : goal.invariant-loop-i
-invariant-loop-i l = (l.current.facts ≡ (task l.task).facts) × Running (task l.task) l.lanes (case_of l.cases) l.i l.alive (case_of l.current)
+invariant-loop-i l = (l.cases.facts ≡ (task l.task).facts) × Running (task l.task) l.lanes (case_of l.fn.cases) l.i l.alive (case_of l.cases)

@@ -1,10 +1,9 @@
 use Rattle.std.proofs.Common.{◌∙◌, refl}
-use Rattle.runs.proofs.Running.{some-lanes}
 use Rattle.search.proofs.Whole.{comes-to}
 use Rattle.search.proofs.operation.search_problem.Goals as goal
 
 pub invariant_of-root : goal.invariant_of-root
-invariant_of-root c = record { facts = c.of.ensures ∙ c.first_case-cases.ensures.facts; not_empty = some-lanes _ _ c.evaluate.result c.evaluate.ensures }
+invariant_of-root c = record { facts = c.first_lanes-lanes.ensures.facts; first = c.first_lanes-lanes.ensures.lanes; not_empty = c.start_lanes.ensures }
 
 pub returns-in-Ok : goal.returns-in-Ok
 returns-in-Ok c = comes-to _ _ _ _ c.in-Ok.ensures _ refl

@@ -1,13 +1,10 @@
 use Rattle.std.proofs.Common.{◌∙◌, sym, ap, arith}
 use Rattle.model.specs.Kleene.{is_yes}
-use Rattle.step.proofs.Members.{meeting-begins, meeting-next, meeting-false, meeting-ends, some-left, count-first}
+use Rattle.step.proofs.Members.{meeting-begins, meeting-next, meeting-false, meeting-ends, count-first}
 use Rattle.step.proofs.part.first_false.Goals as goal
 
 pub loop-i-init : goal.loop-i-init
 loop-i-init c = meeting-begins _ _ _ c.args.members.few
-
-pub evaluate_first-member-requires : goal.evaluate_first-member-requires
-evaluate_first-member-requires c = some-left _ _ _ _ _ c.loop-i.invariant c.loop-i-test.true
 
 pub loop-i-preserved : goal.loop-i-preserved
 loop-i-preserved c =

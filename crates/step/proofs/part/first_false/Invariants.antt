@@ -1,6 +1,5 @@
 -- after i members, which all hold, the others are left
-use Rattle.model.specs.Kleene.{three}
-use Rattle.model.specs.Run.{holds_in}
+use Rattle.model.specs.{Kleene.three, Run.holds_in}
 use Rattle.formula.specs.Views.{formulas}
 use Rattle.cases.specs.Cases.{case_of}
 use Rattle.step.proofs.Members.{Meeting}

@@ -1,12 +1,17 @@
 use Rattle.std.proofs.Common.{◌∙◌}
-use Rattle.step.proofs.Members.{unmet-all, unmet-any, unmet-literal}
+use Rattle.model.specs.Run.{unmet}
+use Rattle.step.proofs.Members.{alone, unmet-all}
 use Rattle.step.proofs.part.unmet_member.Goals as goal
 
 pub returns-in-All : goal.returns-in-All
-returns-in-All c = λ no. c.unwrap_or.ensures ∙ unmet-all _ _ _ c.alone.ensures _ _ (rw c.in-All.is at c.in-Group.ensures) _ c.first_false.ensures no
+returns-in-All c = λ no.
+    let all = alone c.alone.ensures (rw c.in-All.is at c.in-Group.ensures) in
+    c.unwrap_or.ensures ∙ rw all (unmet-all _ _ _ c.first_false.ensures (rw all at no))
 
 pub returns-in-Any : goal.returns-in-Any
-returns-in-Any c = λ h. unmet-any _ _ _ c.alone.ensures _ _ (rw c.in-Any.is at c.in-Group.ensures)
+unfolding unmet
+returns-in-Any c = λ no. rw (alone c.alone.ensures (rw c.in-Any.is at c.in-Group.ensures))
 
 pub returns-in-Literal : goal.returns-in-Literal
-returns-in-Literal c = λ h. unmet-literal _ _ _ c.alone.ensures _ _ c.in-Literal.ensures
+unfolding unmet
+returns-in-Literal c = λ no. rw (alone c.alone.ensures c.in-Literal.ensures)

@@ -1,6 +1,5 @@
-use Rattle.std.proofs.Common.{◌≡◌, ◌+◌, refl, arith}
-use Rattle.model.specs.FormulaBytes.{formula}
-use Rattle.model.specs.Read.{count, ◌>>=◌, ◌>>◌, and_then, answer_of}
+use Rattle.std.proofs.Common.{add_assoc, ◌≡◌, refl}
+use Rattle.model.specs.{FormulaBytes.formula, Read.count, Read.◌>>=◌, Read.◌>>◌, Read.and_then, Read.answer_of}
 use Rattle.model.specs.ProblemBytes.{problem, problem_of, body, parts}
 use Rattle.blocks.specs.Actions.{last_actions}
 use Rattle.blocks.proofs.Problems.{ending-by}
@@ -10,7 +9,7 @@ use Rattle.blocks.proofs.problem.Problem.read_with.Goals as goal
 pub returns-in_err-body-clause-read : goal.returns-in_err-body-clause-read
 unfolding problem_of problem answer_of ◌>>◌ and_then
 returns-in_err-body-clause-read c =
-    rw (returned c.from_residual.result c.from_residual.ensures.1) (rw (← c.in_err-body.ensures) refl)
+    rw (returned c.from_residual.result c.from_residual.ensures.1, ← c.in_err-body.ensures)
 
 pub returns-in_err-facts-clause-read : goal.returns-in_err-facts-clause-read
 unfolding problem_of problem body answer_of ◌>>◌ ◌>>=◌ and_then
@@ -26,26 +25,22 @@ returns-in_err-actions-clause-read c =
 pub returns-in_err-initial-clause-read : goal.returns-in_err-initial-clause-read
 unfolding problem_of problem body parts answer_of ◌>>◌ ◌>>=◌ and_then
 returns-in_err-initial-clause-read c =
-    let e : (c.in_ok-body.body + 1) + 1 ≡ c.in_ok-body.body + 2 = omega arith in
-    rw (returned c.from_residual-in_err-initial.result c.from_residual-in_err-initial.ensures.1) (rw (← c.in_ok-body.ensures, ← c.in_ok-facts.ensures.is, ← c.in_ok-actions.ensures.is, e, ← c.in_err-initial.ensures) refl)
+    rw (returned c.from_residual-in_err-initial.result c.from_residual-in_err-initial.ensures.1) (rw (← c.in_ok-body.ensures, ← c.in_ok-facts.ensures.is, ← c.in_ok-actions.ensures.is, add_assoc c.in_ok-body.body 1 1, ← c.in_err-initial.ensures) refl)
 
 pub returns-in_err-goal-clause-read : goal.returns-in_err-goal-clause-read
 unfolding problem_of problem body parts answer_of ◌>>◌ ◌>>=◌ and_then
 returns-in_err-goal-clause-read c =
-    let e : (c.in_ok-body.body + 1) + 1 ≡ c.in_ok-body.body + 2 = omega arith in
     let goal : _ ≡ formula c.args.block.now c.in_ok-facts.facts c.in_ok-initial.initial.next = c.in_err-goal.ensures in
-    rw (returned c.from_residual-in_err-goal.result c.from_residual-in_err-goal.ensures.1) (rw (← c.in_ok-body.ensures, ← c.in_ok-facts.ensures.is, ← c.in_ok-actions.ensures.is, e, ← c.in_ok-initial.ensures, ← goal) refl)
+    rw (returned c.from_residual-in_err-goal.result c.from_residual-in_err-goal.ensures.1) (rw (← c.in_ok-body.ensures, ← c.in_ok-facts.ensures.is, ← c.in_ok-actions.ensures.is, add_assoc c.in_ok-body.body 1 1, ← c.in_ok-initial.ensures, ← goal) refl)
 
 pub returns-in_err-at-clause-read : goal.returns-in_err-at-clause-read
 unfolding problem_of problem body parts answer_of ◌>>◌ ◌>>=◌ and_then
 returns-in_err-at-clause-read c =
-    let e : (c.in_ok-body.body + 1) + 1 ≡ c.in_ok-body.body + 2 = omega arith in
     let last : _ ≡ answer_of (last_actions c.args.limits c.args.block.now c.in_ok-facts.facts c.in_ok-actions.actions c.in_ok-goal.goal.next) = c.in_err-at.ensures.read in
     rw (returned c.from_residual-in_err-at.result c.from_residual-in_err-at.ensures.1)
-    (rw (← c.in_ok-body.ensures, ← c.in_ok-facts.ensures.is, ← c.in_ok-actions.ensures.is, e, ← c.in_ok-initial.ensures, ← c.in_ok-goal.ensures, ending-by, ← last) refl)
+    (rw (← c.in_ok-body.ensures, ← c.in_ok-facts.ensures.is, ← c.in_ok-actions.ensures.is, add_assoc c.in_ok-body.body 1 1, ← c.in_ok-initial.ensures, ← c.in_ok-goal.ensures, ending-by, ← last) refl)
 
 pub returns-clause-read : goal.returns-clause-read
 unfolding problem_of problem body parts answer_of ◌>>◌ ◌>>=◌ and_then
 returns-clause-read c =
-    let e : (c.in_ok-body.body + 1) + 1 ≡ c.in_ok-body.body + 2 = omega arith in
-    rw (← c.in_ok-body.ensures, ← c.in_ok-facts.ensures.is, ← c.in_ok-actions.ensures.is, e, ← c.in_ok-initial.ensures, ← c.in_ok-goal.ensures, ending-by, ← c.in_ok-at.ensures.read) refl
+    rw (← c.in_ok-body.ensures, ← c.in_ok-facts.ensures.is, ← c.in_ok-actions.ensures.is, add_assoc c.in_ok-body.body 1 1, ← c.in_ok-initial.ensures, ← c.in_ok-goal.ensures, ending-by, ← c.in_ok-at.ensures.read) refl

@@ -7,6 +7,7 @@ pub invariant_of-result : goal.invariant_of-result
 invariant_of-result c =
     record {
       facts = c.first_case.ensures.facts;
+      same = c.empty_state.ensures.facts ∙ sym c.first_case.ensures.facts;
       fixed = omega arith;
       lanes = λ j l. c.first_case.ensures.cases j l ∙ sym (case-first 64 _) ∙ ap (λ (n : ℕ). model.case_of 64 n 0 0) (sym c.first_case.ensures.facts);
     }

@@ -1,5 +1,6 @@
 -- what is left of the stated bytes is refused
-use borrow.Author.Tests.{lt-leb, le-leb}
+use Rattle.std.proofs.Common.{le-leb}
+use borrow.Author.Tests.{lt-leb}
 use Rattle.model.specs.Read.{require}
 use Rattle.formula.specs.Readings.{forgotten}
 use Rattle.formula.proofs.Lengths.{after_refused, after_read}

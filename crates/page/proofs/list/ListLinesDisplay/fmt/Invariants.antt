@@ -1,8 +1,6 @@
 -- the lines so far
 use Rattle.std.specs.Fmt.{HasWritten, IsPlainFormatter}
-use Rattle.model.specs.Read.{head_bytes}
-use Rattle.model.specs.ListBytes.{lines_from}
-use Rattle.model.specs.DeskText.{lines_text}
+use Rattle.model.specs.{Read.head_bytes, ListBytes.lines_from, DeskText.lines_text}
 use Rattle.page.proofs.list.ListLinesDisplay.fmt.Given as goal
 
 abbrev pub invariant-loop-number : goal.invariant-loop-number

@@ -1,6 +1,5 @@
 use Rattle.std.proofs.Common.{rules, ◌∙◌, ◌++◌, ◌∷◌, [], List, ℕ, ap₂, arith}
-use Rattle.std.proofs.Math.ListN.{length-set}
-use Rattle.std.proofs.lemmas.List.{take_more_set}
+use Rattle.std.proofs.{Math.ListN.length-set, lemmas.List.take_more_set}
 use Rattle.model.specs.DeskText.{marks}
 use Rattle.page.proofs.Marking.{marks-more}
 use Rattle.page.proofs.marks.Marks.bytes.Goals as goal

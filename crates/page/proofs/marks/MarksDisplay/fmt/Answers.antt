@@ -1,6 +1,5 @@
 use Rattle.std.proofs.Common.{take, ◌∙◌}
-use Rattle.std.proofs.Output.{has_written_of_eq}
-use Rattle.std.proofs.lemmas.Result.{MatchResult-at_ok}
+use Rattle.std.proofs.{Output.has_written_of_eq, lemmas.Result.MatchResult-at_ok}
 use Rattle.std.specs.Str.{IsUtf8}
 use Rattle.page.proofs.Marking.{marks-text, passes}
 use Rattle.page.proofs.marks.MarksDisplay.fmt.Goals as goal

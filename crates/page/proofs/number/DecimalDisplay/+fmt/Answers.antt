@@ -1,7 +1,5 @@
 use Rattle.std.proofs.Common.{rules, arith, sym, ◌∙◌, ap, ◌++◌, decimal, ◌/◌}
-use Rattle.std.proofs.Output.{has_written_of_eq, has_written_append}
-use Rattle.std.proofs.lemmas.Fmt.{decimal_digit, decimal_step}
-use Rattle.std.proofs.lemmas.Str.{encode_ascii}
+use Rattle.std.proofs.{Output.has_written_of_eq, Output.has_written_append, lemmas.Fmt.decimal_digit, lemmas.Fmt.decimal_step, lemmas.Str.encode_ascii}
 use Rattle.page.proofs.number.DecimalDisplay.+fmt.Goals as goal
 
 pub returns-then-is_digit-clause-writes : goal.returns-then-is_digit-clause-writes

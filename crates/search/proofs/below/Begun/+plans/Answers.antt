@@ -4,21 +4,22 @@ use Rattle.search.proofs.Alike.{tried-none, tried-ended, tried-one, tried-all, l
 use Rattle.formula.proofs.Readers.{returned}
 use Rattle.search.proofs.below.Begun.+plans.Goals as goal
 
-pub try_below-returns-then-more-eq0 : goal.try_below-returns-then-more-eq0
-try_below-returns-then-more-eq0 t c = leaf-tried _ _ _ _ _ c.if-more-eq0.true c.try_plan.ensures
+pub try_below-returns-then-more-eq0-clause-comes : goal.try_below-returns-then-more-eq0-clause-comes
+try_below-returns-then-more-eq0-clause-comes t c = leaf-tried _ _ _ _ _ c.if-more-eq0.true c.try_plan.ensures.comes
 
 pub try_below-loop-step-init : goal.try_below-loop-step-init
-try_below-loop-step-init t c = tried-none _ _ _ _ _ (omega arith)
+try_below-loop-step-init t c = (tried-none _ _ _ _ _ (omega arith), c.requires.stands)
 
-pub try_below-returns-in_err-rest : goal.try_below-returns-in_err-rest
-try_below-returns-in_err-rest t c =
-    rw (returned c.from_residual.result c.from_residual.ensures.1) (tried-ended _ _ _ _ _ _ _ c.loop-step.invariant (omega arith) _ c.in_err-rest.ensures)
+pub try_below-returns-in_err-rest-clause-comes : goal.try_below-returns-in_err-rest-clause-comes
+try_below-returns-in_err-rest-clause-comes t c =
+    rw (returned c.from_residual.result c.from_residual.ensures.1) (tried-ended _ _ _ _ _ _ _ c.loop-step.invariant.0 (omega arith) _ c.in_err-rest.ensures.comes)
 
 pub try_below-loop-step-preserved : goal.try_below-loop-step-preserved
-try_below-loop-step-preserved t c = tried-one _ _ _ _ _ _ _ c.loop-step.invariant (omega arith) _ c.in_ok-rest.ensures
+try_below-loop-step-preserved t c =
+    (tried-one _ _ _ _ _ _ _ c.loop-step.invariant.0 (omega arith) _ c.in_ok-rest.ensures.comes, c.in_ok-rest.ensures.stands)
 
-pub try_below-returns : goal.try_below-returns
-try_below-returns t c = tried-all _ _ _ _ _ _ _ c.loop-step.invariant (omega arith)
+pub try_below-returns-clause-comes : goal.try_below-returns-clause-comes
+try_below-returns-clause-comes t c = tried-all _ _ _ _ _ _ _ c.loop-step.invariant.0 (omega arith)
 
 -- ---- try_obeyed
 

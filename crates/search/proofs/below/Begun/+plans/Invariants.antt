@@ -1,4 +1,5 @@
 use Rattle.std.proofs.Common.{◌+◌, ◌-◌, ◌*◌}
+use Rattle.walk.specs.Tables.{AtFirst}
 use Rattle.search.proofs.Alike.{Tried}
 use Rattle.search.proofs.below.Begun.+plans.Given as goal
 
@@ -13,4 +14,5 @@ decreases-try_obeyed l = 3 * l.more + 1
 
 -- the plans with a lower step next are tried
 abbrev pub invariant-try_below-loop-step : goal.invariant-try_below-loop-step
-invariant-try_below-loop-step l = Tried l.self.root.now.problem.now l.self.plan l.more (l.more - 1) l.left l.rest l.step
+invariant-try_below-loop-step l =
+    Tried l.self.root.now.problem.now l.self.plan l.more (l.more - 1) l.left l.rest l.step × AtFirst l.tables l.self.root.now.problem.now.facts

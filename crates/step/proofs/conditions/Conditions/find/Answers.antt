@@ -1,10 +1,7 @@
-use Rattle.std.proofs.Common.{arith, refl}
+use Rattle.std.proofs.Common.{arith}
 use Rattle.fields.proofs.FirstEffect.{effects-rise, length-effects}
-use Rattle.step.proofs.Holding.{finding-begins, finding-next, finding-ends, next-declared, next-rises, next-below}
+use Rattle.step.proofs.Holding.{finding-next, next-declared, next-rises, next-below}
 use Rattle.step.proofs.conditions.Conditions.find.Goals as goal
-
-pub loop-effect-init : goal.loop-effect-init
-loop-effect-init c = rw c.into_iter-effect-iterator.ensures.into_iter_gives (finding-begins _ _ _ refl)
 
 pub push-requires-clause-room : goal.push-requires-clause-room
 push-requires-clause-room c =
@@ -26,6 +23,3 @@ loop-effect-preserved c =
     let es = c.args.effects in
     finding-next _ _ _ _ _ c.loop-effect.invariant (effects-rise es.facts es.few_facts 0 es.count es.bytes.now es.sound) c.in-Some.effect _ c.in-Some.ensures.steps
     c.evaluate.result c.evaluate.ensures _ c.push.ensures
-
-pub returns-clause-hold : goal.returns-clause-hold
-returns-clause-hold c = finding-ends _ _ _ _ _ c.loop-effect.invariant c.in-None.ensures.steps.0

@@ -1,11 +1,10 @@
 use Rattle.std.proofs.Common.{◌-◌, ◌<◌, ◌∙◌, ap, length, arith}
 use Rattle.model.specs.Kleene.{either}
-use Rattle.cases.specs.declared.value.Value.{Value}
-use Rattle.cases.specs.Cases.{value_at}
+use Rattle.cases.specs.{declared.value.Value.Value, Cases.value_at}
 use Rattle.formula.proofs.Leaves.{literal-byte}
 use Rattle.step.specs.Conditions.{never}
-use Rattle.step.proofs.Holding.{read-value}
-use Rattle.step.proofs.Turns.{settling-begins, settling-next, settling-ends}
+use Rattle.std.proofs.lemmas.List.{get_or_default}
+use Rattle.step.proofs.{Turns.settling-begins, Turns.settling-next, Turns.settling-ends}
 use Rattle.step.proofs.conditions.Conditions.settle.Goals as goal
 
 pub loop-e-init : goal.loop-e-init
@@ -16,22 +15,14 @@ of-literal-requires c =
     let s = c.args.self.now in
     literal-byte s.facts s.few_facts _ (s.declared (c.loop-e.e - 1) (omega arith))
 
-pub put-requires : goal.put-requires
-put-requires c =
-    let s = c.args.self.now in
-    rw (c.of-literal.ensures, c.loop-e.invariant.facts, ← c.requires) (s.declared (c.loop-e.e - 1) (omega arith))
-
 pub loop-e-preserved : goal.loop-e-preserved
 loop-e-preserved c =
     let s = c.args.self.now in
     let e = c.loop-e.e - 1 in
     let long : e < length s.values = omega arith in
     settling-next _ _ _ _ c.loop-e.invariant c.loop-e-test.true c.value.result c.bitor-value.result (rw c.of-literal.ensures at c.value.ensures)
-    (λ j l. c.bitor-value.ensures j l ∙ ap (λ (y : Value). either (value_at y j) (value_at c.value.result j)) (read-value s.values e c.index-self-e.result never long))
+    (λ j l. c.bitor-value.ensures j l ∙ ap (λ (y : Value). either (value_at y j) (value_at c.value.result j)) (get_or_default s.values e c.index-self-e.result never long))
     _ c.put.ensures.facts (rw c.of-literal.ensures at c.put.ensures.cases)
-
-pub returns-clause-facts : goal.returns-clause-facts
-returns-clause-facts c = c.loop-e.invariant.facts
 
 pub returns-clause-steps : goal.returns-clause-steps
 returns-clause-steps c = settling-ends _ _ _ _ c.loop-e.invariant c.loop-e-test.false c.requires

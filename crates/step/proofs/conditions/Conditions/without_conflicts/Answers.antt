@@ -6,29 +6,8 @@ use Rattle.step.proofs.conditions.Conditions.without_conflicts.Goals as goal
 pub loop-e-init : goal.loop-e-init
 loop-e-init c = passing-begins _ _ c.requires
 
-pub bounds-self-i : goal.bounds-self-i
-bounds-self-i c = omega (arith, c.loop-i.invariant.behind)
-
-pub overflow_add-i : goal.overflow_add-i
-overflow_add-i c = omega (arith, c.loop-i.invariant.behind)
-
-pub loop-i-smaller : goal.loop-i-smaller
-loop-i-smaller c = omega (arith, c.loop-i.invariant.behind)
-
 pub loop-i-preserved : goal.loop-i-preserved
 loop-i-preserved c = passing-set _ _ _ _ _ c.loop-i.invariant c.loop-e-test.true c.loop-i-test.true
-
-pub bounds-self-i-in-loop-e : goal.bounds-self-i-in-loop-e
-bounds-self-i-in-loop-e c = omega (arith, c.loop-i.invariant.behind)
-
-pub offset_bounds-self-i : goal.offset_bounds-self-i
-offset_bounds-self-i c = omega (arith, c.loop-i.invariant.behind)
-
-pub listed : goal.listed
-listed c = omega (arith, c.loop-i.invariant.behind)
-
-pub bounds-self-i-then-fact-cleared : goal.bounds-self-i-then-fact-cleared
-bounds-self-i-then-fact-cleared c = omega (arith, c.loop-i.invariant.behind)
 
 pub returns-then-lanes-eq0 : goal.returns-then-lanes-eq0
 returns-then-lanes-eq0 c =

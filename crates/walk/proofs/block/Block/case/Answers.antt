@@ -1,5 +1,4 @@
-use Rattle.std.proofs.Common.{refl, ℕ, ◌*◌, ◌^◌, ◌≤◌, ◌<◌, arith}
-use native.Mathlib.Nat.{pow-suc}
+use Rattle.std.proofs.Common.{refl, ℕ, ◌*◌, ◌^◌, ◌≤◌, ◌<◌, arith, pow-suc}
 use Rattle.walk.specs.Lanes.{OnLevel}
 use Rattle.walk.proofs.Lanes.{level-within}
 use Rattle.walk.proofs.Walking.{computed-ge, sum-fits, product-fits, case-is}

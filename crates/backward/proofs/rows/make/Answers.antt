@@ -1,0 +1,24 @@
+use Rattle.std.proofs.Common.{sym, ◌∙◌, ◌<◌, arith}
+use Rattle.backward.proofs.States.{byte-flag}
+use Rattle.backward.proofs.Making.{lanes-yes, lanes-no, making-fact, making-next, making-ends}
+use Rattle.backward.proofs.rows.make.Goals as goal
+use Rattle.backward.proofs.rows.make.Goals.{then-yes, else-yes}
+
+pub loop-fact-preserved : goal.loop-fact-preserved
+loop-fact-preserved c =
+    let x = c.args.changes in
+    let F = c.in-Some.ensures.steps in
+    let M = c.loop-fact.invariant in
+    let zero : 0 < 64 = omega arith in
+    let changes = making-fact x c.args.cases.now c.args.row.now _ _ _ F c.loop-fact.cases c.loop-fact.row M in
+    rw (byte-flag c.has-yes.result, c.has-yes.ensures)
+    (making-next x c.args.cases.now c.args.row.now _ _ _ F c.loop-fact.cases c.loop-fact.row M (c.requires.inside _ F.few changes) c.fix.new.self
+    c.if-yes.lanes
+    (elim c.if-yes.branch [
+      | then-yes w ↦ rw w.lanes-is (lanes-yes _ (sym c.has-yes.ensures ∙ w.if-yes.true))
+      | else-yes w ↦ rw w.lanes-is (lanes-no _ (sym c.has-yes.ensures ∙ w.if-yes.false))
+    ])
+    c.fix.ensures.facts (c.fix.ensures.cases 0 zero))
+
+pub returns-clause-makes : goal.returns-clause-makes
+returns-clause-makes c = making-ends c.args.changes c.args.cases.now c.args.row.now _ c.in-None.ensures.steps _ _ c.loop-fact.invariant

@@ -1,7 +1,0 @@
--- The rows of the states before step i are written, up to `at`, and `row` has the state now.
-use Rattle.blocks.specs.Values.{task}
-use Rattle.backward.proofs.Writing.{Writing}
-use Rattle.backward.proofs.rows.put_run.Given as goal
-
-abbrev pub invariant-loop-i : goal.invariant-loop-i
-invariant-loop-i l = Writing (task l.task) l.fn.cases l.fn.work l.i l.at l.cases l.row l.work
