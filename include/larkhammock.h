@@ -7,7 +7,8 @@
  *
  * Of stack, on this build, a call takes at most 8 KiB to read a problem or a
  * plan, 16 KiB to run a state, 24 KiB to follow a list, 32 KiB to judge a plan
- * or to write a list, 36 KiB to search plans, and 48 KiB to tell relevant facts.
+ * or to write a list, 36 KiB to search plans, 48 KiB to tell relevant facts, and
+ * 24 KiB to tell them sparsely.
  *
  * A slice is a pointer and then a length: so many bytes of one live object, at
  * most PTRDIFF_MAX of them, which nobody else writes during the call. Slices
@@ -52,7 +53,8 @@ typedef struct {
  * What the versions differ in: the most facts of a problem, the most effects of
  * an action, the bits of a state's number, the bytes of a line, the most lines
  * of a list, the bytes of the longest list (a buffer for any list), and the
- * bytes of the longest run's states (a work area for any run).
+ * bytes of the longest run's states (a work area for any run), and those that
+ * are enough for larkhammock_relevant_facts_sparse of any run.
  */
 #define LARKHAMMOCK_V1_MOST_FACTS 48
 #define LARKHAMMOCK_V1_MOST_EFFECTS 96
@@ -61,6 +63,7 @@ typedef struct {
 #define LARKHAMMOCK_V1_MOST_LINES 8191
 #define LARKHAMMOCK_V1_LONGEST_LIST 65533
 #define LARKHAMMOCK_V1_LONGEST_WORK 12336
+#define LARKHAMMOCK_V1_LONGEST_SPARSE_WORK 1584
 
 #define LARKHAMMOCK_V2_MOST_FACTS 64
 #define LARKHAMMOCK_V2_MOST_EFFECTS 128
@@ -69,6 +72,7 @@ typedef struct {
 #define LARKHAMMOCK_V2_MOST_LINES 6553
 #define LARKHAMMOCK_V2_LONGEST_LIST 65535
 #define LARKHAMMOCK_V2_LONGEST_WORK 16448
+#define LARKHAMMOCK_V2_LONGEST_SPARSE_WORK 2112
 
 /*
  * A state is a number with a bit for each fact that its problem's version can
@@ -196,6 +200,26 @@ larkhammock_answer larkhammock_follow_list(
  * values.
  */
 larkhammock_answer larkhammock_relevant_facts(
+    const uint8_t *problem, size_t problem_len,
+    const uint8_t *plan, size_t plan_len,
+    uint64_t state,
+    uint8_t *work, size_t work_len);
+
+/*
+ * Tell the same from a smaller work area, in a longer time: the answers are
+ * those of larkhammock_relevant_facts. Refusals as for the run, then, at place
+ * 0, 41 where it is not reached and 42 where work has under
+ * (steps / 16 + 17) * facts bytes, the quotient rounded down. A work area of
+ * 2,112 bytes is enough for any run, and one of 1,584 bytes for any run of a
+ * version 1 problem.
+ *   word[0]  1 told
+ *   word[1]  the set, as the state in which exactly its facts are true
+ * The front of work then holds the states of the run numbered 0, 16, 32 and so
+ * on, the start state being number 0, then its first 16 states, or all where it
+ * has fewer, each as above, and zeros from there on up to the bytes needed.
+ * Bytes past them keep their values.
+ */
+larkhammock_answer larkhammock_relevant_facts_sparse(
     const uint8_t *problem, size_t problem_len,
     const uint8_t *plan, size_t plan_len,
     uint64_t state,

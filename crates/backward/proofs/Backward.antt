@@ -1,25 +1,7 @@
 -- One step backward, from the sets that were found: set by set it is what the definition says of each fact. Assumes nothing.
-use mathlib.Core.Path.{◌≡◌, refl, sym, ap, ap₂, ◌∙◌}
-use mathlib.Core.Bool.{Bool, true, false, false≢true, cond, not, ◌&&◌, ◌||◌}
-use mathlib.Core.List.{List, [], ◌∷◌}
-use Prim.Native.Nat.{ℕ, zero, suc, ◌≤◌, ◌<◌}
-use native.Mathlib.Omega.{arith}
-use native.Mathlib.Decide.{dec_lt}
-use lib.ListN.{length, get_or, get_or-eq_default}
-use lib.Dec.{eqb}
-use borrow.Author.Tests.{eq-eqb, eqb-true}
-use Rattle.model.specs.Limits.{max_facts}
-use Rattle.model.specs.Kleene.{two}
-use Rattle.model.specs.Action.{Action, sets}
-use Rattle.model.specs.Relevance.{names, some, set_and_cleared, set_names, clear_names, rests_on, matters_before}
-use Rattle.model.proofs.Laws.Truth.{same_truth, and-true, or_assoc}
-use Rattle.model.proofs.Laws.Relevance.{some_at}
-use Rattle.backward.specs.declared.facts.FactSet.{FactSet}
-use Rattle.backward.specs.declared.matters.Mark.{Mark}
-use Rattle.backward.specs.Facts.{has_fact, GivesUnion, GivesRest}
-use Rattle.backward.specs.Changes.{NamesAsked}
-use Rattle.backward.specs.Marks.{MattersBefore}
+use Rattle.backward.proofs.Words.{◌≡◌, refl, sym, ap, ap₂, ◌∙◌, Bool, false, cond, not, ◌&&◌, ◌||◌, List, ℕ, zero, suc, ◌≤◌, ◌<◌, arith, length, get_or, eqb, eq-eqb, eqb-true, false≢true, dec_lt, get_or-eq_default, max_facts, two, Action, names, some, set_and_cleared, set_names, clear_names, rests_on, matters_before, same_truth, and-true, or_assoc, some_at, FactSet, Mark, has_fact, GivesUnion, GivesRest, NamesAsked, MattersBefore}
 use Rattle.backward.proofs.Entries.{some_of}
+use Rattle.model.specs.Action.{sets}
 
 -- ---- one of n
 
@@ -31,13 +13,7 @@ some_below (suc n) p q h = ap₂ ◌||◌ (h zero (omega arith)) (some_below n (
 some_or : (n : ℕ) (p q : ℕ → Bool) → (some n p || some n q) ≡ some n (λ g. p g || q g)
 unfolding some
 some_or zero p q = refl
-some_or (suc n) p q = four (p zero) (some n (λ i. p (suc i))) (q zero) (some n (λ i. q (suc i))) ∙ ap (λ b. (p zero || q zero) || b) (some_or n (λ i. p (suc i)) (λ i. q (suc i)))
-  where
-    four : (a b c d : Bool) → ((a || b) || (c || d)) ≡ ((a || c) || (b || d))
-    four true b c d = refl
-    four false true true d = refl
-    four false true false d = refl
-    four false false c d = refl
+some_or (suc n) p q = grind (arith, some_or n (λ i. p (suc i)) (λ i. q (suc i)))
 
 -- the one that is f
 some_one : (n f : ℕ) (k : ℕ → Bool) → (n ≤ f → k f ≡ false) → some n (λ g. eqb g f && k g) ≡ k f
@@ -55,35 +31,12 @@ some_one n f k past =
 
 -- ---- the rule, fact by fact
 
--- an equation of two truth values, and of six, by the table of its instances
-abbrev row : {A : Type 0} → (Bool → A) → List A
-row f = f true ∷ f false ∷ []
-
-abbrev table : {A : Type 0} → (Bool → Bool → A) → List (List A)
-table f = row (λ x. row (f x))
-
-by_row : {A : Type 0} (f g : Bool → A) → row f ≡ row g → (x : Bool) → f x ≡ g x
-by_row f g e true = cc
-by_row f g e false = cc
-
-by-table : {A : Type 0} (f g : Bool → Bool → A) → table f ≡ table g → (x y : Bool) → f x y ≡ g x y
-by-table f g e x = by_row (f x) (g x) (by_row (λ x. row (f x)) (λ x. row (g x)) e x)
-
-by-six :
-    (f g : Bool → Bool → Bool → Bool → Bool → Bool → Bool) →
-    table (λ a b. table (λ c d. table (f a b c d))) ≡ table (λ a b. table (λ c d. table (g a b c d))) → (a b c d x y : Bool) → f a b c d x y ≡ g a b c d x y
-by-six f g e a b c d =
-    by-table (f a b c d) (g a b c d)
-    (by-table (λ c d. table (f a b c d)) (λ c d. table (g a b c d)) (by-table (λ a b. table (λ c d. table (f a b c d))) (λ a b. table (λ c d. table (g a b c d))) e a b) c d)
-
 -- m: fact g mattered after the step; u: its set condition was true; b: it has both entries; e: it is the fact asked about, which its set
 -- condition (s) or its clear condition (c) may name. On the left as it is defined, on the right as the sets give it.
 one-rule :
     (m u b e s c : Bool) →
     ((b && (s || c)) || (m && cond u s (e || (s || c)))) ≡ ((e && (m && not u)) || (((m || b) && s) || (((m && not u) || b) && c)))
-one-rule =
-    by-six (λ m u b e s c. (b && (s || c)) || (m && cond u s (e || (s || c))))
-    (λ m u b e s c. (e && (m && not u)) || (((m || b) && s) || (((m && not u) || b) && c))) refl
+one-rule m u b e s c = grind arith
 
 -- ---- the sets
 

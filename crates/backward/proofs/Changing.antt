@@ -1,21 +1,6 @@
 -- The loops over an action's effects: what is so of one of them, fact by fact, as a set that grows. Assumes nothing.
-use mathlib.Core.Path.{◌≡◌, refl, sym, ap, ◌∙◌}
-use mathlib.Core.Bool.{Bool, true, false, ◌&&◌, ◌||◌}
-use mathlib.Core.List.{List, [], ◌∷◌}
-use Prim.Native.Nat.{ℕ, ◌<◌}
-use Rattle.model.specs.Limits.{max_facts}
-use Rattle.model.specs.Formula.{fact, denial, eval}
-use Rattle.model.specs.Action.{Effect, same_literal}
-use Rattle.model.specs.Relevance.{names}
-use Rattle.model.proofs.Laws.Truth.{or-none}
-use Rattle.fields.specs.ActionBytes.{Rising}
-use Rattle.cases.specs.declared.cases.Cases.{Cases}
-use Rattle.backward.specs.declared.facts.FactSet.{FactSet}
-use Rattle.backward.specs.declared.changes.Changes.{Changes}
-use Rattle.backward.specs.Facts.{has_fact, GivesUnion}
-use Rattle.backward.specs.Changes.{holds_now, asks, AddsEffect, IsChanges, NamesAsked}
-use Rattle.backward.proofs.Sets.{set-none, grown, grown-none}
-use Rattle.backward.proofs.Entries.{some_entry, entry_has, entry-condition, entries-by-fact}
+use Rattle.backward.proofs.Words.{◌≡◌, refl, sym, ap, ◌∙◌, Bool, true, false, ◌&&◌, ◌||◌, List, [], ◌∷◌, ℕ, ◌<◌, max_facts, fact, denial, eval, Effect, same_literal, names, or-none, Rising, Cases, FactSet, Changes, has_fact, GivesUnion, holds_now, asks, AddsEffect, IsChanges, NamesAsked}
+use Rattle.backward.proofs.{Sets.set-none, Sets.grown, Sets.grown-none, Entries.some_entry, Entries.entry_has, Entries.entry-condition, Entries.entries-by-fact}
 
 -- ---- what is so of an effect is so of those met, or of those left
 

@@ -1,20 +1,6 @@
 -- Effects of which something is so: by their literals, and by the facts that these are of. Assumes nothing.
-use mathlib.Core.Path.{◌≡◌, refl, sym, ap, subst, ◌∙◌}
-use mathlib.Core.Bool.{Bool, true, false, false≢true, ◌&&◌, ◌||◌}
-use mathlib.Core.Logic.{inl, inr}
-use mathlib.Core.List.{List, [], ◌∷◌}
-use Prim.Native.Nat.{ℕ, zero, suc, ◌+◌, ◌≤◌, ◌<◌}
-use native.Mathlib.Omega.{arith}
-use lib.ListN.{length, get_or}
-use borrow.Author.Tests.{eq-eqb, eqb-true}
-use Rattle.model.specs.Formula.{Literal, fact, denial, Formula, any, none}
-use Rattle.model.specs.Action.{Effect, same_literal, condition_in, condition_of}
-use Rattle.model.specs.FormulaBytes.{literal_byte}
-use Rattle.model.specs.Relevance.{some, has_entry}
+use Rattle.backward.proofs.Words.{◌≡◌, refl, sym, ap, subst, ◌∙◌, Bool, true, false, ◌&&◌, ◌||◌, inl, inr, List, [], ◌∷◌, ℕ, zero, suc, ◌+◌, ◌≤◌, ◌<◌, arith, length, get_or, nat_tests, false≢true, Literal, fact, denial, Formula, any, none, Effect, same_literal, condition_in, condition_of, literal_byte, some, has_entry, same_truth, and-true, or-first, or-second, or_cases, some_at, without-entry, Rising}
 use Rattle.model.specs.WellFormed.{Declared}
-use Rattle.model.proofs.Laws.Truth.{same_truth, and-true, or-first, or-second, or_cases}
-use Rattle.model.proofs.Laws.Relevance.{some_at, without-entry}
-use Rattle.fields.specs.ActionBytes.{Rising}
 
 -- ---- one of n
 
@@ -54,58 +40,45 @@ entry-some p (x ∷ es) (suc i) l e = or-second (p x) _ (entry-some p es i (omeg
 
 -- a literal's effect
 same_self : (l : Literal) → same_literal l l ≡ true
-same_self (fact f) = eq-eqb f f refl
-same_self (denial f) = eq-eqb f f refl
+same_self l = grind (arith, nat_tests)
 
 pub same-is : (l m : Literal) → same_literal l m ≡ true → l ≡ m
-same-is (fact f) (fact g) e = ap fact (eqb-true f g e)
-same-is (fact f) (denial g) e = absurd (false≢true e)
-same-is (denial f) (fact g) e = absurd (false≢true e)
-same-is (denial f) (denial g) e = ap denial (eqb-true f g e)
+same-is l m e = grind (arith, nat_tests)
 
 pub entry_has : (l : Literal) (es : List Effect) → some_entry (λ e. same_literal l e.literal) es ≡ has_entry l es
 unfolding some_entry has_entry
 entry_has l [] = refl
 entry_has l (e ∷ es) = ap (λ b. same_literal l e.literal || b) (entry_has l es)
 
-pub no-entry : (l : Literal) (es : List Effect) → ((i : ℕ) → i < length es → (entry_at es i).literal ≡ l → ⊥) → has_entry l es ≡ false
-no-entry l es h = by-entry (has_entry l es) refl
-  where
-    by-entry : (b : Bool) → has_entry l es ≡ b → b ≡ false
-    by-entry true e =
-        let (i, k, s) = entry_of (λ e. same_literal l e.literal) es (entry_has l es ∙ e) in
-        absurd (h i k (sym (same-is l (entry_at es i).literal s)))
-    by-entry false e = refl
+same-other : (l m : Literal) → (l ≡ m → ⊥) → same_literal l m ≡ false
+same-other l m n = grind (arith, nat_tests)
+
+-- a literal without an effect
+condition-none : (es : List Effect) (l : Literal) (found : Formula) → ((i : ℕ) → i < length es → (entry_at es i).literal ≡ l → ⊥) → condition_in found l es ≡ found
+unfolding condition_in
+condition-none [] l found n = refl
+condition-none (e ∷ es) l found n = rw (same-other l e.literal (λ z. n zero (omega arith) (sym z))) (condition-none es l found (λ i b. n (suc i) (omega arith)))
 
 -- ---- effects whose literals rise
 
 module _ (facts : ℕ) where
-  declared-at : (least : ℕ) (es : List Effect) (i : ℕ) → Rising facts least es → i < length es → Declared facts (entry_at es i).literal
+  -- a literal is declared, and not below the least
+  declared-at :
+      (least : ℕ) (es : List Effect) (i : ℕ) → Rising facts least es → i < length es →
+      Declared facts (entry_at es i).literal × (least ≤ literal_byte (entry_at es i).literal)
   declared-at least [] i ok h = absurd (omega arith)
-  declared-at least (e ∷ es) zero ok h = ok.0
-  declared-at least (e ∷ es) (suc i) ok h = declared-at (literal_byte e.literal + 1) es i ok.2 (omega arith)
+  declared-at least (e ∷ es) zero ok h = (ok.0, ok.1)
+  declared-at least (e ∷ es) (suc i) ok h = let (d, l) = declared-at (literal_byte e.literal + 1) es i ok.2 (omega arith) in (d, omega (arith, ok.1))
 
-  least_at : (least : ℕ) (es : List Effect) (i : ℕ) → Rising facts least es → i < length es → least ≤ literal_byte (entry_at es i).literal
-  least_at least [] i ok h = absurd (omega arith)
-  least_at least (e ∷ es) zero ok h = ok.1
-  least_at least (e ∷ es) (suc i) ok h = omega (arith, ok.1, least_at (literal_byte e.literal + 1) es i ok.2 (omega arith))
-
-  -- so a literal's condition is that of its effect
-  own-condition : (least : ℕ) (e : Effect) (es : List Effect) → Rising facts least (e ∷ es) → (found : Formula) → condition_in found e.literal (e ∷ es) ≡ e.condition
-  unfolding condition_in
-  own-condition least e es ok found =
-      rw (same_self e.literal)
-      (without-entry e.literal es
-      (no-entry e.literal es
-      (λ i l k. omega (arith, least_at (literal_byte e.literal + 1) es i ok.2 l, ap literal_byte k)))
-      e.condition)
-
+  -- so its condition is that of its effect
   condition-at :
       (least : ℕ) (es : List Effect) (i : ℕ) → Rising facts least es → i < length es → (found : Formula) →
       condition_in found (entry_at es i).literal es ≡ (entry_at es i).condition
   unfolding condition_in
   condition-at least [] i ok h found = absurd (omega arith)
-  condition-at least (e ∷ es) zero ok h found = own-condition least e es ok found
+  condition-at least (e ∷ es) zero ok h found =
+      rw (same_self e.literal)
+      (condition-none es e.literal e.condition (λ i l k. omega (arith, (declared-at (literal_byte e.literal + 1) es i ok.2 l).1, ap literal_byte k)))
   condition-at least (e ∷ es) (suc i) ok h found = condition-at (literal_byte e.literal + 1) es i ok.2 (omega arith) _
 
 module _ (facts : ℕ) (es : List Effect) (ok : Rising facts 0 es) (q : Formula → Bool) (never : q (any none) ≡ false) where
@@ -124,7 +97,7 @@ module _ (facts : ℕ) (es : List Effect) (ok : Rising facts 0 es) (q : Formula 
   pub condition-declared : (l : Literal) → q (condition_of l es) ≡ true → Declared facts l
   condition-declared l e =
       let (i, k, m, h) = with-condition l e in
-      subst (Declared facts) m (declared-at facts 0 es i ok k)
+      subst (Declared facts) m (declared-at facts 0 es i ok k).0
 
   -- the effect of one literal
   pub entry-condition : (l : Literal) → some_entry (λ e. same_literal l e.literal && q e.condition) es ≡ q (condition_of l es)
@@ -156,7 +129,7 @@ module _ (facts : ℕ) (es : List Effect) (ok : Rising facts 0 es) (q : Formula 
       to h =
           let (i, k, s) = entry_of (λ e. W e.literal && q e.condition) es h in
           let (a, b) = and-true (W (entry_at es i).literal) _ s in
-          of-literal (entry_at es i).literal (declared-at facts 0 es i ok k) a (ap q (condition-at facts 0 es i ok k (any none)) ∙ b)
+          of-literal (entry_at es i).literal (declared-at facts 0 es i ok k).0 a (ap q (condition-at facts 0 es i ok k (any none)) ∙ b)
 
       of-condition : (l : Literal) → W l ≡ true → q (condition_of l es) ≡ true → some_entry (λ e. W e.literal && q e.condition) es ≡ true
       of-condition l a b =

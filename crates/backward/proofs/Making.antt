@@ -1,38 +1,8 @@
 -- The state in lane 0 and its row, with an action's changes: its facts change one after another, and the others are what they were. Assumes nothing.
-use mathlib.Core.Path.{◌≡◌, refl, sym, ap, ◌∙◌}
-use mathlib.Core.Bool.{Bool, true, false, false≢true, not, ◌&&◌, ◌||◌}
-use mathlib.Core.List.{List, map}
-use Prim.Native.Nat.{ℕ, ◌<◌}
-use native.Mathlib.Omega.{arith}
-use native.Mathlib.Decide.{ℕ_discrete}
-use lib.ListN.{length, get_or, set, length-set}
-use lib.Seq.{get_or-set_same, get_or-set_other, ext_get_or}
-use borrow.Author.Tests.{ne_eqb}
-use Rattle.std.proofs.lemmas.List.{map-set}
-use Rattle.model.specs.Limits.{max_facts}
-use Rattle.model.specs.Kleene.{Kleene, is_yes, known, two, three}
-use Rattle.model.specs.Formula.{fact, denial, Formula, eval}
-use Rattle.model.specs.Action.{Action, condition_of, sets, clears, applicable, next, step}
-use Rattle.model.specs.Case.{flag}
-use Rattle.model.specs.Planes.{lane_bit}
-use Rattle.model.specs.Relevance.{some}
-use Rattle.model.proofs.Laws.Planes.{ones, bit-ones, bit-zero}
-use Rattle.model.proofs.Laws.Agreement.{yes-exact, read_known}
-use Rattle.model.proofs.Laws.Conflicts.{applicable-state}
-use Rattle.model.proofs.Laws.Relevance.{some_at}
-use Rattle.model.proofs.Laws.Tabulate.{length-tabulate, get_d_tabulate, tabulate-below}
-use Rattle.model.proofs.Laws.Truth.{and-true, and_both, or_cases, and_one}
-use mathlib.Core.Logic.{inl, inr}
-use Rattle.fields.specs.ActionBytes.{Rising}
-use Rattle.cases.specs.Lanes.{value_in}
-use Rattle.cases.specs.declared.cases.Cases.{Cases}
-use Rattle.cases.specs.Cases.{case_of}
-use Rattle.backward.specs.declared.facts.FactSet.{FactSet}
-use Rattle.backward.specs.declared.changes.Changes.{Changes}
-use Rattle.backward.specs.Facts.{has_fact, GivesCommon, FirstTaken}
-use Rattle.backward.specs.Changes.{holds_now, IsChanges}
-use Rattle.backward.specs.Rows.{Shows, changed, Makes, Taken}
+use Rattle.backward.proofs.Words.{◌≡◌, refl, sym, ap, ◌∙◌, Bool, true, false, not, ◌&&◌, ◌||◌, List, map, ℕ, ◌<◌, arith, length, get_or, set, length-set, get_or-set_same, get_or-set_other, ext_get_or, ne_eqb, inl, inr, false≢true, ℕ_discrete, map-set, max_facts, Kleene, is_yes, known, two, three, fact, denial, Formula, eval, Action, condition_of, clears, applicable, next, step, flag, lane_bit, some, ones, bit-ones, bit-zero, yes-exact, read_known, some_at, length-tabulate, get_d_tabulate, tabulate-below, and-true, and_both, or_cases, and_one, Rising, value_in, Cases, case_of, FactSet, Changes, has_fact, GivesCommon, FirstTaken, holds_now, IsChanges, Shows, changed, Makes, Taken}
 use Rattle.backward.proofs.Entries.{some_of, condition-declared}
+use Rattle.model.specs.Action.{sets}
+use Rattle.model.proofs.Laws.Conflicts.{applicable-state}
 
 -- ---- fact by fact
 
@@ -45,10 +15,7 @@ lanes-no b e = rw (bit-zero 0, e) refl
 
 -- a fact that is set or cleared is what it is set to
 set-to : (s k x : Bool) → (s || k) ≡ true → s ≡ (s || (x && not k))
-set-to true k x e = refl
-set-to false true true e = refl
-set-to false true false e = refl
-set-to false false x e = absurd (false≢true e)
+set-to s k x e = grind arith
 
 module _ (x : Changes) (c : Cases) (row : List ℕ) where
   abbrev target : List Bool → ℕ → Bool
@@ -114,11 +81,7 @@ module _ (c : Cases) (a : Action) (st : List Bool) (shown : Shows c st) where
   holds-now φ = ap (λ (v : List Kleene). is_yes (eval three v φ)) shown ∙ ap is_yes (read_known st φ) ∙ yes-exact (eval two st φ)
 
   refused : (applicable two c.facts a st ≡ true → ⊥) → applicable two c.facts a st ≡ false
-  refused h = by-test (applicable two c.facts a st) refl
-    where
-      by-test : (b : Bool) → applicable two c.facts a st ≡ b → b ≡ false
-      by-test true e = absurd (h e)
-      by-test false e = refl
+  refused h = grind arith
 
   pub unmet : holds_now c a.precondition ≡ false → applicable two c.facts a st ≡ false
   unmet e = refused (λ h. false≢true (sym e ∙ holds-now a.precondition ∙ ((applicable-state c.facts a st).0 h).0))
@@ -147,13 +110,10 @@ module _ (c : Cases) (a : Action) (x : Changes) (X : IsChanges c a.effects x) (o
     module _ (both : FactSet) (B : GivesCommon x.set x.cleared both) where
       pub conflicting : not (some max_facts (has_fact both)) ≡ false → applicable two c.facts a st ≡ false
       conflicting e =
-          let (g, l, h) = some_of max_facts (has_fact both) (not-false _ e) in
+          let any' : some max_facts (has_fact both) ≡ true = grind arith in
+          let (g, l, h) = some_of max_facts (has_fact both) any' in
           let (s, k) = and-true (has_fact x.set g) _ (sym (B g l) ∙ h) in
           refused c a st shown (λ y. ((applicable-state c.facts a st).0 y).1 g (changes-inside g l (rw s refl)) (sym (set-is g l) ∙ s, sym (cleared-is g l) ∙ k))
-        where
-          not-false : (b : Bool) → not b ≡ false → b ≡ true
-          not-false true e = refl
-          not-false false e = sym e
 
       pub taken :
           holds_now c a.precondition ≡ true → not (some max_facts (has_fact both)) ≡ true → (row row' : List ℕ) (d : Cases) → Makes x c row d row' →

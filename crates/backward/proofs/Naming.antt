@@ -1,14 +1,7 @@
 -- The facts that a formula names are those that its literals are of. Assumes nothing.
-use Rattle.std.proofs.Common.{◌≡◌, refl, sym, ap, ◌∙◌, Bool, true, false, cond, ◌||◌, ℕ, zero, suc, List, [], ◌∷◌, ◌&&◌, eqb, leb}
-use lib.Dec.{ltb}
-use Rattle.model.specs.Formula.{Literal, Formula, Formulas, lit, none, more}
-use Rattle.model.specs.FormulaBytes.{Group, conjunction, disjunction, grouped, literal_of, member_count}
-use Rattle.model.specs.Relevance.{fact_of, names, member_names}
-use Rattle.model.proofs.Laws.Truth.{and-true, or_assoc, or-none}
+use Rattle.backward.proofs.Words.{◌≡◌, refl, sym, ap, ◌∙◌, Bool, true, false, cond, ◌||◌, ℕ, zero, suc, List, [], ◌∷◌, ◌&&◌, eqb, leb, ltb, Literal, Formula, Formulas, lit, none, more, Group, conjunction, disjunction, grouped, literal_of, member_count, fact_of, names, member_names, and-true, or_assoc, or-none, literals, member_literals}
 use Rattle.formula.specs.Decoding.{decode, first, after, head, gathered, marked, is_sound}
-use Rattle.formula.specs.Literals.{literals, member_literals}
-use Rattle.formula.proofs.Decoding.{alone}
-use Rattle.formula.proofs.Leaves.{literal-first, group-first, alone_literals}
+use Rattle.formula.proofs.{Decoding.alone, Leaves.literal-first, Leaves.group-first, Leaves.alone_literals}
 
 -- whether one of the literals is of fact f
 unfoldable pub named_by : List Literal → ℕ → Bool

@@ -1,27 +1,9 @@
 -- Sets of facts as words: the word operators are those of sets. Assumes nothing.
-use mathlib.Core.Path.{◌≡◌, refl, sym, ap, subst, ◌∙◌}
-use mathlib.Core.Bool.{Bool, true, false, false≢true, not, ◌&&◌, ◌||◌}
-use Prim.Native.Nat.{ℕ, zero, suc, ◌+◌, ◌*◌, ◌-◌, ◌/◌, ◌%◌, ◌^◌, ◌≤◌, ◌<◌, min, max}
-use native.Mathlib.Nat.{div-eq_of_lt, mod-eq_of_lt, pow-suc, one-mul}
-use native.Mathlib.Omega.{arith}
-use native.Mathlib.Decide.{dec_lt, ℕ_discrete}
-use lib.Count.{count_leading_zeros}
-use lib.Dec.{eqb}
-use lib.Bits.{bit_and, bit_or, bit_xor}
-use lib.Pow.{pow-lt, pow-add, shl-shr, shr-shr, shr_lt}
-use mathlib.Core.List.{List}
-use lib.ListN.{length, get_or}
-use Rattle.model.specs.Relevance.{some, number_of}
+use Rattle.backward.proofs.Words.{◌≡◌, refl, sym, ap, subst, ◌∙◌, Bool, true, false, not, ◌&&◌, ◌||◌, ℕ, zero, suc, ◌+◌, ◌*◌, ◌-◌, ◌/◌, ◌%◌, ◌^◌, ◌≤◌, ◌<◌, mod-eq_of_lt, pow-suc, one-mul, arith, eqb, bit_and, bit_or, bit_xor, pow-add, shr-shr, shr_lt, List, length, get_or, eq-eqb, ne_eqb, nat_tests, false≢true, div-eq_of_lt, dec_lt, ℕ_discrete, some, number_of, max_facts, bit, lane_bit, and_none, or_assoc, or-none, some_at, ones, bit-small, bit-and, bit-or, bit-zero, bit-flip}
+use lib.{Count.count_leading_zeros, Pow.pow-lt, Pow.shl-shr}
 use Rattle.model.proofs.Laws.StateNumbers.{number-of}
 use Rattle.std.proofs.lemmas.Nat.{and_mask, and_comm, and_le_l, pow_pos, leading_top, le-div, div_below}
 use Rattle.std.specs.Int.Bits.{xor_add_and}
-use borrow.Author.Tests.{eq-eqb, ne_eqb}
-use Rattle.model.specs.Limits.{max_facts}
-use Rattle.model.specs.Case.{bit}
-use Rattle.model.specs.Planes.{lane_bit}
-use Rattle.model.proofs.Laws.Truth.{and_none, or_assoc, or-none}
-use Rattle.model.proofs.Laws.Relevance.{some_at}
-use Rattle.model.proofs.Laws.Planes.{ones, bit-small, bit-and, bit-or, bit-zero, bit-flip}
 
 -- fact f has the bit of this lane
 abbrev lane_of : ℕ → ℕ
@@ -31,46 +13,20 @@ has : (x f : ℕ) → bit max_facts x f ≡ eqb (lane_bit (lane_of f) x) 1
 unfolding bit lane_bit
 has x f = refl
 
-or-bits : (x y : ℕ) → x < 2 → y < 2 → eqb (max x y) 1 ≡ (eqb x 1 || eqb y 1)
-or-bits zero zero h k = refl
-or-bits zero (suc zero) h k = refl
-or-bits (suc zero) zero h k = refl
-or-bits (suc zero) (suc zero) h k = refl
-or-bits (suc (suc x)) y h k = absurd (omega arith)
-or-bits zero (suc (suc y)) h k = absurd (omega arith)
-or-bits (suc zero) (suc (suc y)) h k = absurd (omega arith)
-
-and-bits : (x y : ℕ) → x < 2 → y < 2 → eqb (min x y) 1 ≡ (eqb x 1 && eqb y 1)
-and-bits zero zero h k = refl
-and-bits zero (suc zero) h k = refl
-and-bits (suc zero) zero h k = refl
-and-bits (suc zero) (suc zero) h k = refl
-and-bits (suc (suc x)) y h k = absurd (omega arith)
-and-bits zero (suc (suc y)) h k = absurd (omega arith)
-and-bits (suc zero) (suc (suc y)) h k = absurd (omega arith)
-
-not-bit : (x : ℕ) → x < 2 → eqb (1 - x) 1 ≡ not (eqb x 1)
-not-bit zero h = refl
-not-bit (suc zero) h = refl
-not-bit (suc (suc x)) h = absurd (omega arith)
-
 pub set-none : (f : ℕ) → bit max_facts 0 f ≡ false
 set-none f = has 0 f ∙ rw (bit-zero (lane_of f))
 
 pub set-or : (x y f : ℕ) → bit max_facts (bit_or x y) f ≡ (bit max_facts x f || bit max_facts y f)
 set-or x y f =
-    let l = lane_of f in
-    has (bit_or x y) f ∙ rw (bit-or l x y, or-bits (lane_bit l x) (lane_bit l y) (bit-small l x) (bit-small l y), ← has x f, ← has y f)
+    let l = lane_of f in rw (has (bit_or x y) f, has x f, has y f, bit-or l x y) (grind (arith, nat_tests, bit-small l x, bit-small l y))
 
 pub set-and : (x y f : ℕ) → bit max_facts (bit_and x y) f ≡ (bit max_facts x f && bit max_facts y f)
 set-and x y f =
-    let l = lane_of f in
-    has (bit_and x y) f ∙ rw (bit-and l x y, and-bits (lane_bit l x) (lane_bit l y) (bit-small l x) (bit-small l y), ← has x f, ← has y f)
+    let l = lane_of f in rw (has (bit_and x y) f, has x f, has y f, bit-and l x y) (grind (arith, nat_tests, bit-small l x, bit-small l y))
 
 set-not : (x f : ℕ) → bit max_facts (bit_xor ones x) f ≡ not (bit max_facts x f)
 set-not x f =
-    let l = lane_of f in
-    has (bit_xor ones x) f ∙ rw (bit-flip l x (omega arith), not-bit (lane_bit l x) (bit-small l x), ← has x f)
+    let l = lane_of f in rw (has (bit_xor ones x) f, has x f, bit-flip l x (omega arith)) (grind (arith, nat_tests, bit-small l x))
 
 pub set-rest : (x y f : ℕ) → bit max_facts (bit_and x (bit_xor ones y)) f ≡ (bit max_facts x f && not (bit max_facts y f))
 set-rest x y f = set-and x (bit_xor ones y) f ∙ ap (λ b. bit max_facts x f && b) (set-not y f)

@@ -1,38 +1,13 @@
 -- Lane 0 shows a state: what an action makes of it, and the states of a run. Assumes nothing.
-use mathlib.Core.Path.{◌≡◌, refl, sym, ap, ◌∙◌}
-use mathlib.Core.Bool.{Bool, true, false}
-use mathlib.Core.List.{List, [], ◌∷◌}
-use Prim.Native.Nat.{ℕ, zero, suc, ◌≤◌, ◌<◌}
-use native.Mathlib.Omega.{arith}
+use Rattle.backward.proofs.Words.{◌≡◌, refl, sym, ap, ◌∙◌, Bool, false, List, [], ◌∷◌, ℕ, zero, suc, ◌≤◌, ◌<◌, arith, length, get_or, drop, drop-cons, length-map, get_or-map, is_yes, known, two, three, value_of, literal_of, Action, step, states, action_at, flag, literal-fact, yes-exact, states-size, states-count, length-tabulate, case_in, Cases, case_of, Shows}
 use mir.Val.{bool_byte}
-use lib.ListN.{length, get_or, drop, length-map, get_or-map}
-use lib.Seq.{drop-cons}
-use Rattle.model.specs.Kleene.{is_yes, known, two, three}
-use Rattle.model.specs.Formula.{value_of}
-use Rattle.model.specs.FormulaBytes.{literal_of}
-use Rattle.model.proofs.Laws.Planes.{literal-fact}
-use Rattle.model.specs.Action.{Action, step}
-use Rattle.model.specs.Relevance.{states}
-use Rattle.model.specs.ProblemBytes.{action_at}
-use Rattle.model.proofs.Laws.Agreement.{yes-exact}
-use Rattle.model.proofs.Laws.Relevance.{step-length}
-use Rattle.model.proofs.Laws.Tabulate.{length-tabulate}
-use Rattle.model.specs.Case.{flag}
-use Rattle.cases.specs.Lanes.{case_in}
-use Rattle.cases.specs.declared.cases.Cases.{Cases}
-use Rattle.cases.specs.Cases.{case_of}
-use Rattle.backward.specs.Rows.{Shows}
 
 -- ---- the states of a run
 
 module _ (n : ℕ) where
   -- each has so many facts
   pub state-length : (plan : List Action) (c : List Bool) → length c ≡ n → (i : ℕ) → i ≤ length plan → length (get_or (states n plan c) i []) ≡ n
-  unfolding states
-  state-length [] c z zero l = z
-  state-length [] c z (suc i) l = absurd (omega arith)
-  state-length (a ∷ plan) c z zero l = z
-  state-length (a ∷ plan) c z (suc i) l = state-length plan (step two n a c) (step-length n a c) i (omega arith)
+  state-length plan c z i l = states-size n plan c z i (omega (arith, states-count n plan c, l))
 
   -- and is what the step before it makes of the one before
   pub state-next :
@@ -69,5 +44,4 @@ shown-value c st f h l = rw (literal-fact f l, h, get_or-map known st f false) (
 
 -- a truth value's byte
 pub byte-flag : (b : Bool) → bool_byte b ≡ flag b
-byte-flag true = refl
-byte-flag false = refl
+byte-flag b = grind arith

@@ -1,29 +1,7 @@
 -- Steps gone through backward, by their marks. Assumes nothing.
-use mathlib.Core.Path.{◌≡◌, refl, sym, ap, subst, ◌∙◌}
-use mathlib.Core.Bool.{Bool, true, false, cond, ◌&&◌, ◌||◌}
-use mathlib.Core.Logic.{inl, inr}
-use mathlib.Core.List.{List, [], ◌∷◌}
-use Prim.Native.Nat.{ℕ, suc, ◌≤◌, ◌<◌}
-use native.Mathlib.Omega.{arith}
-use native.Mathlib.Decide.{dec_lt}
-use lib.ListN.{length, get_or, drop, drop_of_length-le}
-use lib.Dec.{eqb}
-use borrow.Author.Tests.{eqb-true}
-use Rattle.model.specs.Limits.{max_facts}
-use Rattle.model.specs.Kleene.{two}
-use Rattle.model.specs.Formula.{Literal, fact, denial, Formula}
-use Rattle.model.specs.Action.{Action, condition_of, tabulate, sets, step}
-use Rattle.model.specs.Case.{Task}
-use Rattle.model.specs.Relevance.{names, set_and_cleared, set_names, clear_names, rests_on, exclusion_names, matters_before, relevant}
-use Rattle.model.specs.ProblemBytes.{action_at}
-use Rattle.model.proofs.Laws.Tabulate.{length-tabulate, get_d_tabulate, getD-tabulate-past}
-use Rattle.model.proofs.Laws.Truth.{or_cases, and-true}
-use Rattle.backward.specs.declared.facts.FactSet.{FactSet}
-use Rattle.backward.specs.declared.matters.Mark.{Mark}
-use Rattle.backward.specs.Facts.{has_fact, HasFacts}
-use Rattle.backward.specs.Marks.{no_mark, Marked, MattersBefore, state_at, matter_before, WithinAction, WithinTask, TracesBack}
-use Rattle.backward.proofs.Entries.{some_of}
-use Rattle.backward.proofs.States.{state-next, state-first, drop-action}
+use Rattle.backward.proofs.Words.{◌≡◌, refl, sym, ap, subst, ◌∙◌, Bool, true, false, cond, ◌&&◌, ◌||◌, inl, inr, List, [], ◌∷◌, ℕ, suc, ◌≤◌, ◌<◌, arith, length, get_or, drop, drop_of_length-le, eqb, eqb-true, dec_lt, max_facts, two, Literal, fact, denial, Formula, Action, condition_of, tabulate, step, Task, names, set_and_cleared, set_names, clear_names, rests_on, exclusion_names, matters_before, relevant, action_at, length-tabulate, get_d_tabulate, getD-tabulate-past, or_cases, and-true, FactSet, Mark, has_fact, HasFacts, no_mark, Marked, MattersBefore, state_at, matter_before, WithinAction, WithinTask, TracesBack}
+use Rattle.model.specs.Action.{sets}
+use Rattle.backward.proofs.{Entries.some_of, States.state-next, States.state-first, States.drop-action}
 
 -- ---- no fact past the declared ones matters
 
@@ -60,16 +38,12 @@ by-rule n s p h within f l =
     h f l ∙
     elim (dec_lt f n) [
       | yes m ↦ sym (get_d_tabulate n p f false m)
-      | no m ↦ past (p f) refl m ∙ sym (getD-tabulate-past n p f false (omega arith))
+      | no m ↦ let out : p f ≡ false = grind (arith, within f) in out ∙ sym (getD-tabulate-past n p f false (omega arith))
     ]
-  where
-    past : (b : Bool) → p f ≡ b → (f < n → ⊥) → b ≡ false
-    past true e m = absurd (m (within f e))
-    past false e m = refl
 
 -- ---- step by step
 
-matter-length : (n : ℕ) (plan : List Action) (m st : List Bool) → length m ≡ n → length (matter_before n plan m st) ≡ n
+pub matter-length : (n : ℕ) (plan : List Action) (m st : List Bool) → length m ≡ n → length (matter_before n plan m st) ≡ n
 unfolding matter_before
 matter-length n [] m st z = z
 matter-length n (a ∷ plan) m st z = length-tabulate n _

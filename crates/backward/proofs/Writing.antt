@@ -1,36 +1,9 @@
 -- The steps of a run: each state's row is written before its step is taken, and its mark after it. Assumes nothing.
-use mathlib.Core.Path.{◌≡◌, refl, sym, ap, subst, ◌∙◌}
-use mathlib.Core.Bool.{Bool, true, false, false≢true}
-use mathlib.Core.List.{List, [], ◌∷◌, ◌++◌, map, append-nil, append_assoc}
-use Prim.Native.Nat.{ℕ, suc, ◌+◌, ◌-◌, ◌*◌, ◌≤◌, ◌<◌}
-use native.Mathlib.Nat.{suc-mul, mul-le-mul_right}
-use native.Mathlib.Numerals.{add-one}
-use native.Mathlib.Omega.{arith}
-use native.Mathlib.Decide.{ℕ_discrete}
-use lib.ListN.{length, get_or, set, take, drop, length-take, length-drop, length-append, drop_of_length-le, length-map, length-set, get_or-map}
+use Rattle.backward.proofs.Words.{◌≡◌, sym, ap, ◌∙◌, Bool, true, false, List, ◌++◌, map, ℕ, suc, ◌+◌, ◌-◌, ◌*◌, ◌≤◌, ◌<◌, suc-mul, mul-le-mul_right, add-one, arith, length, get_or, set, take, take_all, drop, length-take, length-drop, length-set, get_or-set_same, get_or-set_other, ext_get_or, Some, ℕ_discrete, length-map, get_or-map, length-sets, is_yes, three, value_of, literal_of, flag, Task, Action, states, rows, action_at, states-count, part-put, Cases, case_of, Mark, holds_now, no_mark, IsMark, Marked, state_at, Shows, Takes, TakesSteps, TellsReached}
+use Rattle.backward.proofs.States.{shown-length, shown-value}
+use Rattle.backward.proofs.Going.{first_rows, row-written, goal-decides, gone-through, Stepping, row-now, stepping-next, stepping-mark, all-steps, last-shown}
+use lib.Seq.{sets}
 use borrow.Rule.Slice.PartMut.{put_mid}
-use lib.Seq.{sets, get_or-set_same, get_or-set_other, ext_get_or}
-use Rattle.std.specs.Prelude.{Some, None}
-use Rattle.model.specs.Limits.{max_facts}
-use Rattle.model.specs.Kleene.{is_yes, two, three}
-use Rattle.model.specs.Formula.{Formula, value_of}
-use Rattle.model.specs.FormulaBytes.{literal_of}
-use Rattle.model.specs.Case.{flag, Task}
-use Rattle.model.specs.Run.{at_end, goes_on, run}
-use Rattle.model.specs.Action.{Action, applicable, step}
-use Rattle.model.specs.Relevance.{states, rows}
-use Rattle.model.specs.ProblemBytes.{action_at}
-use Rattle.model.proofs.Laws.Relevance.{step-length}
-use Rattle.model.proofs.Laws.Tracing.{rows-length}
-use Rattle.model.proofs.Laws.Stores.{sets-append, part-put}
-use Rattle.cases.specs.declared.cases.Cases.{Cases}
-use Rattle.cases.specs.Cases.{case_of}
-use Rattle.backward.specs.declared.matters.Mark.{Mark}
-use Rattle.backward.specs.Changes.{holds_now}
-use Rattle.backward.specs.Marks.{no_mark, IsMark, state_at}
-use Rattle.backward.specs.Rows.{Shows, Taken, Takes, TakesSteps, PutsRun, is_reached, TellsReached}
-use Rattle.backward.proofs.Making.{holds-now}
-use Rattle.backward.proofs.States.{state-length, drop-action, shown-length, shown-value, state-first, state-next}
 
 -- ---- one row: the facts before f are written
 
@@ -57,190 +30,67 @@ putting-ends c f row e P st h =
 
 -- ---- the steps
 
-module _ (T : Task) where
-  -- the rows of the states before the steps of a plan
-  abbrev before_steps : List Action → List Bool → List ℕ
-  before_steps plan st = rows (take (length plan) (states T.facts plan st))
+module _ (T : Task) (c : Cases) (before : List ℕ) where
+  -- i steps are taken, the rows of the states before them are written, up to `at`, and their marks
+  pub record Writing (i at : ℕ) (d : Cases) (row work : List ℕ) (ms : List Mark) : Type 0 where
+    pub steps : Stepping T c before (first_rows T.facts T.plan) i d row work
+    pub place : at ≡ i * T.facts
+    pub marked :
+        (st : List Bool) → length st ≡ T.facts → Shows c st → (k : ℕ) → k < i → IsMark (action_at T.plan k) (state_at T st k) (get_or ms k no_mark)
 
-  module _ (c : Cases) (before : List ℕ) where
-    -- after i steps from st: the state now, with its row, and the rows and the marks of those before it
-    pub record Reaching (st : List Bool) (i : ℕ) (d : Cases) (row work : List ℕ) (ms : List Mark) : Type 0 where
-      pub state : List Bool
-      pub size : length state ≡ T.facts
-      pub at_step : state_at T st i ≡ state
-      pub shown : Shows d state
-      pub own_row : take T.facts row ≡ map flag state
-      pub goes_on :
-          (goal : Formula) (more : List Action) (k : ℕ) →
-          run two T.facts goal (T.plan ++ more) k st ≡ run two T.facts goal (drop i T.plan ++ more) (k + i) state
-      pub marked : (k : ℕ) → k < i → IsMark (action_at T.plan k) (state_at T st k) (get_or ms k no_mark)
-      pub done : List ℕ
-      pub count : length done ≡ i * T.facts
-      pub split : before_steps T.plan st ≡ done ++ before_steps (drop i T.plan) state
-      pub written : work ≡ sets before 0 done
-
-    pub record Writing (i at : ℕ) (d : Cases) (row work : List ℕ) (ms : List Mark) : Type 0 where
-      pub size : length work ≡ length before
-      pub few : i ≤ length T.plan
-      pub place : at ≡ i * T.facts
-      pub facts : d.facts ≡ T.facts
-      pub own : length row ≡ max_facts
-      pub is : (st : List Bool) → length st ≡ T.facts → Shows c st → Reaching st i d row work ms
-
-    pub writing-begins :
-        c.facts ≡ T.facts → (row : List ℕ) → length row ≡ max_facts → ((st : List Bool) → Shows c st → take T.facts row ≡ map flag st) →
-        (ms : List Mark) → Writing 0 0 c row before ms
-    writing-begins e row own R ms =
+  module _ (same : c.facts ≡ T.facts) (i at : ℕ) (d : Cases) (row work : List ℕ) (ms : List Mark) (W : Writing i at d row work ms) where
+    pub writing-next :
+        i < length T.plan → (a : Action) → a ≡ action_at T.plan i → (e : Cases) (own-row : List ℕ) (k : Mark) → Takes a d (take c.facts row) e own-row (Some k) →
+        e.facts ≡ d.facts → length own-row ≡ length (take c.facts row) → (work' : List ℕ) → work' ≡ sets work at (take c.facts row) →
+        (ms' : List Mark) → ((j : ℕ) → j < i → get_or ms' j no_mark ≡ get_or ms j no_mark) → get_or ms' i no_mark ≡ k →
+        Writing (i + 1) (at + c.facts) e (own-row ++ drop c.facts row) work' ms'
+    writing-next l a is e own-row k X facts size work' put ms' old new =
         record {
-          size = refl;
-          few = omega arith;
-          place = omega arith;
-          facts = e;
-          own = own;
-          is =
-              λ st z shown.
-              record {
-                state = st;
-                size = z;
-                at_step = state-first T.facts T.plan st;
-                shown = shown;
-                own_row = R st shown;
-                goes_on = λ goal more k. let same : k + 0 ≡ k = omega arith in rw same refl;
-                marked = λ k l. absurd (omega arith);
-                done = [];
-                count = omega arith;
-                split = refl;
-                written = refl;
-              };
+          steps =
+              stepping-next T c before _ same i d row work W.steps l a is e own-row k X facts size work' (ap length put ∙ length-sets work at (take c.facts row))
+              (λ st z begin.
+              put ∙
+              rw (add-one i)
+              (row-written T.facts T.plan st z i at before work (take c.facts row) W.steps.few W.place (W.steps.written st z begin)
+              (row-now T c before _ same i d row work W.steps st z begin)));
+          place = rw (add-one i) (omega (arith, same, W.place, suc-mul i T.facts));
+          marked =
+              λ st z begin j b.
+              elim (ℕ_discrete j i) [
+                | yes s ↦ rw (s, new) (stepping-mark T c before _ same i d row work W.steps l a is e own-row k X st z begin)
+                | no s ↦ rw (old j (omega (arith, b, s))) (W.marked st z begin j (omega (arith, b, s)))
+              ];
         }
 
-    module _ (i at : ℕ) (d : Cases) (row work : List ℕ) (ms : List Mark) (W : Writing i at d row work ms) where
-      module _ (l : i < length T.plan) where
-        -- what is left of the run begins with step i
-        goes-on-with :
-            (st : List Bool) (r : Reaching st i d row work ms) (goal : Formula) (more : List Action) (k : ℕ) →
-            run two T.facts goal (T.plan ++ more) k st ≡ run two T.facts goal (action_at T.plan i ∷ (drop (suc i) T.plan ++ more)) (k + i) r.state
-        goes-on-with st r goal more k =
-            r.goes_on goal more k ∙ ap (λ (x : List Action). run two T.facts goal (x ++ more) (k + i) r.state) (drop-action T.plan i l)
-
-        pub writing-next :
-            (work' : List ℕ) → length work' ≡ length work → work' ≡ sets work at (take T.facts row) →
-            (e : Cases) → e.facts ≡ d.facts → (own-row row' : List ℕ) → take T.facts row' ≡ own-row → length row' ≡ max_facts →
-            (k : Mark) → Takes (action_at T.plan i) d (take T.facts row) e own-row (Some k) →
-            (ms' : List Mark) → ((j : ℕ) → j < i → get_or ms' j no_mark ≡ get_or ms j no_mark) → get_or ms' i no_mark ≡ k →
-            (at' : ℕ) → at' ≡ at + T.facts → Writing (i + 1) at' e row' work' ms'
-        unfolding run goes_on rows states
-        writing-next work' kept put e same own-row row' own-is own k X ms' old new at' p =
-            let n = T.facts in
-            let a = action_at T.plan i in
-            record {
-              size = kept ∙ W.size;
-              few = omega arith;
-              place = rw (add-one i) (omega (arith, p, W.place, suc-mul i n));
-              facts = same ∙ W.facts;
-              own = own;
-              is =
-                  λ st z begin.
-                  let r = W.is st z begin in
-                  let t = subst (λ (m : ℕ). Taken a m r.state e own-row k) W.facts (X r.state r.shown r.own_row) in
-                  let own-state = map flag r.state in
-                  let place : at ≡ 0 + length r.done = omega (arith, W.place, r.count) in
-                  record {
-                    state = step two n a r.state;
-                    size = step-length n a r.state;
-                    at_step = rw (add-one i) (state-next n T.plan st i l ∙ ap (step two n a) r.at_step);
-                    shown = t.shown;
-                    own_row = own-is ∙ t.own_row;
-                    goes_on =
-                        λ goal more j.
-                        let index : j + (i + 1) ≡ suc (j + i) = omega arith in
-                        goes-on-with st r goal more j ∙ rw (t.applies, index, add-one i) refl;
-                    marked =
-                        λ j b.
-                        elim (ℕ_discrete j i) [
-                          | yes s ↦ rw (s, new, r.at_step) t.mark
-                          | no s ↦ rw (old j (omega (arith, b, s))) (r.marked j (omega (arith, b, s)))
-                        ];
-                    done = r.done ++ own-state;
-                    count = rw (add-one i) (length-append r.done own-state ∙ omega (arith, r.count, length-map r.state flag, r.size, suc-mul i n));
-                    split =
-                        rw (add-one i)
-                        (r.split ∙ ap (λ (x : List Action). r.done ++ before_steps x r.state) (drop-action T.plan i l) ∙
-                        sym (append_assoc r.done own-state (before_steps (drop (suc i) T.plan) (step two n a r.state))));
-                    written = put ∙ rw (r.own_row, r.written, place) (sym (sets-append r.done own-state before 0));
-                  };
-            }
-
-        pub writing-stops : (e : Cases) (own-row : List ℕ) → Takes (action_at T.plan i) d (take T.facts row) e own-row None → (work' : List ℕ) (ms' : List Mark) → TakesSteps T c before e work' ms' false
-        unfolding run goes_on
-        writing-stops e own-row X work' ms' st z begin goal more k =
-            let r = W.is st z begin in
-            let so : applicable two T.facts (action_at T.plan i) r.state ≡ false = rw (← W.facts) (X r.state r.shown) in
-            rw (goes-on-with st r goal more k, so) refl
-
-      pub writing-ends : length T.plan ≤ i → TakesSteps T c before d work ms true
-      unfolding states rows
-      writing-ends l st z begin =
-          let r = W.is st z begin in
-          let k : i ≡ length T.plan = omega (arith, W.few) in
-          let none = drop_of_length-le T.plan l in
-          let last : state_at T st (length T.plan) ≡ r.state = ap (state_at T st) (sym k) ∙ r.at_step in
-          record {
-            put = r.written ∙ ap (sets before 0) (sym (r.split ∙ ap (λ (x : List Action). r.done ++ before_steps x r.state) none ∙ append-nil r.done));
-            shown = rw last r.shown;
-            marked = λ j b. r.marked j (omega (arith, b, k));
-            goes_on =
-                λ goal more j.
-                r.goes_on goal more j ∙ ap (λ (x : List Action). run two T.facts goal (x ++ more) (j + i) r.state) none ∙ rw (last, k) refl;
-          }
+    pub writing-ends : length T.plan ≤ i → TakesSteps T c before d work ms true
+    writing-ends l st z begin =
+        let k = all-steps T c before _ same i d row work W.steps l in
+        record {
+          put = W.steps.written st z begin ∙ ap (λ (m : ℕ). sets before 0 (first_rows T.facts T.plan st m)) k;
+          shown = last-shown T c before _ same i d row work W.steps l st z begin;
+          marked = λ j b. W.marked st z begin j (omega (arith, b, k));
+          goes_on = gone-through T st i d row (W.steps.gone st z begin) k;
+        }
 
 -- ---- the run
 
-end-is : (b : Bool) → is_reached (at_end b) ≡ b
-end-is true = refl
-end-is false = refl
+module _ (T : Task) (c d : Cases) (before work : List ℕ) (ms : List Mark) (X : TakesSteps T c before d work ms true) where
+  pub tells : (b : Bool) → b ≡ holds_now d T.goal → TellsReached T c b
+  tells b e st z begin = let A = X st z begin in goal-decides T st d A.shown A.goes_on b e
 
-module _ (T : Task) (c d : Cases) (before work : List ℕ) (ms : List Mark) where
-  -- a step cannot be taken
-  pub stops-short : TakesSteps T c before d work ms false → TellsReached T c false
-  stops-short X st z begin = sym (ap (λ (x : List Action). is_reached (run two T.facts T.goal x 0 st)) (sym (append-nil T.plan)) ∙ X st z begin T.goal [] 0)
-
-  pub puts-none : TakesSteps T c before d work ms false → PutsRun T c before work ms
-  puts-none X st z begin reaches = absurd (false≢true (stops-short X st z begin ∙ ap is_reached reaches))
-
-  module _ (X : TakesSteps T c before d work ms true) where
-    pub tells : (b : Bool) → b ≡ holds_now d T.goal → TellsReached T c b
-    unfolding run
-    tells b e st z begin =
-        let A = X st z begin in
-        e ∙ holds-now d (record { precondition = T.goal; effects = [] }) _ A.shown T.goal ∙
-        sym (ap (λ (x : List Action). is_reached (run two T.facts T.goal x 0 st)) (sym (append-nil T.plan)) ∙ ap is_reached (A.goes_on T.goal [] 0) ∙ end-is _)
-
-    rows-last :
-        (n : ℕ) (plan : List Action) (st : List Bool) →
-        rows (states n plan st) ≡ rows (take (length plan) (states n plan st)) ++ map flag (get_or (states n plan st) (length plan) [])
-    unfolding states rows
-    rows-last n [] st = append-nil (map flag st)
-    rows-last n (a ∷ plan) st =
-        ap (λ (x : List ℕ). map flag st ++ x) (rows-last n plan (step two n a st)) ∙
-        sym (append_assoc (map flag st) (rows (take (length plan) (states n plan (step two n a st)))) _)
-
-    pub puts :
-        (last : ℕ) → last ≡ length T.plan * T.facts → (row : List ℕ) → ((st : List Bool) → Shows d st → row ≡ map flag st) →
-        (work' : List ℕ) → work' ≡ sets work last row → PutsRun T c before work' ms
-    puts last at row R work' put st z begin reaches =
-        let A = X st z begin in
-        let n = T.facts in
-        let end' = state_at T st (length T.plan) in
-        let done = rows (take (length T.plan) (states n T.plan st)) in
-        let whole = rows-last n T.plan st in
-        let size : length (map flag end') ≡ n = length-map end' flag ∙ state-length n T.plan st z (length T.plan) (omega arith) in
-        let place : last ≡ 0 + length done =
-        omega (arith, at, length-append done (map flag end'), ap length whole, rows-length n T.plan st z, size, suc-mul (length T.plan) n)
-        in (
-          put ∙ rw (A.put, R end' A.shown, place) (sym (sets-append done (map flag end') before 0)) ∙ ap (sets before 0) (sym whole),
-          A.marked,
-        )
+  -- with the row of the last state the states of the run are all put
+  pub puts-all :
+      (last : ℕ) → last ≡ length T.plan * T.facts → (row : List ℕ) → ((st : List Bool) → Shows d st → row ≡ map flag st) →
+      (work' : List ℕ) → work' ≡ sets work last row → (st : List Bool) → length st ≡ T.facts → Shows c st →
+      (work' ≡ sets before 0 (rows (states T.facts T.plan st))) × Marked T st ms
+  puts-all last at row R work' put st z begin =
+      let A = X st z begin in
+      let all-states = states T.facts T.plan st in
+      let few : length all-states ≤ suc (length T.plan) = omega (arith, states-count T.facts T.plan st) in (
+        put ∙ row-written T.facts T.plan st z (length T.plan) last before work row (omega arith) at A.put (R _ A.shown) ∙
+            ap (λ (x : List (List Bool)). sets before 0 (rows x)) (take_all _ all-states few),
+        A.marked,
+      )
 
 -- ---- a row's place
 

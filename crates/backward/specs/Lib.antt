@@ -3,3 +3,5 @@ pub mod Facts
 pub mod Changes
 pub mod Marks
 pub mod Rows
+pub mod Kept
+pub mod Stretches

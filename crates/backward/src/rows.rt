@@ -16,7 +16,7 @@ use formula::Literal;
 use model::Problem;
 
 // The state in lane 0 becomes the row.
-fn put_row(cases: &Cases, row: &mut [u8])
+pub(crate) fn put_row(cases: &Cases, row: &mut [u8])
     requires { length row.old ≡ cases.now.facts }
     ensures { (st : List Bool) → Shows cases.now st → row.new ≡ map flag st }
 {
@@ -43,7 +43,7 @@ fn make(changes: Changes, cases: &mut Cases, row: &mut [u8])
 
 // Takes the action from the state that lane 0 and the row have, unless it is not applicable there.
 #[inline(always)]
-fn take(action: Action, cases: &mut Cases, row: &mut [u8]) -> Option<Mark>
+pub(crate) fn take(action: Action, cases: &mut Cases, row: &mut [u8]) -> Option<Mark>
     requires facts { action.effects.facts ≡ cases.old.facts }
     requires row { length row.old ≡ cases.old.facts }
     ensures facts { cases.new.facts ≡ cases.old.facts }

@@ -18,7 +18,8 @@ abbrev pub problem_words : Answer Counts → List ℕ
 problem_words (refused n q) = refusal_words n q
 problem_words (answered c) = words 1 c.facts c.actions 0 0
 
--- read_plan: steps; write_list: length written; follow_list: lines; relevant_facts: the set of start facts as a state number
+-- read_plan: steps; write_list: length written; follow_list: lines; relevant_facts and
+-- relevant_facts_sparse: the set of start facts as a state number
 abbrev pub count_words : Answer ℕ → List ℕ
 count_words (refused n q) = refusal_words n q
 count_words (answered n) = words 1 n 0 0 0

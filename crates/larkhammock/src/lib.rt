@@ -4,9 +4,9 @@
 
 ghost use Rattle.std.specs.Prelude.{◌≡◌, [], ◌∷◌, get_or};
 ghost use Rattle.model.specs.Limits.{limits_of};
-ghost use Rattle.model.specs.Answers.{part as part_of, outcome as meaning, verdict as verdict_of, search_end};
+ghost use Rattle.model.specs.Answers.{plain_answer, part as part_of, outcome as meaning, verdict as verdict_of, search_end};
 ghost use Rattle.model.specs.Faults.{fault_number};
-ghost use Rattle.model.specs.Operations.{read_problem, read_plan, run_state, judge, write_list, follow_list, relevant_facts, search_plans};
+ghost use Rattle.model.specs.Operations.{read_problem, read_plan, run_state, judge, write_list, follow_list, relevant_facts, relevant_facts_sparse, search_plans};
 ghost use Rattle.larkhammock.specs.Words.{refusal_words, part_word, part_number, end_words, wrong_words, verdict_words, problem_words, count_words, run_words, judge_words, plan_words, searched_words, search_words};
 
 use model::{Outcome, Part, Refusal, Search, ShortPlan, Verdict};
@@ -167,6 +167,16 @@ pub extern "C" fn larkhammock_follow_list(problem: &[u8], plan: &[u8], list: &[u
     }
 }
 
+// The row of a set of start facts, or of the refusal to tell it.
+fn set_row(told: Result<u64, Refusal>) -> Answer
+    ensures { result.word ≡ count_words (plain_answer told) }
+{
+    match told {
+        Err(r) => refused(r),
+        Ok(set) => row(1, set, 0, 0, 0),
+    }
+}
+
 #[unsafe(no_mangle)]
 pub extern "C" fn larkhammock_relevant_facts(
     problem: &[u8],
@@ -177,10 +187,20 @@ pub extern "C" fn larkhammock_relevant_facts(
     ensures word { result.word ≡ count_words (relevant_facts (limits_of problem.now) problem.now plan.now state work.old).answer }
     ensures buffer { work.new ≡ (relevant_facts (limits_of problem.now) problem.now plan.now state work.old).buffer }
 {
-    match relevance::relevant_facts(problem, plan, state, work) {
-        Err(r) => refused(r),
-        Ok(set) => row(1, set, 0, 0, 0),
-    }
+    set_row(relevance::relevant_facts(problem, plan, state, work))
+}
+
+#[unsafe(no_mangle)]
+pub extern "C" fn larkhammock_relevant_facts_sparse(
+    problem: &[u8],
+    plan: &[u8],
+    state: u64,
+    work: &mut [u8],
+) -> Answer
+    ensures word { result.word ≡ count_words (relevant_facts_sparse (limits_of problem.now) problem.now plan.now state work.old).answer }
+    ensures buffer { work.new ≡ (relevant_facts_sparse (limits_of problem.now) problem.now plan.now state work.old).buffer }
+{
+    set_row(relevance::relevant_facts_sparse(problem, plan, state, work))
 }
 
 // A step of a plan, or 0 past its last.

@@ -1,12 +1,17 @@
 -- What is guaranteed holds of every version whose numbers are sensible, and so of version 1. Assumes nothing.
-use Rattle.model.proofs.Words.{refl, Bool, true, false, cond, List, ℕ, length, get_or, eqb, arith, Limits, version1, version2, limits_of, block, problem, problem_of, plan, plan_of, encode_problem, encode_plan, encode_list, read_task, list_for, write_list, Sensible, AllInput, Guarantees, Theorems}
+use Rattle.model.proofs.Words.{◌≡◌, refl, Bool, true, false, cond, List, ℕ, length, get_or, eqb, arith, Limits, version1, version2, limits_of, block, problem, problem_of, plan, plan_of, encode_problem, encode_plan, encode_list, read_task, list_for, write_list, Sensible, AllInput, Guarantees, Theorems}
 use Rattle.model.specs.Answer as Answer
+use Rattle.model.specs.Answer.{answered}
+use Rattle.model.specs.Case.{Task}
+use Rattle.model.specs.Relevance.{every_row, fewer_rows}
+use Rattle.model.specs.Operations.{relevant_facts, relevant_facts_sparse}
+use Rattle.model.specs.Guarantees.{Relevance, SameFacts}
 use Rattle.model.proofs.Laws.Conflicts.{order-free-two, order-free-three}
 use Rattle.model.proofs.Laws.Reading.{answer-got}
 use Rattle.model.proofs.Laws.ProblemCodec.{problem-gives, problem-ok, plan-gives, plan-ok}
 use Rattle.model.proofs.Laws.ListCodec.{list_sound, list-ok}
 use Rattle.model.proofs.Laws.Tasks.{answer-then, task-fits}
-use Rattle.model.proofs.Laws.Tracing.{relevances, work-unchanged, run-first}
+use Rattle.model.proofs.Laws.Tracing.{every-row-keeps, fewer-rows-keep, relevances, work-unchanged, run-first, answers-alike}
 use Rattle.model.proofs.Laws.Verdicts.{kleene-sound}
 use Rattle.model.proofs.Laws.Judging.{verdicts}
 use Rattle.model.proofs.Laws.RunningEnd.{running-end}
@@ -15,7 +20,7 @@ use Rattle.model.proofs.Laws.Lists.{written-answered, refused_unchanged, wrote, 
 
 module _ (F : Limits) (S : Sensible F) where
   reading : AllInput F
-  unfolding problem_of plan_of write_list list_for read_task Answer.◌>>=◌
+  unfolding problem_of plan_of write_list list_for read_task relevant_facts relevant_facts_sparse Answer.◌>>=◌
   reading =
       record {
         problem_sound = λ s b p e. let (q, h) = answer-got (problem F s 0) e in (problem-gives F S s b).of p q h;
@@ -30,8 +35,10 @@ module _ (F : Limits) (S : Sensible F) where
             rw (problem-ok F S (encode_problem F p) p k refl, Answer.◌>>=◌, plan);
         refused_unchanged =
             λ problem plan grant out n q e. refused_unchanged F out n q (list_for F problem plan grant (length out)) e;
-        refused_work_unchanged = work-unchanged F;
-        run_refuses_first = run-first F;
+        refused_work_unchanged = work-unchanged F every_row;
+        refused_sparse_unchanged = work-unchanged F fewer_rows;
+        run_refuses_first = run-first F every_row;
+        run_refuses_sparse_first = run-first F fewer_rows;
         problem_refuses_first = problem-first F;
         rest_unchanged =
             λ problem plan grant out n e.
@@ -40,13 +47,35 @@ module _ (F : Limits) (S : Sensible F) where
             (o.inside, o.rest);
       }
 
+  relevance :
+      (problem plan : List ℕ) (T : Task) → read_task F problem plan ≡ answered T →
+      Relevance F problem plan T every_row (relevant_facts F problem plan)
+  unfolding relevant_facts
+  relevance problem plan T given =
+      let l = n≤w F S T (task-fits F problem plan T given) in
+      relevances F every_row problem plan T given l (every-row-keeps T l)
+
+  sparse-relevance :
+      (problem plan : List ℕ) (T : Task) → read_task F problem plan ≡ answered T →
+      Relevance F problem plan T fewer_rows (relevant_facts_sparse F problem plan)
+  unfolding relevant_facts_sparse
+  sparse-relevance problem plan T given =
+      let l = n≤w F S T (task-fits F problem plan T given) in
+      relevances F fewer_rows problem plan T given l (fewer-rows-keep T l)
+
+  same-facts : SameFacts F
+  unfolding relevant_facts relevant_facts_sparse
+  same-facts = answers-alike F every_row fewer_rows
+
   pub guarantees-hold : Guarantees F
   guarantees-hold =
       record {
         all_input = reading;
         verdicts = λ problem plan T given. verdicts T (n≤w F S T (task-fits F problem plan T given)) F problem plan given;
         certificates = λ problem plan T given. lists F S T (task-fits F problem plan T given) problem plan given;
-        relevance = λ problem plan T given. relevances F problem plan T given (n≤w F S T (task-fits F problem plan T given));
+        relevance = relevance;
+        sparse_relevance = sparse-relevance;
+        same_facts = same-facts;
         searching = searching F S;
       }
 

@@ -26,6 +26,7 @@ trials-hold =
       conflicts = refl;
       running_ends = refl;
       relevances = refl;
+      sparse_relevances = refl;
       searches = refl;
       versions = refl;
     }

@@ -4,7 +4,7 @@ use Rattle.model.specs.Limits.{max_formula_bytes, max_depth}
 use Rattle.model.specs.Formula.{Literal, fact, denial, Formula, Formulas, lit, all, any, none, more}
 use Rattle.model.specs.Read.{reject, Reader, ◌>>=◌, ◌>>◌, done, position, require, byte, bytes_of}
 
--- a byte below 48 is a fact, and one from 64 to 111 is the denial of the fact 64 below it: the bytes of the literals of the declared facts
+-- the byte of a declared fact is its number, and that of its denial 64 more. No version has more than 64 facts, so that no byte is both.
 unfoldable pub is_literal : ℕ → ℕ → Bool
 is_literal facts b = ltb b facts || (leb 64 b && ltb b (64 + facts))
 

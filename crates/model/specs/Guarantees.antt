@@ -12,13 +12,13 @@ use Rattle.model.specs.Run.{Outcome, reached}
 use Rattle.model.specs.Case.{bit, state_of, Task, run_of, IsState, IsStart, Right}
 use Rattle.model.specs.Belief.{Solution, initial_belief, OutcomeMeans}
 use Rattle.model.specs.Walk.{Line, covered, Verdict, right, wrong, undecided, visits, look_at, walked}
-use Rattle.model.specs.Relevance.{relevant_to, is_relevant, work_bytes, run_rows, AgreeOn}
+use Rattle.model.specs.Relevance.{relevant_to, is_relevant, AgreeOn, Layout, every_row, fewer_rows}
 use Rattle.model.specs.Search.{Search, first_right, none_right, undecided_at, visits_of, IsShort, Earlier, Enumerates}
 use Rattle.model.specs.Read.{head_bytes}
 use Rattle.model.specs.ProblemBytes.{Problem, problem_of, plan_of, encode_problem, encode_plan}
 use Rattle.model.specs.ListBytes.{list_of, encode_list}
 use Rattle.model.specs.WellFormed.{Bytes, Each, ProblemOk, PlanOk, ListOk, LineHolds, Joined}
-use Rattle.model.specs.Operations.{task_of, read_task, run_state, judge, list_bytes, write_list, follow_list, relevant_facts, plans_in, search_plans}
+use Rattle.model.specs.Operations.{task_of, read_task, run_state, judge, list_bytes, write_list, follow_list, Written, relevant_facts, relevant_facts_sparse, plans_in, search_plans}
 
 -- All input: a block that is malformed is refused, by the number and place of its first fault, and no other; and a refused call leaves every byte
 -- as it was. Which fault comes first is the text of the readers (FormulaBytes, ProblemBytes, ListBytes).
@@ -45,10 +45,16 @@ pub record AllInput (F : Limits) : Type 0 where
   pub refused_work_unchanged :
       (problem plan : List ℕ) (s : ℕ) (work : List ℕ) (n q : ℕ) →
       (relevant_facts F problem plan s work).answer ≡ refused n q → (relevant_facts F problem plan s work).buffer ≡ work
+  pub refused_sparse_unchanged :
+      (problem plan : List ℕ) (s : ℕ) (work : List ℕ) (n q : ℕ) →
+      (relevant_facts_sparse F problem plan s work).answer ≡ refused n q → (relevant_facts_sparse F problem plan s work).buffer ≡ work
   -- what the run of the state refuses is refused alike, before 41 and 42
   pub run_refuses_first :
       (problem plan : List ℕ) (s : ℕ) (work : List ℕ) (n q : ℕ) →
       run_state F problem plan s ≡ refused n q → (relevant_facts F problem plan s work).answer ≡ refused n q
+  pub run_refuses_sparse_first :
+      (problem plan : List ℕ) (s : ℕ) (work : List ℕ) (n q : ℕ) →
+      run_state F problem plan s ≡ refused n q → (relevant_facts_sparse F problem plan s work).answer ≡ refused n q
   -- what reading the problem refuses is refused alike, before 43 and 44
   pub problem_refuses_first :
       (problem : List ℕ) (longest grant n q : ℕ) → problem_of F problem ≡ refused n q → search_plans F problem longest grant ≡ refused n q
@@ -200,33 +206,40 @@ pub record Certificates (F : Limits) (problem plan : List ℕ) (T : Task) : Type
       (list : List ℕ) (m : ℕ) → follow_list F problem plan list ≡ answered m →
       lines_in F (written_list F problem plan grant out n) ≤ lines_in F list
 
--- Relevant facts, for a problem and a plan that are read as T: on which start facts a run rests
-pub record Relevance (F : Limits) (problem plan : List ℕ) (T : Task) : Type 0 where
+-- Relevant facts, for a problem and a plan that are read as T: on which start facts a run rests, by a call that lays the run out as L does
+pub record Relevance (F : Limits) (problem plan : List ℕ) (T : Task) (L : Layout) (call : ℕ → List ℕ → Written) : Type 0 where
   -- after 40, it is refused with 41 where the run does not reach the goal, and with 42 where the rows have no room; otherwise it answers
-  pub no_state : (s : ℕ) (work : List ℕ) → (IsState T s → ⊥) → (relevant_facts F problem plan s work).answer ≡ refused 40 0
-  pub not_reached :
-      (s : ℕ) (work : List ℕ) → IsState T s → run_of T s ≢ reached → (relevant_facts F problem plan s work).answer ≡ refused 41 0
+  pub no_state : (s : ℕ) (work : List ℕ) → (IsState T s → ⊥) → (call s work).answer ≡ refused 40 0
+  pub not_reached : (s : ℕ) (work : List ℕ) → IsState T s → run_of T s ≢ reached → (call s work).answer ≡ refused 41 0
   pub short_work :
-      (s : ℕ) (work : List ℕ) → IsState T s → run_of T s ≡ reached → length work < work_bytes T →
-      (relevant_facts F problem plan s work).answer ≡ refused 42 0
+      (s : ℕ) (work : List ℕ) → IsState T s → run_of T s ≡ reached → length work < L.need T → (call s work).answer ≡ refused 42 0
   pub answers :
-      (s : ℕ) (work : List ℕ) → IsState T s → run_of T s ≡ reached → work_bytes T ≤ length work →
-      (relevant_facts F problem plan s work).answer ≡ answered (relevant_to T s)
+      (s : ℕ) (work : List ℕ) → IsState T s → run_of T s ≡ reached → L.need T ≤ length work →
+      (call s work).answer ≡ answered (relevant_to T s)
   -- the set has declared facts only
-  pub is_state : (s : ℕ) (work : List ℕ) (m : ℕ) → (relevant_facts F problem plan s work).answer ≡ answered m → IsState T m
+  pub is_state : (s : ℕ) (work : List ℕ) (m : ℕ) → (call s work).answer ≡ answered m → IsState T m
   -- fact by fact: a declared fact's bit in the answer is whether the fact matters before the run
   pub each_bit :
-      (s : ℕ) (work : List ℕ) (m : ℕ) → (relevant_facts F problem plan s work).answer ≡ answered m →
+      (s : ℕ) (work : List ℕ) (m : ℕ) → (call s work).answer ≡ answered m →
       (f : ℕ) → f < T.facts → bit T.width m f ≡ is_relevant T s f
   -- from any state that has the same values of these facts the goal is reached too
   pub reached_too :
-      (s : ℕ) (work : List ℕ) (m : ℕ) → (relevant_facts F problem plan s work).answer ≡ answered m →
+      (s : ℕ) (work : List ℕ) (m : ℕ) → (call s work).answer ≡ answered m →
       (t : ℕ) → IsState T t → AgreeOn T m s t → run_state F problem plan t ≡ answered reached
-  -- the work area holds the states of the run, and past them it is unchanged
+  -- the work area holds the rows of the run, and past them it is unchanged
   pub work_holds :
-      (s : ℕ) (work : List ℕ) (m : ℕ) → (relevant_facts F problem plan s work).answer ≡ answered m →
-      (take (work_bytes T) (relevant_facts F problem plan s work).buffer ≡ run_rows T s) ×
-      (drop (work_bytes T) (relevant_facts F problem plan s work).buffer ≡ drop (work_bytes T) work)
+      (s : ℕ) (work : List ℕ) (m : ℕ) → (call s work).answer ≡ answered m →
+      (take (L.need T) (call s work).buffer ≡ L.laid_out T s) × (drop (L.need T) (call s work).buffer ≡ drop (L.need T) work)
+
+-- the work area holds what the layout needs for the task that the problem and the plan are read as, if they are read
+abbrev pub Fits : Limits → List ℕ → List ℕ → Layout → List ℕ → Type 0
+Fits F problem plan L work = (T : Task) → read_task F problem plan ≡ answered T → L.need T ≤ length work
+
+-- same facts theorem: whatever the bytes are, the two calls answer alike where each work area is long enough, with the same set or the same refusal
+abbrev pub SameFacts : Limits → Type 0
+SameFacts F =
+    (problem plan : List ℕ) (s : ℕ) (work few : List ℕ) → Fits F problem plan every_row work → Fits F problem plan fewer_rows few →
+    (relevant_facts_sparse F problem plan s few).answer ≡ (relevant_facts F problem plan s work).answer
 
 -- the plan p, which makes a task, is not right
 abbrev pub NotRight : (List ℕ → Task) → List ℕ → Type 0
@@ -303,5 +316,11 @@ pub record Guarantees (F : Limits) : Type 0 where
   pub all_input : AllInput F
   pub verdicts : (problem plan : List ℕ) (T : Task) → read_task F problem plan ≡ answered T → Verdicts F problem plan T
   pub certificates : (problem plan : List ℕ) (T : Task) → read_task F problem plan ≡ answered T → Certificates F problem plan T
-  pub relevance : (problem plan : List ℕ) (T : Task) → read_task F problem plan ≡ answered T → Relevance F problem plan T
+  pub relevance :
+      (problem plan : List ℕ) (T : Task) → read_task F problem plan ≡ answered T →
+      Relevance F problem plan T every_row (relevant_facts F problem plan)
+  pub sparse_relevance :
+      (problem plan : List ℕ) (T : Task) → read_task F problem plan ≡ answered T →
+      Relevance F problem plan T fewer_rows (relevant_facts_sparse F problem plan)
+  pub same_facts : SameFacts F
   pub searching : (problem : List ℕ) (p : Problem) → problem_of F problem ≡ answered p → Searching F problem p

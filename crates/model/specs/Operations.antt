@@ -9,7 +9,7 @@ use Rattle.model.specs.Case.{Task, run_of}
 use Rattle.model.specs.Walk.{Line, Verdict, right, wrong, undecided, look_at, judged}
 use Rattle.model.specs.CaseList.{follow}
 use Rattle.model.specs.Cover.{cover_end}
-use Rattle.model.specs.Relevance.{relevant_to, work_bytes, run_rows}
+use Rattle.model.specs.Relevance.{relevant_to, Layout, every_row, fewer_rows}
 use Rattle.model.specs.Search.{Search, plans_up_to, plan_count, search}
 use Rattle.model.specs.Read.{head_bytes}
 use Rattle.model.specs.ProblemBytes.{Problem, problem_of, plan_of, action_at}
@@ -35,9 +35,9 @@ when_reached missed x = refused 41 0
 when_reached (blocked p) x = refused 41 0
 
 -- the set of facts that the run of the state s rests on, and what the work area holds then
-abbrev pub traced_back : ℕ → List ℕ → Answer Task → Written
-traced_back s work (refused n q) = record { answer = refused n q; buffer = work }
-traced_back s work (answered T) = record { answer = answered (relevant_to T s); buffer = run_rows T s ++ drop (work_bytes T) work }
+abbrev pub traced_back : Layout → ℕ → List ℕ → Answer Task → Written
+traced_back L s work (refused n q) = record { answer = refused n q; buffer = work }
+traced_back L s work (answered T) = record { answer = answered (relevant_to T s); buffer = L.laid_out T s ++ drop (L.need T) work }
 
 -- 43 for a length over 4, and then 44 for more than 1,000,000 plans
 abbrev pub when_few : {A : Type 0} → ℕ → ℕ → Answer A → Answer A
@@ -136,18 +136,22 @@ module _ (F : Limits) where
     ls ← list_of F list
     cover_end T.width (look_at T) T.facts (take lines ls) 0 0
 
-  -- what the run of the state s refuses; 41 where it does not reach the goal; 42 where a work area of that length does not hold its rows; else the
-  -- task
-  unfoldable pub reached_task : List ℕ → List ℕ → ℕ → ℕ → Answer Task
-  reached_task problem plan s room = do
+  -- what the run of the state s refuses; 41 where it does not reach the goal; 42 where a work area of that length is short of what the layout needs;
+  -- else the task
+  unfoldable pub reached_task : Layout → List ℕ → List ℕ → ℕ → ℕ → Answer Task
+  reached_task L problem plan s room = do
     T ← read_task problem plan
     o ← state_answer T s
-    when_reached o (cond (ltb room (work_bytes T)) (refused 42 0) (answered T))
+    when_reached o (cond (ltb room (L.need T)) (refused 42 0) (answered T))
 
   -- tell relevant facts: the set as the number of a state, with the states of the run in the first rows of the work area, and the rest of it as it
   -- was. A refusal changes none of it.
   unfoldable pub relevant_facts : List ℕ → List ℕ → ℕ → List ℕ → Written
-  relevant_facts problem plan s work = traced_back s work (reached_task problem plan s (length work))
+  relevant_facts problem plan s work = traced_back every_row s work (reached_task every_row problem plan s (length work))
+
+  -- tell relevant facts sparsely: the same, with every 16th state of the run and its first 16 in the work area
+  unfoldable pub relevant_facts_sparse : List ℕ → List ℕ → ℕ → List ℕ → Written
+  relevant_facts_sparse problem plan s work = traced_back fewer_rows s work (reached_task fewer_rows problem plan s (length work))
 
   -- search plans: the problem's refusals, 43, 44, and else what the search finds
   unfoldable pub search_plans : List ℕ → ℕ → ℕ → Answer Search

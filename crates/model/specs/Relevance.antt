@@ -1,6 +1,6 @@
 -- On which start facts a run rests, found by going backward over its steps. A set of facts has a value for each fact, fact 0 first: whether it is
 -- a member.
-use Rattle.std.specs.Prelude.{◌≡◌, Bool, true, false, cond, ◌&&◌, ◌||◌, List, [], ◌∷◌, ◌++◌, map, ℕ, zero, suc, ◌+◌, ◌-◌, ◌*◌, ◌^◌, ◌<◌, length, get_or, eqb}
+use Rattle.std.specs.Prelude.{◌≡◌, Bool, true, false, cond, ◌&&◌, ◌||◌, List, [], ◌∷◌, ◌++◌, map, ℕ, zero, suc, ◌+◌, ◌-◌, ◌*◌, ◌/◌, ◌^◌, ◌<◌, length, get_or, take, replicate, eqb}
 use Rattle.model.specs.Kleene.{two}
 use Rattle.model.specs.Formula.{Literal, fact, denial, Formula, Formulas, lit, all, any, none, more}
 use Rattle.model.specs.Action.{Effect, Action, same_literal, condition_of, tabulate, sets, step}
@@ -83,6 +83,14 @@ unfoldable pub rows : List (List Bool) → List ℕ
 rows [] = []
 rows (c ∷ cs) = map flag c ++ rows cs
 
+-- a stretch is the steps from a row that is kept to the next
+abbrev pub stretch : ℕ
+stretch = 16
+
+-- bytes, and zeros after them up to a length
+abbrev pub padded : ℕ → List ℕ → List ℕ
+padded n bytes = bytes ++ replicate (n - length bytes) 0
+
 module _ (T : Task) where
   -- relevant set: the start facts that matter before the run of the state numbered s
   unfoldable pub relevant_to : ℕ → ℕ
@@ -92,12 +100,28 @@ module _ (T : Task) where
   abbrev pub is_relevant : ℕ → ℕ → Bool
   is_relevant s f = get_or (relevant T.facts T.goal T.plan (state_of T.width T.facts s)) f false
 
+  -- the states of the run of the state numbered s
+  abbrev pub run_states : ℕ → List (List Bool)
+  run_states s = states T.facts T.plan (state_of T.width T.facts s)
+
   -- the bytes that the rows need, one row for each state of the run, and what stands there after the call
   abbrev pub work_bytes : ℕ
   work_bytes = suc (length T.plan) * T.facts
 
   unfoldable pub run_rows : ℕ → List ℕ
-  run_rows s = rows (states T.facts T.plan (state_of T.width T.facts s))
+  run_rows s = rows (run_states s)
+
+  -- sparse rows: a row for every 16th state of the run, and 16 rows for the stretch from one such state to the next
+  abbrev pub sparse_bytes : ℕ
+  sparse_bytes = (length T.plan / stretch + 1 + stretch) * T.facts
+
+  -- the states numbered 0, 16, 32, .. of the run, up to the last such
+  abbrev pub kept_states : ℕ → List (List Bool)
+  kept_states s = tabulate (length T.plan / stretch + 1) (λ i. get_or (run_states s) (stretch * i) [])
+
+  -- what stands there after the call: the kept states, then the run's first 16, or all where it has fewer, and zeros from there on
+  unfoldable pub sparse_rows : ℕ → List ℕ
+  sparse_rows s = padded sparse_bytes (rows (kept_states s ++ take stretch (run_states s)))
 
   -- the states numbered s and t agree on the set numbered m
   abbrev pub AgreeOn : ℕ → ℕ → ℕ → Type 0
@@ -111,3 +135,14 @@ module _ (T : Task) where
     pub each_bit : (s f : ℕ) → f < T.facts → bit T.width (relevant_to s) f ≡ is_relevant s f
     -- from any state that has the same values of these facts the goal is reached too
     pub reached_too : (s : ℕ) → run_of T s ≡ reached → (t : ℕ) → AgreeOn (relevant_to s) s t → run_of T t ≡ reached
+
+-- how a call lays a run out in its work area: the bytes that it needs, and what stands in them after the call
+pub record Layout : Type 0 where
+  pub need : Task → ℕ
+  pub laid_out : Task → ℕ → List ℕ
+
+abbrev pub every_row : Layout
+every_row = record { need = work_bytes; laid_out = run_rows }
+
+abbrev pub fewer_rows : Layout
+fewer_rows = record { need = sparse_bytes; laid_out = sparse_rows }

@@ -13,7 +13,7 @@ use Rattle.model.specs.Answer as Answer
 use Rattle.model.specs.Answer.{Answer, refused, answered}
 use Rattle.model.specs.CaseList.{first, refuse_at, ends, fault, follow}
 use Rattle.model.specs.Cover.{cover_end}
-use Rattle.model.specs.Relevance.{names, some, has_entry, matters_before, relevant, states, number_of, rows, relevant_to, run_rows}
+use Rattle.model.specs.Relevance.{names, some, has_entry, matters_before, relevant, states, number_of, rows, relevant_to, run_rows, sparse_rows}
 use Rattle.model.specs.Search.{Search, first_right, none_right, undecided_at, each_step, plans_of, plans_from, plans_up_to, plan_count, search}
 use Rattle.model.specs.Read.{and_then, ◌>>=◌, ◌>>◌, done, position, require, answer_of, big_endian_from, bytes_of, block, byte, counted, of_version, header, count}
 use Rattle.model.specs.FormulaBytes.{is_literal, literal_of, group_head, head_from, head, members, whole, item, stated, formula}
@@ -22,7 +22,7 @@ use Rattle.model.specs.ListBytes.{line_at, lines_from, of_the_problem, case_list
 use Rattle.model.specs.Text.{hex}
 use Rattle.model.specs.DeskText.{marks, verdict_line, lines_text, list_text, verdict_rest, answer_line, answer_rest, first_line, later_lines, desk_text}
 use Rattle.model.specs.declared.Counts.{Counts}
-use Rattle.model.specs.Operations.{Written, is_state_number, line_count, read_problem, read_plan, task_of, read_task, run_state, judge, list_bytes, lines_for, written, list_for, write_list, follow_list, cover_after, reached_task, relevant_facts, search_plans}
+use Rattle.model.specs.Operations.{Written, is_state_number, line_count, read_problem, read_plan, task_of, read_task, run_state, judge, list_bytes, lines_for, written, list_for, write_list, follow_list, cover_after, reached_task, relevant_facts, relevant_facts_sparse, search_plans}
 
 pub data Call : Type 0 where
   read-problem : List ℕ → Call
@@ -33,6 +33,7 @@ pub data Call : Type 0 where
   follow-list : List ℕ → List ℕ → List ℕ → Call
   cover-after : List ℕ → List ℕ → List ℕ → ℕ → Call
   relevant-facts : List ℕ → List ℕ → ℕ → List ℕ → Call
+  relevant-facts-sparse : List ℕ → List ℕ → ℕ → List ℕ → Call
   search-plans : List ℕ → ℕ → ℕ → Call
   desk : Limits → List ℕ → List ℕ → Call
 
@@ -47,7 +48,7 @@ pub data Reply : Type 0 where
 
 -- what the definitions give; a proof that unfolds this computes with all of them
 unfoldable pub reply : Call → Reply
-unfolding eval condition_in every exclusive applicable next step first_false unmet lowest_false part_of goes_on run bit state_of case_of run_of walk_from walk look_at walked judged Answer.◌>>=◌ first refuse_at ends fault follow cover_end and_then ◌>>=◌ ◌>>◌ done position require answer_of big_endian_from bytes_of block byte counted of_version header count is_literal literal_of group_head head_from head members whole item stated formula effect effects effect_list action actions ending parts body problem problem_of steps plan plan_of action_at line_at lines_from of_the_problem case_list list_of line_bytes lines_bytes encode_list is_state_number read_problem read_plan task_of read_task run_state judge list_bytes lines_for written list_for write_list follow_list cover_after names some has_entry matters_before relevant states number_of rows relevant_to run_rows reached_task relevant_facts each_step plans_of plans_from plans_up_to plan_count search search_plans hex digits marks lines_text list_text verdict_rest answer_line answer_rest first_line later_lines desk_text
+unfolding eval condition_in every exclusive applicable next step first_false unmet lowest_false part_of goes_on run bit state_of case_of run_of walk_from walk look_at walked judged Answer.◌>>=◌ first refuse_at ends fault follow cover_end and_then ◌>>=◌ ◌>>◌ done position require answer_of big_endian_from bytes_of block byte counted of_version header count is_literal literal_of group_head head_from head members whole item stated formula effect effects effect_list action actions ending parts body problem problem_of steps plan plan_of action_at line_at lines_from of_the_problem case_list list_of line_bytes lines_bytes encode_list is_state_number read_problem read_plan task_of read_task run_state judge list_bytes lines_for written list_for write_list follow_list cover_after names some has_entry matters_before relevant states number_of rows relevant_to run_rows sparse_rows reached_task relevant_facts relevant_facts_sparse each_step plans_of plans_from plans_up_to plan_count search search_plans hex digits marks lines_text list_text verdict_rest answer_line answer_rest first_line later_lines desk_text
 reply (read-problem p) = counts (read_problem (limits_of p) p)
 reply (read-plan p q) = number (read_plan (limits_of p) p q)
 reply (run-state p q s) = outcome (run_state (limits_of p) p q s)
@@ -56,6 +57,7 @@ reply (write-list F p q g out) = writes (write_list F p q g out)
 reply (follow-list p q l) = number (follow_list (limits_of p) p q l)
 reply (cover-after p q l m) = number (cover_after (limits_of p) p q l m)
 reply (relevant-facts p q s work) = writes (relevant_facts (limits_of p) p q s work)
+reply (relevant-facts-sparse p q s work) = writes (relevant_facts_sparse (limits_of p) p q s work)
 reply (search-plans p l g) = searched (search_plans (limits_of p) p l g)
 reply (desk F p q) = text (desk_text F p q)
 
@@ -537,6 +539,35 @@ relevances =
     ∷ (relevant-facts resting (block1 (0 ∷ [])) 0x080000000000 (replicate 7 7) ⇒ kept 40 0 (replicate 7 7))
     ∷ (relevant-facts resting (block1 (5 ∷ [])) 0x080000000000 (replicate 7 7) ⇒ kept 34 5 (replicate 7 7))
     ∷ (relevant-facts [] [] 0 (7 ∷ []) ⇒ kept 11 0 (7 ∷ []))
+    ∷ []
+
+-- so many rows of one state
+abbrev rows_of : ℕ → List ℕ → List ℕ
+rows_of zero row = []
+rows_of (suc n) row = row ++ rows_of n row
+
+-- what both layouts of a run over `resting` have of 15 times action 0 from 1000
+abbrev first_16 : List ℕ
+first_16 = hex "01000000" ++ rows_of 15 (hex "01010000")
+
+-- relevant facts from fewer rows: no step, 2, 15, 16, 17 and 32 of them, with rows that are free, one that is kept and changed by a step before it,
+-- and three that are kept. Work areas that are longer, exact and one byte short (42), among them one that suffices for every row; a run that is
+-- missed (41, before 42); and what comes first.
+abbrev pub sparse_relevances : List Row
+sparse_relevances =
+    (relevant-facts-sparse resting no_step 0x500000000000 (replicate 69 7) ⇒ wrote 0x400000000000 (hex "00010001 00010001" ++ replicate 60 0 ++ (7 ∷ [])))
+    ∷ (relevant-facts-sparse resting (block1 (4 ∷ 1 ∷ [])) 0 (replicate 68 7) ⇒ wrote 0xa00000000000 (hex "00000000 00000000 00010000 00010000" ++ replicate 52 0))
+    ∷ (relevant-facts-sparse resting (block1 (replicate 15 0)) 0x800000000000 (replicate 69 7) ⇒ wrote 0x800000000000 (hex "01000000" ++ first_16 ++ (7 ∷ [])))
+    ∷ (relevant-facts-sparse resting (block1 (replicate 15 0 ++ (2 ∷ []))) 0x800000000000 (replicate 73 7) ⇒ wrote 0x900000000000 (hex "01000000 01010100" ++ first_16 ++ (7 ∷ [])))
+    ∷ (relevant-facts-sparse resting (block1 (replicate 15 0 ++ (2 ∷ 0 ∷ []))) 0x800000000000 (replicate 72 7) ⇒ wrote 0x900000000000 (hex "01000000 01010100" ++ first_16))
+    ∷ (relevant-facts-sparse resting (block1 (replicate 15 0 ++ (2 ∷ replicate 16 0))) 0x800000000000 (replicate 76 7) ⇒ wrote 0x900000000000 (hex "01000000 01010100 01010100" ++ first_16))
+    ∷ (relevant-facts-sparse P2 both_steps 0x4000000000000000 (replicate 51 7) ⇒ wrote 0x4000000000000000 (hex "000100 000100 000100 000101" ++ replicate 39 0))
+    ∷ (relevant-facts-sparse resting no_step 0x400000000000 (replicate 67 7) ⇒ kept 42 0 (replicate 67 7))
+    ∷ (relevant-facts-sparse resting (block1 (replicate 15 0 ++ (2 ∷ []))) 0x800000000000 (replicate 71 7) ⇒ kept 42 0 (replicate 71 7))
+    ∷ (relevant-facts-sparse resting (block1 (0 ∷ [])) 0 (replicate 67 7) ⇒ kept 41 0 (replicate 67 7))
+    ∷ (relevant-facts-sparse resting (block1 (0 ∷ [])) 0x080000000000 (replicate 67 7) ⇒ kept 40 0 (replicate 67 7))
+    ∷ (relevant-facts-sparse resting (block1 (5 ∷ [])) 0x080000000000 (replicate 67 7) ⇒ kept 34 5 (replicate 67 7))
+    ∷ (relevant-facts-sparse [] [] 0 (7 ∷ []) ⇒ kept 11 0 (7 ∷ []))
     ∷ []
 
 -- so many actions with precondition fact 0 and no effect

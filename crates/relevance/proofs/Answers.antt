@@ -1,76 +1,66 @@
 -- What is refused, and what is answered of a task that was read. Assumes nothing.
-use Rattle.std.proofs.Common.{◌≡◌, refl, sym, ap, ap₂, subst, ◌∙◌, Bool, true, false, cond, List, ◌++◌, ℕ, suc, ◌+◌, ◌*◌, ◌≤◌, ◌<◌, mul-le-mul_left, mul-le-mul_right, le_trans, arith, length, take, drop, take_at, ltb, Result, Ok, Err, ltb-false}
+use Rattle.std.proofs.Common.{◌≡◌, refl, sym, ap, ap₂, subst, ◌∙◌, Bool, false, cond, List, ◌++◌, ℕ, suc, ◌+◌, ◌*◌, ◌≤◌, ◌<◌, mul-le-mul_left, mul-le-mul_right, le_trans, arith, length, take, drop, take_at, ltb, Result, Ok, Err, ltb-false}
 use lib.Seq.{sets-eq}
-use Rattle.model.specs.declared.Refusal.{Refusal}
-use Rattle.model.specs.Faults.{fault_number}
-use Rattle.model.specs.Limits.{limits_of, max_facts, max_steps}
+use Rattle.model.specs.{declared.Refusal.Refusal, Faults.fault_number, Limits.limits_of, Limits.max_facts, Limits.max_steps, Answer.Answer, Answer.refused, Answer.answered}
+use Rattle.model.specs.{Answers.refusal, Answers.plain_answer, Kleene.two, Run.run, Case.state_of, Case.Task, Case.run_of, Action.tabulate}
+use Rattle.model.specs.Relevance.{names, relevant, states, rows, number_of, relevant_to, work_bytes, run_rows, Layout, every_row}
+use Rattle.model.specs.Operations.{when_reached, read_task, reached_task}
 use Rattle.model.specs.Answer as Answer
-use Rattle.model.specs.Answer.{Answer, refused, answered}
-use Rattle.model.specs.Answers.{refusal, plain_answer}
 use Rattle.model.specs.Run as Run
-use Rattle.model.specs.Run.{run}
-use Rattle.model.specs.Case.{state_of, Task, run_of}
-use Rattle.model.specs.Action.{tabulate}
-use Rattle.model.specs.Relevance.{names, relevant, states, rows, number_of, relevant_to, work_bytes, run_rows}
-use Rattle.model.specs.Operations.{when_reached, read_task, reached_task, relevant_facts}
-use Rattle.model.proofs.Laws.Relevance.{relevant-length, start-length}
-use Rattle.model.proofs.Laws.Tabulate.{length-tabulate}
-use Rattle.model.proofs.Laws.Tracing.{rows-length}
+use Rattle.model.proofs.{Laws.Relevance.relevant-length, Laws.Relevance.start-length, Laws.Tabulate.length-tabulate, Laws.Tracing.call, Laws.Tracing.rows-length}
 use Rattle.blocks.specs.declared.problem.Problem as problems
 use Rattle.blocks.specs.declared.task.Task as tasks
 use Rattle.blocks.specs.Values.{task}
 use Rattle.blocks.proofs.Tasks.{task-facts, plan-length}
 use Rattle.cases.specs.declared.cases.Cases.{Cases}
-use Rattle.backward.specs.declared.facts.FactSet.{FactSet}
-use Rattle.backward.specs.declared.matters.Mark.{Mark}
-use Rattle.backward.specs.Facts.{has_fact, HasFacts}
-use Rattle.backward.specs.Marks.{WithinTask, TracesBack}
-use Rattle.backward.specs.Rows.{Shows, PutsRun}
+use Rattle.backward.specs.{declared.facts.FactSet.FactSet, declared.matters.Mark.Mark, Facts.has_fact, Facts.HasFacts, Marks.WithinTask, Marks.TracesBack}
+use Rattle.backward.specs.Rows.{Shows, PutsRun, TellsReached, is_reached as ends-reached}
 use Rattle.backward.proofs.Tracing.{by-rule, relevant-is}
 use Rattle.runs.specs.States.{HasState, StateOf}
 use Rattle.runs.proofs.States.{case-known}
-use Rattle.relevance.specs.Tracing.{ChecksRun, ChecksRoom, TracesMarks}
+use Rattle.relevance.specs.Tracing.{ChecksReached, ChecksRun, ChecksRoom, TracesMarks}
 
 -- ---- the operation
 
--- what a call answers and leaves
-abbrev pub Leaves : List ℕ → List ℕ → ℕ → List ℕ → Answer ℕ → List ℕ → Type 0
-Leaves problem plan s before a after = (a ≡ (relevant_facts (limits_of problem) problem plan s before).answer) × (after ≡ (relevant_facts (limits_of problem) problem plan s before).buffer)
+-- what a call that lays a run out as L does answers and leaves
+abbrev pub Leaves : Layout → List ℕ → List ℕ → ℕ → List ℕ → Answer ℕ → List ℕ → Type 0
+Leaves L problem plan s before a after =
+    let w = call (limits_of problem) L problem plan s before in (a ≡ w.answer) × (after ≡ w.buffer)
 
 leaves-refused :
-    (problem plan : List ℕ) (s : ℕ) (before : List ℕ) (n q : ℕ) → reached_task (limits_of problem) problem plan s (length before) ≡ refused n q →
-    Leaves problem plan s before (refused n q) before
-unfolding relevant_facts
-leaves-refused problem plan s before n q e = rw e (refl, refl)
+    (L : Layout) (problem plan : List ℕ) (s : ℕ) (before : List ℕ) (n q : ℕ) → reached_task (limits_of problem) L problem plan s (length before) ≡ refused n q →
+    Leaves L problem plan s before (refused n q) before
+leaves-refused L problem plan s before n q e = rw e (refl, refl)
 
 pub relevant-refused :
-    (problem plan : List ℕ) (y : Refusal) → read_task (limits_of problem) problem plan ≡ refusal y → (s : ℕ) (before : List ℕ) →
-    Leaves problem plan s before (refusal y) before
+    (L : Layout) (problem plan : List ℕ) (y : Refusal) → read_task (limits_of problem) problem plan ≡ refusal y → (s : ℕ) (before : List ℕ) →
+    Leaves L problem plan s before (refusal y) before
 unfolding reached_task Answer.◌>>=◌
-relevant-refused problem plan y e s before = leaves-refused problem plan s before (fault_number y.fault) y.place (rw e)
+relevant-refused L problem plan y e s before = leaves-refused L problem plan s before (fault_number y.fault) y.place (rw e)
 
 -- a run that is not reached, and one that is
 abbrev passed : Answer (Unit {0})
 passed = answered tt
 
 not-reached : {A : Type 0} (o : Run.Outcome) (n q : ℕ) → refused n q ≡ when_reached o passed → (x : Answer A) → when_reached o x ≡ refused n q
-not-reached Run.reached n q e x = cc
-not-reached Run.missed n q e x = let i : n ≡ 41 = cc in let k : q ≡ 0 = cc in rw (i, k) refl
-not-reached (Run.blocked p) n q e x = let i : n ≡ 41 = cc in let k : q ≡ 0 = cc in rw (i, k) refl
+not-reached o n q e x = grind arith
 
 -- and so it is of the room
 too-short : {A : Type 0} (b : Bool) (n q : ℕ) → refused n q ≡ cond b (refused 42 0) passed → (x : Answer A) → cond b (refused 42 0) x ≡ refused n q
-too-short true n q e x = let i : n ≡ 42 = cc in let k : q ≡ 0 = cc in rw (i, k) refl
-too-short false n q e x = cc
+too-short b n q e x = grind arith
 
 has-room : {A : Type 0} (b : Bool) → passed ≡ cond b (refused 42 0) passed → (x : Answer A) → cond b (refused 42 0) x ≡ x
-has-room true e x = cc
-has-room false e x = refl
+has-room b e x = grind arith
+
+pub checks-run :
+    (T : Task) (c : Cases) (b : Bool) → TellsReached T c b → (r : Result (Unit {0}) Refusal) → ChecksReached b r → ChecksRun T c r
+checks-run T c b tells r C st size shown = C ∙ by-end (run two T.facts T.goal T.plan 0 st) b (tells st size shown)
+  where
+    by-end : (o : Run.Outcome) (b : Bool) → b ≡ ends-reached o → cond b passed (refused 41 0) ≡ when_reached o passed
+    by-end o b e = grind arith
 
 is-reached : (o : Run.Outcome) → passed ≡ when_reached o passed → o ≡ Run.reached
-is-reached Run.reached e = refl
-is-reached Run.missed e = cc
-is-reached (Run.blocked p) e = cc
+is-reached o e = grind arith
 
 -- ---- what a run that is reached is answered with
 
@@ -85,15 +75,15 @@ traces-marks T n≤w ms after set G B r N within st size marked =
     (subst (HasFacts set) (sym (relevant-is n T.goal T.plan st)) (B within st size marked (tabulate n (names T.goal)) (length-tabulate n (names T.goal)) goal-set))
 
 -- the set of facts that the run of the state in lane 0 rests on, and the work area after it, if the run is reached
-abbrev TracesTask : Task → Cases → List ℕ → ℕ → List ℕ → Type 0
-TracesTask T c before r after =
-    (s : ℕ) → Shows c (state_of T.width T.facts s) → run_of T s ≡ Run.reached → (r ≡ relevant_to T s) × (after ≡ run_rows T s ++ drop (work_bytes T) before)
+abbrev pub TracesTask : Layout → Task → Cases → List ℕ → ℕ → List ℕ → Type 0
+TracesTask L T c before r after =
+    (s : ℕ) → Shows c (state_of T.width T.facts s) → run_of T s ≡ Run.reached → (r ≡ relevant_to T s) × (after ≡ L.laid_out T s ++ drop (L.need T) before)
 
 -- the run of a state, written down, copied and gone through backward
 module _ (T : Task) (n≤w : T.facts ≤ T.width) (within : WithinTask T) (c : Cases) (blank rows' : List ℕ) (ms : List Mark) (fits : work_bytes T ≤ length blank)
     (P : PutsRun T c blank rows' ms) (r : ℕ) (B : TracesMarks T ms r) (before part : List ℕ) (need : ℕ)
     (need-is : need ≡ work_bytes T) (copied : part ≡ take need rows') where
-  pub traces-task : TracesTask T c before r (part ++ drop need before)
+  pub traces-task : TracesTask every_row T c before r (part ++ drop need before)
   unfolding relevant_to run_rows run_of
   traces-task s shown reaches =
       let st = state_of T.width T.facts s in
@@ -106,19 +96,19 @@ module _ (T : Task) (n≤w : T.facts ≤ T.width) (within : WithinTask T) (c : C
 
 -- ---- the answer of a task that was read
 
-module _ (problem plan : List ℕ) (T : Task) (read : read_task (limits_of problem) problem plan ≡ answered T) (s : ℕ) (before : List ℕ) where
+module _ (L : Layout) (problem plan : List ℕ) (T : Task) (read : read_task (limits_of problem) problem plan ≡ answered T) (s : ℕ) (before : List ℕ) where
   abbrev room : ℕ
   room = length before
 
-  pub relevant-no-state : (y : Refusal) → StateOf T s (Err y) → Leaves problem plan s before (refusal y) before
+  pub relevant-no-state : (y : Refusal) → StateOf T s (Err y) → Leaves L problem plan s before (refusal y) before
   unfolding reached_task Answer.◌>>=◌
-  relevant-no-state y (none, e) = leaves-refused problem plan s before (fault_number y.fault) y.place (rw (read, none, e) refl)
+  relevant-no-state y (none, e) = leaves-refused L problem plan s before (fault_number y.fault) y.place (rw (read, none, e) refl)
 
   module _ (n≤w : T.facts ≤ T.width) (c : Cases) (H : HasState T s c) where
     shows : Shows c (state_of T.width T.facts s)
     shows = H.cases 0 (omega arith) ∙ case-known T.width T.facts s
 
-    checked : reached_task (limits_of problem) problem plan s room ≡ when_reached (run_of T s) (cond (ltb room (work_bytes T)) (refused 42 0) (answered T))
+    checked : reached_task (limits_of problem) L problem plan s room ≡ when_reached (run_of T s) (cond (ltb room (L.need T)) (refused 42 0) (answered T))
     unfolding reached_task Answer.◌>>=◌
     checked = rw (read, H.is) refl
 
@@ -126,28 +116,30 @@ module _ (problem plan : List ℕ) (T : Task) (read : read_task (limits_of probl
     unfolding run_of
     ran r R = R (state_of T.width T.facts s) (start-length T n≤w s) shows
 
-    pub relevant-unrun : (y : Refusal) → ChecksRun T c (Err y) → Leaves problem plan s before (refusal y) before
+    pub relevant-unrun : (y : Refusal) → ChecksRun T c (Err y) → Leaves L problem plan s before (refusal y) before
     relevant-unrun y R =
-        leaves-refused problem plan s before (fault_number y.fault) y.place (checked ∙ not-reached (run_of T s) (fault_number y.fault) y.place (ran (Err y) R) _)
+        leaves-refused L problem plan s before (fault_number y.fault) y.place (checked ∙ not-reached (run_of T s) (fault_number y.fault) y.place (ran (Err y) R) _)
 
     module _ (u : Unit {0}) (R : ChecksRun T c (Ok u)) where
       reaches : run_of T s ≡ Run.reached
       reaches = is-reached (run_of T s) (ran (Ok u) R)
 
-      module _ (need : ℕ) (need-is : need ≡ work_bytes T) where
-        tests-room : reached_task (limits_of problem) problem plan s room ≡ cond (ltb room need) (refused 42 0) (answered T)
+      module _ (need : ℕ) (need-is : need ≡ L.need T) where
+        tests-room : reached_task (limits_of problem) L problem plan s room ≡ cond (ltb room need) (refused 42 0) (answered T)
         tests-room = checked ∙ rw (reaches, need-is) refl
 
-        pub relevant-short : (y : Refusal) → ChecksRoom need room (Err y) → Leaves problem plan s before (refusal y) before
-        relevant-short y C = leaves-refused problem plan s before (fault_number y.fault) y.place (tests-room ∙ too-short (ltb room need) (fault_number y.fault) y.place C (answered T))
+        pub relevant-short : (y : Refusal) → ChecksRoom need room (Err y) → Leaves L problem plan s before (refusal y) before
+        relevant-short y C = leaves-refused L problem plan s before (fault_number y.fault) y.place (tests-room ∙ too-short (ltb room need) (fault_number y.fault) y.place C (answered T))
 
-        pub relevant-found : (v : Unit {0}) → ChecksRoom need room (Ok v) → (m : ℕ) (after : List ℕ) → TracesTask T c before m after → Leaves problem plan s before (answered m) after
-        unfolding relevant_facts
+        pub relevant-found : (v : Unit {0}) → ChecksRoom need room (Ok v) → (m : ℕ) (after : List ℕ) → TracesTask L T c before m after → Leaves L problem plan s before (answered m) after
         relevant-found v C m after X =
             let (i, k) = X s shows reaches in
             rw (tests-room ∙ has-room (ltb room need) C (answered T)) (ap answered i, k)
 
 -- ---- a task of a problem, and the bytes that its rows need
+
+pub fits-room : (need room : ℕ) → ChecksRoom need room (Ok tt) → need ≤ room
+fits-room need room C = let room-is : ltb room need ≡ false = grind arith in ltb-false room need room-is
 
 module _ (t : tasks.Task) (p : problems.Problem) (e : t.problem.now ≡ p) where
   pub facts-is : p.facts ≡ (task t).facts
@@ -166,10 +158,4 @@ module _ (t : tasks.Task) (p : problems.Problem) (e : t.problem.now ≡ p) where
       le_trans (mul-le-mul_right p.facts a) (mul-le-mul_left 257 few)
 
   pub has-rows : (room : ℕ) → ChecksRoom ((length t.steps.now + 1) * p.facts) room (Ok tt) → suc (length t.steps.now) * p.facts ≤ room
-  has-rows room C =
-      let k : length t.steps.now + 1 ≡ suc (length t.steps.now) = omega arith in
-      rw (← k) (ltb-false room _ (not-short (ltb room ((length t.steps.now + 1) * p.facts)) C))
-    where
-      not-short : (b : Bool) → passed ≡ cond b (refused 42 0) passed → b ≡ false
-      not-short true e = cc
-      not-short false e = refl
+  has-rows room C = let k : length t.steps.now + 1 ≡ suc (length t.steps.now) = omega arith in rw (← k) (fits-room _ room C)

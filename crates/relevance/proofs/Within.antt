@@ -2,20 +2,13 @@
 use Rattle.std.proofs.Common.{◌≡◌, sym, subst, Bool, true, false, cond, inl, inr, List, [], ◌∷◌, ℕ, zero, suc, ◌+◌, ◌≤◌, ◌<◌, arith, length, get_or, eqb-true}
 use mathlib.Core.Bool.{false≢true}
 use lib.ListN.{length-map}
-use Rattle.model.specs.declared.Limits.{Limits}
-use Rattle.model.specs.Limits.{limits_of, max_depth, max_steps}
+use Rattle.model.specs.{declared.Limits.Limits, Limits.limits_of, Limits.max_depth, Limits.max_steps}
 use Rattle.model.specs.Formula.{Literal, fact, denial, Formula, Formulas, lit, all, any, none, more}
-use Rattle.model.specs.Action.{Effect, Action, same_literal, condition_in}
-use Rattle.model.specs.Answer.{answered}
-use Rattle.model.specs.Case.{Task}
-use Rattle.model.specs.Relevance.{names, member_names}
-use Rattle.model.specs.FormulaBytes.{literal_byte}
-use Rattle.model.specs.ProblemBytes.{Problem, action_at}
+use Rattle.model.specs.{Action.Effect, Action.Action, Action.same_literal, Action.condition_in, Answer.answered, Case.Task, Relevance.names, Relevance.member_names}
+use Rattle.model.specs.{FormulaBytes.literal_byte, ProblemBytes.Problem, ProblemBytes.action_at}
 use Rattle.model.specs.WellFormed.{Bytes, Each, Formed, FormedAll, EffectsOk, ActionOk, ProblemOk, PlanOk}
 use Rattle.model.specs.Operations.{task_of, read_task}
-use Rattle.model.proofs.Laws.Truth.{or_cases}
-use Rattle.model.proofs.Laws.Tasks.{answer-then}
-use Rattle.model.proofs.Guarantees.{guarantees-of}
+use Rattle.model.proofs.{Laws.Truth.or_cases, Laws.Tasks.answer-then, Guarantees.guarantees-of}
 use Rattle.blocks.proofs.Tasks.{step-action}
 use Rattle.backward.specs.Marks.{WithinAction, WithinTask}
 

@@ -13,7 +13,11 @@ use Rattle.backward.specs.declared.matters.Mark.{Mark}
 use Rattle.backward.specs.Marks.{Marked, WithinTask}
 use Rattle.backward.specs.Rows.{Shows}
 
--- "41 if the run is not reached", of the state in lane 0
+-- 41 where the run is not reached
+abbrev pub ChecksReached : Bool → Result (Unit {0}) Refusal → Type 0
+ChecksReached reaches r = plain_answer r ≡ cond reaches (answered tt) (refused 41 0)
+
+-- and so of the state in lane 0
 abbrev pub ChecksRun : Task → Cases → Result (Unit {0}) Refusal → Type 0
 ChecksRun T c r =
     (st : List Bool) → length st ≡ T.facts → Shows c st → plain_answer r ≡ when_reached (run two T.facts T.goal T.plan 0 st) (answered tt)

@@ -1,11 +1,12 @@
 // Tell which start facts an outcome rests on.
 ghost use Rattle.std.specs.Prelude.{◌≡◌, suc, ◌*◌, ◌≤◌, length};
 ghost use Rattle.model.specs.Limits.{limits_of};
+ghost use Rattle.model.specs.Relevance.{every_row};
 ghost use Rattle.model.specs.Operations.{relevant_facts};
 ghost use Rattle.model.specs.Answers.{plain_answer};
 ghost use Rattle.blocks.specs.Values.{task as task_of};
 ghost use Rattle.backward.specs.Rows.{PutsRun};
-ghost use Rattle.relevance.specs.Tracing.{ChecksRun, ChecksRoom, TracesMarks};
+ghost use Rattle.relevance.specs.Tracing.{ChecksReached, ChecksRun, ChecksRoom, TracesMarks};
 ghost use Rattle.relevance.specs.Promise.{RelevantPromised};
 
 use backward::{Mark, named_facts, put_run, trace_back};
@@ -16,6 +17,16 @@ use runs::state_cases;
 
 // The rows of the longest run, of as many facts as there may be.
 const MOST_ROWS: usize = (Plan::MAX_STEPS + 1) * Bounds::MAX_FACTS_V2 as usize;
+
+// Refuses a run that does not reach the goal.
+pub(crate) fn check_reached(reached: bool) -> Result<(), Refusal>
+    ensures { ChecksReached reached result }
+{
+    if !reached {
+        return Err(Fault::RunNotReached.at(0));
+    }
+    Ok(())
+}
 
 // Refuses the run of the state that the cases have, unless it reaches the goal: then the rows have its states, and the marks its steps.
 fn check_run(
@@ -31,14 +42,11 @@ fn check_run(
     ensures puts { PutsRun (task_of task.now) cases.old rows.old rows.new marks.new }
     ensures checks { ChecksRun (task_of task.now) cases.old result }
 {
-    if !put_run(task, cases, rows, marks) {
-        return Err(Fault::RunNotReached.at(0));
-    }
-    Ok(())
+    check_reached(put_run(task, cases, rows, marks))
 }
 
 // Refuses less room than a run's rows need.
-fn check_room(need: usize, room: usize) -> Result<(), Refusal>
+pub(crate) fn check_room(need: usize, room: usize) -> Result<(), Refusal>
     ensures { ChecksRoom need room result }
 {
     if room < need {
@@ -66,7 +74,7 @@ pub fn relevant_facts(
 ) -> Result<u64, Refusal>
     ensures answer { plain_answer result ≡ (relevant_facts (limits_of problem.now) problem.now plan.now state work.old).answer }
     ensures buffer { work.new ≡ (relevant_facts (limits_of problem.now) problem.now plan.now state work.old).buffer }
-    ensures promised { RelevantPromised problem.now plan.now state work.old (plain_answer result) work.new }
+    ensures promised { RelevantPromised every_row problem.now plan.now state work.old (plain_answer result) work.new }
 {
     let found = Problem::read(problem)?;
     let task = found.plan(plan)?;

@@ -7,7 +7,7 @@ use Rattle.model.specs.Run.{missed}
 use Rattle.model.specs.Read.{block}
 use Rattle.model.specs.Walk.{right, wrong}
 use Rattle.model.specs.Text.{hex}
-use Rattle.model.specs.Trials.{Hold, read-problem, judge_with, cover-after, relevant-facts, desk, number, verdict, text, Row, ◌⇒◌, wrote, no_step, step-0, grant, block1, accepts, refuses, initially, stalls_at, idle}
+use Rattle.model.specs.Trials.{Hold, read-problem, judge_with, cover-after, relevant-facts, relevant-facts-sparse, desk, number, verdict, text, Row, ◌⇒◌, wrote, no_step, step-0, grant, block1, accepts, refuses, initially, stalls_at, idle}
 
 -- so many effects, each on condition fact 0, from a literal byte on
 abbrev rising : ℕ → ℕ → List ℕ
@@ -32,6 +32,10 @@ abbrev 81ff : List ℕ
 -- so many steps of action 0
 abbrev long_plan : ℕ → List ℕ
 long_plan n = block1 (replicate n 0)
+
+-- one fact, the goal, that one action asks for and keeps
+abbrev lasting : List ℕ
+lasting = block1 (hex "01 01 0001 00 0001 00" ++ idle 1)
 
 -- 48 facts, and one action that always sets and always clears 47
 abbrev wide_both : List ℕ
@@ -71,7 +75,8 @@ abbrev never2 : List ℕ
 never2 = block 2 (hex "40 00" ++ (all_true ++ hex "0001 7f"))
 
 -- 16, 17 and 22 at their edges; 48 facts and 256 steps; a fact 47 that is set and cleared at once; pages whose numbers have three digits; the running
--- value after lines that fix all of 48 facts, and after one that fixes none; the relevant facts of runs over 48 facts, none or the last
+-- value after lines that fix all of 48 facts, and after one that fixes none; the relevant facts of runs over 48 facts, none or the last, and from fewer
+-- rows of runs of 255 and 256 steps
 abbrev pub sizes : List Row
 sizes =
     (read-problem (block1 (hex "01 41 0001 00 0001 00" ++ idle 65)) ⇒ refuses 16 6)
@@ -91,6 +96,8 @@ sizes =
     ∷ (relevant-facts wide step-0 0 (replicate 97 7) ⇒ wrote 0 (replicate 95 0 ++ (1 ∷ 7 ∷ [])))
     ∷ (relevant-facts wide no_step 1 (replicate 48 7) ⇒ wrote 1 (replicate 47 0 ++ (1 ∷ [])))
     ∷ (relevant-facts deep no_step 0xffffffffffff (replicate 48 7) ⇒ wrote 1 (replicate 48 1))
+    ∷ (relevant-facts-sparse lasting (long_plan 255) 0x800000000000 (replicate 33 7) ⇒ wrote 0x800000000000 (replicate 32 1 ++ (7 ∷ [])))
+    ∷ (relevant-facts-sparse lasting (long_plan 256) 0x800000000000 (replicate 33 7) ⇒ wrote 0x800000000000 (replicate 33 1))
     -- version 2: 128 effects; verdicts over 64 facts, at the highest state; the relevant facts of a run over 64
     ∷ (read-problem (block 2 (hex "40 01 0001 00 0001 00 0001 00 80" ++ (rising 64 0 ++ rising 64 64))) ⇒ accepts 64 1)
     ∷ (judge_with deep2 no_step grant ⇒ verdict (answered (right 65 129)))

@@ -64,6 +64,12 @@ static larkhammock_answer relevant_facts(void)
                                       SLICE(lent));
 }
 
+static larkhammock_answer relevant_facts_sparse(void)
+{
+    return larkhammock_relevant_facts_sparse(SLICE(problem), SLICE(plan),
+                                             no_fact_true, SLICE(lent));
+}
+
 static larkhammock_answer search_plans(void)
 {
     return larkhammock_search_plans(SLICE(problem), longest, plenty);
@@ -77,6 +83,7 @@ static const struct {
     {"run", run},                   {"judge", judge},
     {"write_list", write_list},     {"follow_list", follow_list},
     {"search_plans", search_plans}, {"relevant_facts", relevant_facts},
+    {"relevant_facts_sparse", relevant_facts_sparse},
 };
 
 static void fail(const char *what)

@@ -15,7 +15,7 @@ use crate::judges::Judges;
 use crate::page::{whole, Part, Table};
 
 /// The functions of the C interface, without what their names have in common.
-const OPERATIONS: [&str; 8] = [
+const OPERATIONS: [&str; 9] = [
     "read_problem",
     "read_plan",
     "run",
@@ -23,6 +23,7 @@ const OPERATIONS: [&str; 8] = [
     "write_list",
     "follow_list",
     "relevant_facts",
+    "relevant_facts_sparse",
     "search_plans",
 ];
 

@@ -5,9 +5,9 @@ use std::fmt;
 use std::ops::Range;
 
 use crate::answer::{self, words, Answer};
-use crate::oracle;
+use crate::oracle::{self, Task};
 
-/// What is tested: the eight operations, as their eight words.
+/// What is tested: the nine operations, as their eight words.
 pub trait Subject {
     fn read_problem(&self, problem: &[u8]) -> Answer;
     fn read_plan(&self, problem: &[u8], plan: &[u8]) -> Answer;
@@ -16,6 +16,13 @@ pub trait Subject {
     fn write_list(&self, problem: &[u8], plan: &[u8], grant: u64, arena: &mut Arena) -> Answer;
     fn follow_list(&self, problem: &[u8], plan: &[u8], list: &[u8]) -> Answer;
     fn relevant_facts(&self, problem: &[u8], plan: &[u8], state: u64, arena: &mut Arena) -> Answer;
+    fn relevant_facts_sparse(
+        &self,
+        problem: &[u8],
+        plan: &[u8],
+        state: u64,
+        arena: &mut Arena,
+    ) -> Answer;
     fn search_plans(&self, problem: &[u8], longest: u64, grant: u64) -> Answer;
 }
 
@@ -28,11 +35,12 @@ pub enum Operation {
     WriteList,
     FollowList,
     RelevantFacts,
+    RelevantFactsSparse,
     SearchPlans,
 }
 
 impl Operation {
-    pub const ALL: [Operation; 8] = [
+    pub const ALL: [Operation; 9] = [
         Operation::ReadProblem,
         Operation::ReadPlan,
         Operation::Run,
@@ -40,11 +48,12 @@ impl Operation {
         Operation::WriteList,
         Operation::FollowList,
         Operation::RelevantFacts,
+        Operation::RelevantFactsSparse,
         Operation::SearchPlans,
     ];
 }
 
-/// Arguments for all eight operations.
+/// Arguments for all nine operations.
 #[derive(Clone, Default)]
 pub struct Case {
     pub problem: Vec<u8>,
@@ -56,6 +65,8 @@ pub struct Case {
     pub room: usize,
     /// The bytes that are lent for the states of a run.
     pub work: usize,
+    /// The bytes that are lent for the few that are kept of them.
+    pub sparse_work: usize,
     /// The longest length of a search.
     pub longest: u64,
     /// The grant of a search: many plans share it, where the other is for one.
@@ -120,7 +131,8 @@ impl fmt::Debug for Difference {
         writeln!(f, "  plan {}", hex(&case.plan))?;
         writeln!(f, "  list {}", hex(&case.list))?;
         write!(f, "  state {:x} grant {}", case.state, case.grant)?;
-        writeln!(f, " room {} work {}", case.room, case.work)?;
+        write!(f, " room {} work {}", case.room, case.work)?;
+        writeln!(f, " sparse work {}", case.sparse_work)?;
         write!(
             f,
             "  longest {} shared grant {}",
@@ -168,16 +180,36 @@ impl Subject for Oracle {
     fn relevant_facts(&self, problem: &[u8], plan: &[u8], state: u64, arena: &mut Arena) -> Answer {
         let told = oracle::relevant_facts(problem, plan, state, arena.room.len());
         if let Ok(run) = &told {
-            let values = run.states.iter().flatten();
-            for (byte, value) in arena.out().iter_mut().zip(values) {
-                *byte = u8::from(*value);
-            }
+            put(arena, run.states.iter().flatten());
+        }
+        answer::number(&told.map(|run| run.set))
+    }
+
+    fn relevant_facts_sparse(
+        &self,
+        problem: &[u8],
+        plan: &[u8],
+        state: u64,
+        arena: &mut Arena,
+    ) -> Answer {
+        let told = oracle::relevant_facts_sparse(problem, plan, state, arena.room.len());
+        if let Ok(run) = &told {
+            let task = Task::parse(problem, plan).expect("both are sound");
+            arena.out()[..task.sparse_work_bytes()].fill(0);
+            put(arena, run.kept.iter().chain(&run.first).flatten());
         }
         answer::number(&told.map(|run| run.set))
     }
 
     fn search_plans(&self, problem: &[u8], longest: u64, grant: u64) -> Answer {
         answer::search_plans(&oracle::search_plans(problem, longest, grant))
+    }
+}
+
+/// The values stand at the front of the lent part, a byte each.
+fn put<'a>(arena: &mut Arena, values: impl Iterator<Item = &'a bool>) {
+    for (byte, value) in arena.out().iter_mut().zip(values) {
+        *byte = u8::from(*value);
     }
 }
 
@@ -203,16 +235,20 @@ pub fn observed(subject: &dyn Subject, operation: Operation, case: &Case) -> Eff
         Operation::WriteList => subject.write_list(problem, plan, case.grant, &mut arena),
         Operation::FollowList => subject.follow_list(problem, plan, list),
         Operation::RelevantFacts => subject.relevant_facts(problem, plan, case.state, &mut arena),
+        Operation::RelevantFactsSparse => {
+            subject.relevant_facts_sparse(problem, plan, case.state, &mut arena)
+        }
         Operation::SearchPlans => subject.search_plans(problem, case.longest, case.shared_grant),
     };
     Effect { answer, arena }
 }
 
-/// Only two operations have a buffer.
+/// Only three operations have a buffer.
 fn room(operation: Operation, case: &Case) -> usize {
     match operation {
         Operation::WriteList => case.room,
         Operation::RelevantFacts => case.work,
+        Operation::RelevantFactsSparse => case.sparse_work,
         _ => 0,
     }
 }
@@ -244,7 +280,7 @@ fn compare(
     }))
 }
 
-/// Compares all eight calls; the answers in the order of [`Operation::ALL`].
+/// Compares all nine calls; the answers in the order of [`Operation::ALL`].
 pub fn check_all(subject: &dyn Subject, case: &Case) -> Result<Vec<Answer>, Box<Difference>> {
     Operation::ALL
         .iter()

@@ -62,6 +62,7 @@ pub fn with_plan(version: &Version, steps: &[u8]) -> Case {
         grant: u64::MAX,
         room: version.most_bytes(),
         work: version.most_work_bytes(),
+        sparse_work: version.most_sparse_work_bytes(),
         shared_grant: u64::MAX,
         ..Case::default()
     }

@@ -19,6 +19,10 @@ pub const DENIAL: u8 = 64;
 pub const MOST_STEPS: usize = 256;
 pub const MOST_PLAN_BYTES: usize = HEADER + MOST_STEPS;
 
+/// Where few states of a run are kept, it is those whose numbers are multiples of this,
+/// with room for as many more.
+pub const STRETCH: usize = 16;
+
 /// The steps of the longest plans that a search may be asked for.
 pub const LONGEST_SEARCHED: u64 = 4;
 
@@ -92,6 +96,11 @@ impl Version {
     /// The length of the longest run's states, of one byte a fact each.
     pub fn most_work_bytes(&self) -> usize {
         (MOST_STEPS + 1) * usize::from(self.most_facts)
+    }
+
+    /// The length of the longest run's states, of one byte a fact each, where few are kept.
+    pub fn most_sparse_work_bytes(&self) -> usize {
+        (MOST_STEPS / STRETCH + 1 + STRETCH) * usize::from(self.most_facts)
     }
 
     /// How many numbers there are, which is where a full cover ends. No word

@@ -1,6 +1,7 @@
 //! The tests tested: a library with one fault does not get past the harness.
 
 mod former;
+mod layouts;
 mod rules;
 mod searches;
 mod support;
@@ -17,6 +18,7 @@ use conformance::oracle::{self, conflicts, holds, states, walk, Task};
 use conformance::trial;
 use conformance::version::{Version, HEADER, VERSION_1};
 use former::{with_sets_winning, MOVES};
+use layouts::Layout;
 use rules::Rule;
 use searches::Searcher;
 use support::Library;
@@ -71,6 +73,17 @@ impl Subject for Tampered {
         self.tamper(Operation::RelevantFacts, answer)
     }
 
+    fn relevant_facts_sparse(
+        &self,
+        problem: &[u8],
+        plan: &[u8],
+        state: u64,
+        arena: &mut Arena,
+    ) -> Answer {
+        let answer = Library.relevant_facts_sparse(problem, plan, state, arena);
+        self.tamper(Operation::RelevantFactsSparse, answer)
+    }
+
     fn search_plans(&self, problem: &[u8], longest: u64, grant: u64) -> Answer {
         self.tamper(
             Operation::SearchPlans,
@@ -83,6 +96,7 @@ of_each_version! {
     each_word_of_each_answer_is_compared,
     each_wrong_idea_is_found_out,
     each_wrong_idea_of_versions_is_found_out,
+    each_wrong_layout_is_found_out,
     each_wrong_search_is_found_out,
     each_byte_of_the_buffers_and_their_guards_is_compared,
     the_oracle_without_a_fault_is_not_found_out,
@@ -150,6 +164,22 @@ impl Subject for Oracle {
         let (answer, left) = ask(Operation::RelevantFacts, problem, plan, |case| {
             case.state = state;
             case.work = work;
+        });
+        *arena = left;
+        answer
+    }
+
+    fn relevant_facts_sparse(
+        &self,
+        problem: &[u8],
+        plan: &[u8],
+        state: u64,
+        arena: &mut Arena,
+    ) -> Answer {
+        let work = arena.out().len();
+        let (answer, left) = ask(Operation::RelevantFactsSparse, problem, plan, |case| {
+            case.state = state;
+            case.sparse_work = work;
         });
         *arena = left;
         answer
@@ -227,6 +257,8 @@ enum Fault {
     EmptyCarriesToo,
     /// Goes by this rule for what matters before a step.
     Relevant(Rule),
+    /// Lays out the few states that are kept of a run in this way.
+    LaysOut(Layout),
     /// Tries short plans in this way.
     Searches(Searcher),
     NoRunIsTold,
@@ -534,6 +566,28 @@ impl Subject for Fault {
         answer
     }
 
+    fn relevant_facts_sparse(
+        &self,
+        problem: &[u8],
+        plan: &[u8],
+        state: u64,
+        arena: &mut Arena,
+    ) -> Answer {
+        let before = arena.clone();
+        let answer = Oracle.relevant_facts_sparse(problem, plan, state, arena);
+        match (self, answer) {
+            (Fault::StrayByte(at), _) => arena.bytes[*at] ^= 1,
+            (Fault::LaysOut(layout), [1, ..]) => {
+                let task = Task::parse(problem, plan).expect("both are sound");
+                let start = task.problem.version.values(state, task.problem.facts);
+                *arena = before;
+                layout.write(&states(&task, &start), arena.out());
+            }
+            _ => {}
+        }
+        answer
+    }
+
     fn search_plans(&self, problem: &[u8], longest: u64, grant: u64) -> Answer {
         match self {
             Fault::Searches(searcher) => searcher.answer(problem, longest, grant),
@@ -600,6 +654,18 @@ fn each_wrong_idea_of_versions_is_found_out(version: &Version) {
     }
 }
 
+fn each_wrong_layout_is_found_out(version: &Version) {
+    for layout in Layout::WRONG {
+        let fault = Fault::LaysOut(layout);
+        let mut rng = Rng::new(0xfa19);
+        let found = (0..2_000).any(|_| {
+            let case = sound_case(&mut rng, version);
+            check(&fault, Operation::RelevantFactsSparse, &case).is_err()
+        });
+        assert!(found, "{layout:?} gets past 2,000 cases");
+    }
+}
+
 /// Searches with as many actions as may be and one more, which are few among the
 /// generated: no visit is granted, so that they end at once.
 fn searches_at_the_edge(version: &Version) -> Vec<Case> {
@@ -660,6 +726,15 @@ fn each_byte_of_the_buffers_and_their_guards_is_compared(version: &Version) {
         };
         each_byte_is_compared(Operation::RelevantFacts, &case, work);
     }
+    // And where few of them are kept.
+    for (work, steps) in [(60, &[0, 1][..]), (50, &[0, 1]), (60, &[0])] {
+        let case = Case {
+            sparse_work: work,
+            state: version.bit(1),
+            ..trial::with_plan(version, steps)
+        };
+        each_byte_is_compared(Operation::RelevantFactsSparse, &case, work);
+    }
 }
 
 /// The oracle made into a subject is itself: so it is each fault alone that is
@@ -673,6 +748,8 @@ fn the_oracle_without_a_fault_is_not_found_out(version: &Version) {
         }
         let rule = Fault::Relevant(Rule::AsWritten);
         check(&rule, Operation::RelevantFacts, &case).expect("the rule is as written");
+        let layout = Fault::LaysOut(Layout::AsWritten);
+        check(&layout, Operation::RelevantFactsSparse, &case).expect("the layout is as written");
         let search = Fault::Searches(Searcher::AsWritten);
         check(&search, Operation::SearchPlans, &case).expect("the search is as written");
     }
@@ -685,5 +762,5 @@ fn the_oracle_without_a_fault_is_not_found_out(version: &Version) {
         ..trial::with_plan(version, &[0, 1])
     };
     let answers = Operation::ALL.map(|operation| expected(operation, &case).answer[0]);
-    assert_eq!(answers, [1; 8]);
+    assert_eq!(answers, [1; 9]);
 }

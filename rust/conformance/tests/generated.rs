@@ -153,6 +153,7 @@ fn every_operation_answers_as_the_oracle_and_every_refusal_is_met(version: &Vers
         (Operation::WriteList as u8, 1, 0),
         (Operation::FollowList as u8, 1, 0),
         (Operation::RelevantFacts as u8, 1, 0),
+        (Operation::RelevantFactsSparse as u8, 1, 0),
         (search, 1, 0),
         (search, 2, 0),
         (search, 3, 0),
@@ -203,12 +204,26 @@ fn verdict(problem: &[u8], verdict: oracle::Verdict) -> larkhammock::Verdict {
     }
 }
 
+fn values(states: larkhammock::States) -> Vec<Vec<bool>> {
+    states
+        .map(|state| state.iter().map(|value| *value == 1).collect())
+        .collect()
+}
+
 fn told(run: larkhammock::ReachedRun) -> oracle::ReachedRun {
-    let values = |state: &[u8]| state.iter().map(|value| *value == 1).collect();
     oracle::ReachedRun {
         facts: run.facts.iter().map(|fact| fact as u8).collect(),
         set: run.facts.state().number(),
-        states: run.states.map(values).collect(),
+        states: values(run.states),
+    }
+}
+
+fn told_sparsely(run: larkhammock::SparseRun) -> oracle::SparseRun {
+    oracle::SparseRun {
+        facts: run.facts.iter().map(|fact| fact as u8).collect(),
+        set: run.facts.state().number(),
+        kept: values(run.kept),
+        first: values(run.first),
     }
 }
 
@@ -251,6 +266,7 @@ fn the_safe_crate_says_the_same(version: &Version) {
             grant,
             room,
             work,
+            sparse_work,
             longest,
             shared_grant,
         } = &case;
@@ -280,6 +296,11 @@ fn the_safe_crate_says_the_same(version: &Version) {
             assert_eq!(
                 larkhammock::relevant_facts(problem, plan, start, &mut vec![0; *work]).map(told),
                 oracle::relevant_facts(problem, plan, *state, *work).map_err(refusal)
+            );
+            let few = &mut vec![0; *sparse_work];
+            assert_eq!(
+                larkhammock::relevant_facts_sparse(problem, plan, start, few).map(told_sparsely),
+                oracle::relevant_facts_sparse(problem, plan, *state, *sparse_work).map_err(refusal)
             );
         }
         assert_eq!(

@@ -16,11 +16,12 @@ use conformance::encode;
 use conformance::examples;
 use conformance::families::store::Store;
 use conformance::gen::{right_task, task, Rng};
-use conformance::harness::Operation::RelevantFacts;
+use conformance::harness::Operation::{RelevantFacts, RelevantFactsSparse};
 use conformance::harness::{check, expect, Case};
 use conformance::model::Formula;
-use conformance::oracle::{after, conditions, holds, outcome, states, Outcome, Task};
+use conformance::oracle::{after, conditions, conflicts, holds, outcome, states, Outcome, Task};
 use conformance::version::{Version, MOST_STEPS};
+use larkhammock::raw;
 use relevant::Relevant;
 use rules::Rule;
 use support::Library;
@@ -39,8 +40,10 @@ fn set(version: &Version, facts: &[u8]) -> u64 {
 of_each_version! {
     worked_out_by_hand,
     every_state_that_agrees_on_the_set_is_reached,
+    both_calls_tell_the_same_of_plans_of_any_length,
     a_rule_that_leaves_facts_out_has_a_state_that_is_not_reached,
     twice_the_steps_take_at_most_three_times_as_long,
+    few_states_take_at_most_three_times_as_long_as_every_state,
     running_again_takes_more_than_three_times_as_long,
 }
 
@@ -68,6 +71,13 @@ fn worked_out_by_hand(version: &Version) {
             ..case.clone()
         };
         expect(&Library, RelevantFacts, &short, &[0, 42, 0]);
+        // No plan here has 16 steps: one row is kept, and 16 stand in a stretch.
+        let sparse = Case {
+            sparse_work: 17 * states[0].len(),
+            ..case.clone()
+        };
+        let named = [1, set(version, facts)];
+        expect(&Library, RelevantFactsSparse, &sparse, &named);
 
         let mut work = vec![7; exact];
         let Case { problem, plan, .. } = &case;
@@ -232,8 +242,74 @@ fn every_state_that_agrees_on_the_set_is_reached(version: &Version) {
     assert!(least > 200 && agreeing > 50_000, "{met:?}");
 }
 
-/// What the test above is to catch, it would: a rule that leaves facts out has a
-/// state that agrees on its set and is not reached. The others name too many.
+/// A run of so many steps, each of them taken from the actions that are applicable
+/// there, if there is one for each. Its goal is what some facts are at the end.
+fn run_of_length(rng: &mut Rng, version: &Version, steps: usize) -> Option<Reached> {
+    let Task { mut problem, .. } = task(rng, version);
+    let start: Vec<bool> = (0..problem.facts).map(|_| rng.chance(1, 2)).collect();
+    let (mut state, mut plan) = (start.clone(), Vec::new());
+    for _ in 0..steps {
+        let numbered = (0..).zip(&problem.actions);
+        let applicable: Vec<u8> = numbered
+            .filter(|(_, a)| holds(&a.precondition, &state) && conflicts(a, &state).is_empty())
+            .map(|(number, _)| number)
+            .collect();
+        if applicable.is_empty() {
+            return None;
+        }
+        let number = rng.pick(&applicable);
+        state = after(&problem.actions[usize::from(number)], &state);
+        plan.push(number);
+    }
+    let kept = (0..).zip(state).filter(|_| rng.chance(1, 3));
+    problem.goal = Formula::all(kept.map(|(fact, value)| match value {
+        true => Formula::fact(fact),
+        false => Formula::not(fact),
+    }));
+    let task = Task { problem, plan };
+    Some(Reached { task, start })
+}
+
+/// Each call in a work area that is long enough, one byte short and longer, and the
+/// answers beside each other.
+fn both_calls_tell_the_same_of_plans_of_any_length(version: &Version) {
+    let mut rng = Rng::new(0xa940);
+    for steps in [0, 1, 15, 16, 17, 31, 32, 33, 255, 256] {
+        let mut sets = Vec::new();
+        while sets.len() < 40 {
+            let Some(run) = run_of_length(&mut rng, version, steps) else {
+                continue;
+            };
+            let case = Case {
+                problem: encode::problem(&run.task.problem),
+                plan: encode::plan(&run.task.plan),
+                state: run.number(),
+                ..Case::default()
+            };
+            let told = |more: usize, less: usize| {
+                let case = Case {
+                    work: run.task.work_bytes() + more - less,
+                    sparse_work: run.task.sparse_work_bytes() + more - less,
+                    ..case.clone()
+                };
+                [RelevantFacts, RelevantFactsSparse]
+                    .map(|operation| check(&Library, operation, &case).expect("as the oracle does"))
+            };
+            let [every, few] = told(0, 0);
+            assert_eq!(every, few);
+            assert_eq!(every[0], 1, "{steps} steps");
+            assert_eq!(told(5, 0), [every; 2]);
+            assert!(told(0, 1).iter().all(|answer| answer[..2] == [0, 42]));
+            sets.push(every[1]);
+        }
+        sets.sort_unstable();
+        sets.dedup();
+        assert!(sets.len() > 10, "{steps} steps have {} sets", sets.len());
+    }
+}
+
+/// What running every state that agrees is to catch, it would: a rule that leaves facts
+/// out has a state that agrees on its set and is not reached. The others name too many.
 fn a_rule_that_leaves_facts_out_has_a_state_that_is_not_reached(version: &Version) {
     let sound = [
         Rule::AsWritten,
@@ -298,25 +374,41 @@ fn long_run(version: &Version, steps: usize) -> Reached {
     }
 }
 
-/// Time grows with the steps: each is gone through once in each direction.
+/// One of the two functions of the C interface.
+type Call = fn(&[u8], &[u8], u64, &mut [u8]) -> raw::Answer;
+
+/// Tells what a run of so many steps rests on.
+fn telling(version: &Version, steps: usize, call: Call) -> impl Fn() {
+    let run = long_run(version, steps);
+    let problem = encode::problem(&run.task.problem);
+    let plan = encode::plan(&run.task.plan);
+    let work = RefCell::new([0; larkhammock::LONGEST_WORK]);
+    move || {
+        let work = &mut *work.borrow_mut();
+        let told = call(black_box(&problem), &plan, run.number(), work);
+        assert_eq!(black_box(told).word[0], 1);
+    }
+}
+
+/// Time grows with the steps: each is gone through once in each direction, or twice
+/// forward where few states are kept.
 fn twice_the_steps_take_at_most_three_times_as_long(version: &Version) {
-    let [long, short] = [MOST_STEPS, MOST_STEPS / 2].map(|steps| {
-        let run = long_run(version, steps);
-        let problem = encode::problem(&run.task.problem);
-        let plan = encode::plan(&run.task.plan);
-        let work = RefCell::new([0; larkhammock::LONGEST_WORK]);
-        move || {
-            let work = &mut *work.borrow_mut();
-            let start = safe::state(&run.task.problem, run.number());
-            let told = larkhammock::relevant_facts(black_box(&problem), &plan, start, work);
-            assert!(black_box(told).is_ok());
-        }
-    });
-    let ratio = ratio(1_000, [&long, &short]);
+    for call in [raw::relevant_facts as Call, raw::relevant_facts_sparse] {
+        let [long, short] = [MOST_STEPS, MOST_STEPS / 2].map(|n| telling(version, n, call));
+        let ratio = ratio(1_000, [&long, &short]);
+        assert!(ratio <= 3.0, "{ratio} times as long");
+    }
+}
+
+/// To run each stretch again is all that it costs to keep few states.
+fn few_states_take_at_most_three_times_as_long_as_every_state(version: &Version) {
+    let calls = [raw::relevant_facts_sparse as Call, raw::relevant_facts];
+    let [few, every] = calls.map(|call| telling(version, MOST_STEPS, call));
+    let ratio = ratio(1_000, [&few, &every]);
     assert!(ratio <= 3.0, "{ratio} times as long");
 }
 
-/// What the test above is to catch, it would: to run from the start again for
+/// What these two tests are to catch, they would: to run from the start again for
 /// each state, as it is asked for backward, takes four times as long.
 fn running_again_takes_more_than_three_times_as_long(version: &Version) {
     let [long, short] = [MOST_STEPS, MOST_STEPS / 2].map(|steps| {

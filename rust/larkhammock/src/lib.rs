@@ -6,8 +6,9 @@
 //! whether it does: it [judges](judge) a plan, names a counterexample where
 //! there is one, [writes](write_list) a certificate for a right plan, and
 //! [follows](follow_list) a certificate that anyone has written. Of one run that
-//! reaches the goal it tells [which start facts](relevant_facts) that rests on, and
-//! where nobody has a plan it [tries](search_plans) every short one.
+//! reaches the goal it tells [which start facts](relevant_facts) that rests on, also
+//! from a [smaller work area](relevant_facts_sparse), and where nobody has a plan it
+//! [tries](search_plans) every short one.
 //!
 //! Problems, plans and lists are blocks of bytes. Any bytes may be handed in:
 //! what is not sound is turned down with a [`Refusal`]. A problem is of one of two
@@ -49,7 +50,7 @@ mod version;
 
 pub use lines::{Line, Lines};
 pub use refusal::Refusal;
-pub use relevance::{ReachedRun, States};
+pub use relevance::{ReachedRun, SparseRun, States};
 pub use search::{Search, ShortPlan};
 pub use state::{FactSet, State};
 pub use version::Version;
@@ -62,6 +63,10 @@ pub const LONGEST_LIST: usize = Version::V2.longest_list();
 /// is enough for [`relevant_facts`] of any run. [`Version::longest_work`] has those
 /// of one.
 pub const LONGEST_WORK: usize = Version::V2.longest_work();
+
+/// The bytes of a work area that is enough for [`relevant_facts_sparse`] of any run of
+/// any version. [`Version::longest_sparse_work`] has those of one.
+pub const LONGEST_SPARSE_WORK: usize = Version::V2.longest_sparse_work();
 
 /// The most steps of a plan that [`search_plans`] tries.
 pub const LONGEST_SEARCHED: u64 = 4;
@@ -364,6 +369,52 @@ pub fn relevant_facts<'a>(
     Ok(ReachedRun {
         facts: FactSet::of_state(members),
         states: States::new(&work[..(steps + 1) * facts], facts),
+    })
+}
+
+/// Tells the same as [`relevant_facts`] from a smaller work area, in a longer time: the
+/// set and the refusals are those, but for 42.
+///
+/// With n steps, `work` needs n / 16 + 17 rows of a byte for each fact, the quotient
+/// rounded down: (steps / 16 + 17) * facts bytes, at most [`LONGEST_SPARSE_WORK`]. With
+/// fewer it is refused with 42, after the refusals of [`run`] and 41 of a run that does
+/// not reach the goal. At its front stand the states numbered 0, 16, 32 and so on, then
+/// the first 16 states, or all where there are fewer, and zeros up to the bytes needed.
+/// The rest of `work` keeps its bytes, and so does all of it where the call is refused.
+///
+/// For plans of up to 17 steps [`relevant_facts`] needs no more.
+///
+/// ```
+/// use larkhammock::{example, relevant_facts_sparse, State, Version};
+///
+/// let start = State::of_values(Version::V1, &[false, true, false]);
+/// let mut work = [0; 17 * 3];
+/// let run = relevant_facts_sparse(example::PROBLEM, example::PLAN, start, &mut work)?;
+/// assert!(run.facts.iter().eq([1]));
+/// assert!(run.kept.eq([[0, 1, 0]]));
+/// assert!(run.first.eq([[0, 1, 0], [0, 1, 0], [0, 1, 1]]));
+///
+/// let short = &mut work[1..];
+/// let refusal = relevant_facts_sparse(example::PROBLEM, example::PLAN, start, short);
+/// assert_eq!(refusal.unwrap_err().number, 42);
+/// # Ok::<(), larkhammock::Refusal>(())
+/// ```
+pub fn relevant_facts_sparse<'a>(
+    problem: &[u8],
+    plan: &[u8],
+    state: State,
+    work: &'a mut [u8],
+) -> Result<SparseRun<'a>, Refusal> {
+    let number = number_in(problem, plan, state)?;
+    let word = accepted(raw::relevant_facts_sparse(problem, plan, number, work))?;
+    let members = state_of(problem, word[1]).unwrap_or_else(|| broken(&word));
+    // The plan is sound: its body has a byte a step.
+    let (facts, steps) = (state.facts() as usize, plan.len() - 5);
+    let (kept, rest) = work.split_at((steps / 16 + 1) * facts);
+    Ok(SparseRun {
+        facts: FactSet::of_state(members),
+        kept: States::new(kept, facts),
+        first: States::new(&rest[..(steps + 1).min(16) * facts], facts),
     })
 }
 

@@ -76,6 +76,15 @@ extern "C" {
         work: *mut u8,
         work_len: usize,
     ) -> Answer;
+    fn larkhammock_relevant_facts_sparse(
+        problem: *const u8,
+        problem_len: usize,
+        plan: *const u8,
+        plan_len: usize,
+        state: u64,
+        work: *mut u8,
+        work_len: usize,
+    ) -> Answer;
     fn larkhammock_search_plans(
         problem: *const u8,
         problem_len: usize,
@@ -160,6 +169,21 @@ pub fn follow_list(problem: &[u8], plan: &[u8], list: &[u8]) -> Answer {
 pub fn relevant_facts(problem: &[u8], plan: &[u8], state: u64, work: &mut [u8]) -> Answer {
     unsafe {
         larkhammock_relevant_facts(
+            problem.as_ptr(),
+            problem.len(),
+            plan.as_ptr(),
+            plan.len(),
+            state,
+            work.as_mut_ptr(),
+            work.len(),
+        )
+    }
+}
+
+/// Tag 1: the set of facts as a state number.
+pub fn relevant_facts_sparse(problem: &[u8], plan: &[u8], state: u64, work: &mut [u8]) -> Answer {
+    unsafe {
+        larkhammock_relevant_facts_sparse(
             problem.as_ptr(),
             problem.len(),
             plan.as_ptr(),

@@ -45,6 +45,18 @@ impl<'a> Iterator for States<'a> {
 
 impl ExactSizeIterator for States<'_> {}
 
+/// A reached run of which every 16th state is kept: what it rests on, and some of its
+/// states.
+#[derive(Clone, Debug)]
+pub struct SparseRun<'a> {
+    /// The start facts that it rests on.
+    pub facts: FactSet,
+    /// Its states numbered 0, 16, 32 and so on, the start state being number 0.
+    pub kept: States<'a>,
+    /// Its first 16 states, or all where it has fewer.
+    pub first: States<'a>,
+}
+
 /// A reached run: what it rests on, and its states.
 #[derive(Clone, Debug)]
 pub struct ReachedRun<'a> {

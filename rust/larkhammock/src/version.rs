@@ -110,6 +110,13 @@ impl Version {
         (256 + 1) * self.most_facts() as usize
     }
 
+    /// The bytes of a work area that is enough for
+    /// [`relevant_facts_sparse`](crate::relevant_facts_sparse) of any run, one of 256
+    /// steps and the most facts among them.
+    pub const fn longest_sparse_work(self) -> usize {
+        (256 / 16 + 17) * self.most_facts() as usize
+    }
+
     /// The bit of a fact in a state's number. Fact 0 has the top one.
     pub(crate) const fn bit(self, fact: u64) -> u64 {
         1 << (self.state_bits() as u64 - 1 - fact)

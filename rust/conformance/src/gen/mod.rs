@@ -27,7 +27,7 @@ const PATIENCE: u64 = 1_500;
 /// answer.
 const SEARCH_PATIENCE: u64 = 100;
 
-/// Arguments for all eight operations, all of them sound.
+/// Arguments for all nine operations, all of them sound.
 pub fn sound_case(rng: &mut Rng, version: &Version) -> Case {
     let task = if rng.chance(1, 2) {
         right_task(rng, version)
@@ -134,6 +134,7 @@ fn list_beside(rng: &mut Rng, version: &Version, lines: &[Line]) -> Vec<u8> {
 /// so large a grant that the walk takes long.
 fn settle(rng: &mut Rng, case: &mut Case, patience: u64) {
     settle_search(case);
+    settle_sparse(case);
     case.grant = rng.word();
     case.room = rng.below(64);
     case.work = rng.below(64);
@@ -150,11 +151,24 @@ fn settle(rng: &mut Rng, case: &mut Case, patience: u64) {
     case.room = near(rng, task.problem.version.list_bytes(walk.lines.len()));
 }
 
-/// Chooses a longest length, mostly one of 0 to 4, and a grant for a search. It
-/// goes by the case itself, so that a seed gives the same cases for the rest.
+/// Numbers that go by the case itself, so that a seed gives the same cases for the rest.
+fn rng_of(block: &[u8], state: u64) -> Rng {
+    let bytes = block.iter().copied().map(u64::from);
+    Rng::new(bytes.fold(state, |seed, byte| seed.rotate_left(5) ^ byte))
+}
+
+/// Chooses a work area in which few states of the run are kept.
+fn settle_sparse(case: &mut Case) {
+    let rng = &mut rng_of(&case.plan, case.state);
+    case.sparse_work = match Task::parse(&case.problem, &case.plan) {
+        Ok(task) => near(rng, task.sparse_work_bytes()),
+        Err(_) => rng.below(64),
+    };
+}
+
+/// Chooses a longest length, mostly one of 0 to 4, and a grant for a search.
 fn settle_search(case: &mut Case) {
-    let bytes = case.problem.iter().copied().map(u64::from);
-    let rng = &mut Rng::new(bytes.fold(case.state, |seed, byte| seed.rotate_left(5) ^ byte));
+    let rng = &mut rng_of(&case.problem, case.state);
     case.longest = match rng.below(32) {
         0 => rng.word(),
         1 => 5,

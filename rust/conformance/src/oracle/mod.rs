@@ -12,6 +12,7 @@ mod states;
 
 use crate::encode;
 use crate::model::{Action, Line, Problem};
+use crate::version::STRETCH;
 
 pub use cases::{closes, walk, End, Walk};
 pub use relevance::{conditions, named, Facts};
@@ -79,6 +80,19 @@ pub struct ReachedRun {
     pub states: Vec<Vec<bool>>,
 }
 
+/// A run that reaches the goal, of which few states are kept.
+#[derive(Clone, Debug, PartialEq, Eq)]
+pub struct SparseRun {
+    /// The start facts that it rests on.
+    pub facts: Facts,
+    /// The state in which exactly these are true.
+    pub set: u64,
+    /// The states numbered 0, 16, 32 and so on.
+    pub kept: Vec<Vec<bool>>,
+    /// The first 16 states, or all where there are fewer.
+    pub first: Vec<Vec<bool>>,
+}
+
 /// A problem and a plan for it, both sound.
 #[derive(Clone, Debug)]
 pub struct Task {
@@ -96,6 +110,12 @@ impl Task {
     /// The bytes of a run's states, of one byte a fact each.
     pub fn work_bytes(&self) -> usize {
         (self.plan.len() + 1) * usize::from(self.problem.facts)
+    }
+
+    /// The bytes of the kept states and of the states of one stretch between them.
+    pub fn sparse_work_bytes(&self) -> usize {
+        let kept = self.plan.len() / STRETCH + 1;
+        (kept + STRETCH) * usize::from(self.problem.facts)
     }
 
     fn steps(&self) -> impl DoubleEndedIterator<Item = &Action> + ExactSizeIterator {
@@ -175,12 +195,38 @@ pub fn relevant_facts(
     state: u64,
     work: usize,
 ) -> Result<ReachedRun, Refusal> {
+    reached(problem, plan, state, |task| work < task.work_bytes())
+}
+
+/// The same, told with a work area of this many bytes, where few states are kept.
+pub fn relevant_facts_sparse(
+    problem: &[u8],
+    plan: &[u8],
+    state: u64,
+    work: usize,
+) -> Result<SparseRun, Refusal> {
+    let run = reached(problem, plan, state, |task| work < task.sparse_work_bytes())?;
+    Ok(SparseRun {
+        facts: run.facts,
+        set: run.set,
+        kept: run.states.iter().step_by(STRETCH).cloned().collect(),
+        first: run.states.iter().take(STRETCH).cloned().collect(),
+    })
+}
+
+/// A run that reaches the goal, unless the work area is too short for it.
+fn reached(
+    problem: &[u8],
+    plan: &[u8],
+    state: u64,
+    is_short: impl Fn(&Task) -> bool,
+) -> Result<ReachedRun, Refusal> {
     let task = Task::parse(problem, plan)?;
     let start = start(&task.problem, state)?;
     if outcome(&task, &start) != Outcome::Reached {
         return Refusal::at(41, 0);
     }
-    if work < task.work_bytes() {
+    if is_short(&task) {
         return Refusal::at(42, 0);
     }
     let states = states(&task, &start);

@@ -28,7 +28,7 @@ int main(void)
     const uint64_t wrong_stalled[8] = {2, 5, s010, 3, 1, 1, 2, 0};
     const uint64_t found[8] = {1, 27, 2, 0, 1, 0, 0, 0};
     const uint64_t undecided[8] = {3, 26, 2, 0, 1, 0, 0, 0};
-    uint8_t out[40], work[16], kept[40];
+    uint8_t out[40], work[60], kept[60];
 
     is("read_problem", larkhammock_read_problem(SLICE(problem)), 1, 3, 2, 0);
     is("read_problem, cut", larkhammock_read_problem(problem, 4), 0, 11, 4, 0);
@@ -108,6 +108,32 @@ int main(void)
     holds("relevant_facts", SLICE(work), kept);
     is("relevant_facts, two",
        larkhammock_relevant_facts(SLICE(problem), SLICE(both), s100, work, 9),
+       1, s100 | s010, 0, 0);
+
+    memset(kept, 0xee, sizeof kept);
+    memset(work, 0xee, sizeof work);
+    is("relevant_facts_sparse, no state",
+       larkhammock_relevant_facts_sparse(SLICE(problem), SLICE(both), 1,
+                                         SLICE(work)),
+       0, 40, 0, 0);
+    is("relevant_facts_sparse, missed",
+       larkhammock_relevant_facts_sparse(SLICE(problem), SLICE(one), s010,
+                                         work, 0),
+       0, 41, 0, 0);
+    is("relevant_facts_sparse, short",
+       larkhammock_relevant_facts_sparse(SLICE(problem), SLICE(both), s010,
+                                         work, sizeof few_states - 1),
+       0, 42, 0, 0);
+    holds("relevant_facts_sparse, refused", SLICE(work), kept);
+    is("relevant_facts_sparse",
+       larkhammock_relevant_facts_sparse(SLICE(problem), SLICE(both), s010,
+                                         SLICE(work)),
+       1, s010, 0, 0);
+    memcpy(kept, few_states, sizeof few_states);
+    holds("relevant_facts_sparse", SLICE(work), kept);
+    is("relevant_facts_sparse, two",
+       larkhammock_relevant_facts_sparse(SLICE(problem), SLICE(both), s100,
+                                         work, sizeof few_states),
        1, s100 | s010, 0, 0);
 
     are("search_plans", larkhammock_search_plans(SLICE(problem), 4, plenty),

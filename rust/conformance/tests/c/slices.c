@@ -110,6 +110,10 @@ static void no_problem(const uint8_t *p, size_t len, const uint8_t *plan,
     is("relevant_facts",
        larkhammock_relevant_facts(p, len, plan, len, s010, out.at, out_len),
        0, 11, len, 0);
+    is("relevant_facts_sparse",
+       larkhammock_relevant_facts_sparse(p, len, plan, len, s010,
+                                         out.at, out_len),
+       0, 11, len, 0);
     is("search_plans", larkhammock_search_plans(p, len, 4, plenty),
        0, 11, len, 0);
     starts("no problem", out, out_len, NULL, 0);
@@ -135,6 +139,10 @@ static void no_plan(struct room p, const uint8_t *plan, size_t len,
        larkhammock_relevant_facts(p.at, p_len, plan, len, s010,
                                   out.at, out_len),
        0, 31, len, 0);
+    is("relevant_facts_sparse",
+       larkhammock_relevant_facts_sparse(p.at, p_len, plan, len, s010,
+                                         out.at, out_len),
+       0, 31, len, 0);
     starts("no plan", out, out_len, NULL, 0);
 }
 
@@ -154,6 +162,10 @@ static void no_room(struct room p, struct room plan, const uint8_t *lines,
     is("relevant_facts",
        larkhammock_relevant_facts(p.at, p_len, plan.at, plan_len, s010,
                                   out.at, out_len),
+       0, 42, 0, 0);
+    is("relevant_facts_sparse",
+       larkhammock_relevant_facts_sparse(p.at, p_len, plan.at, plan_len, s010,
+                                         out.at, out_len),
        0, 42, 0, 0);
     starts("no room", out, out_len, NULL, 0);
 }
@@ -224,6 +236,18 @@ static void writes(struct room p, struct room plan)
                                       work.at, len),
            fits, fits ? s010 : 42, 0, 0);
         starts("relevant_facts", work, len, states, fits ? sizeof states : 0);
+        leave(work);
+    }
+    for (size_t len = sizeof few_states - 1; len <= sizeof few_states + 8;
+         len++) {
+        struct room work = unwritten(len);
+        const int fits = len >= sizeof few_states;
+        is("relevant_facts_sparse",
+           larkhammock_relevant_facts_sparse(p.at, p_len, plan.at, plan_len,
+                                             s010, work.at, len),
+           fits, fits ? s010 : 42, 0, 0);
+        starts("relevant_facts_sparse", work, len, few_states,
+               fits ? sizeof few_states : 0);
         leave(work);
     }
 }

@@ -51,6 +51,15 @@ static const uint8_t states[] = {                 /* from 010, with both */
     0, 1, 1,
 };
 
+static const uint8_t few_states[] = {             /* of the same run */
+    0, 1, 0,
+    0, 1, 0,
+    0, 1, 0,
+    0, 1, 1,
+    0, 0, 0, 0, 0, 0, 0, 0, 0, 0, 0, 0, 0, 0, 0, 0, 0, 0, 0, 0,
+    0, 0, 0, 0, 0, 0, 0, 0, 0, 0, 0, 0, 0, 0, 0, 0, 0, 0, 0,
+};
+
 static int checked = 0;
 static int faults = 0;
 

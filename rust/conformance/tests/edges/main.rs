@@ -10,6 +10,7 @@ mod problems;
 mod read_plan;
 mod read_problem;
 mod relevant_facts;
+mod relevant_facts_sparse;
 mod run;
 mod search_plans;
 #[path = "../support/mod.rs"]
@@ -37,6 +38,7 @@ fn case_of(problem: &Problem, steps: &[u8]) -> Case {
         grant: u64::MAX,
         room: problem.version.most_bytes(),
         work: problem.version.most_work_bytes(),
+        sparse_work: problem.version.most_sparse_work_bytes(),
         shared_grant: u64::MAX,
         ..Case::default()
     }
@@ -69,6 +71,7 @@ fn the_limits_of_both_versions() {
     assert_eq!(first, (1, [48, 96], 48, [8, 8_191, 65_533]));
     assert_eq!(second, (2, [64, 128], 64, [10, 6_553, 65_535]));
     assert_eq!(VERSIONS.map(|v| v.most_work_bytes()), [12_336, 16_448]);
+    assert_eq!(VERSIONS.map(|v| v.most_sparse_work_bytes()), [1_584, 2_112]);
 }
 
 fn the_limits_are_those_of_the_safe_crate(version: &Version) {
@@ -81,6 +84,10 @@ fn the_limits_are_those_of_the_safe_crate(version: &Version) {
     assert_eq!(named.most_lines(), version.most_lines);
     assert_eq!(named.longest_list(), version.most_bytes());
     assert_eq!(named.longest_work(), version.most_work_bytes());
+    assert_eq!(
+        named.longest_sparse_work(),
+        version.most_sparse_work_bytes()
+    );
 }
 
 /// Whatever follows the byte, and where nothing does.
@@ -125,7 +132,15 @@ fn the_problem_is_refused_before_the_plan_and_the_list(version: &Version) {
     }
     let problem = trial::problem(version);
     let case = Case { problem, ..case };
-    for operation in [ReadPlan, Run, Judge, WriteList, FollowList, RelevantFacts] {
+    for operation in [
+        ReadPlan,
+        Run,
+        Judge,
+        WriteList,
+        FollowList,
+        RelevantFacts,
+        RelevantFactsSparse,
+    ] {
         expect(operation, &case, &[0, 31, 1]);
     }
     // A search takes no plan.

@@ -36,6 +36,16 @@ impl Subject for Library {
         raw::relevant_facts(problem, plan, state, arena.out()).word
     }
 
+    fn relevant_facts_sparse(
+        &self,
+        problem: &[u8],
+        plan: &[u8],
+        state: u64,
+        arena: &mut Arena,
+    ) -> Answer {
+        raw::relevant_facts_sparse(problem, plan, state, arena.out()).word
+    }
+
     fn search_plans(&self, problem: &[u8], longest: u64, grant: u64) -> Answer {
         raw::search_plans(problem, longest, grant).word
     }

@@ -1,6 +1,4 @@
-use Rattle.std.proofs.Common.{sym, ap, ◌∙◌}
-use Rattle.fields.specs.Actions.{effects}
-use Rattle.fields.proofs.FirstEffect.{effects-rise}
+use Rattle.backward.proofs.Words.{sym, ap, ◌∙◌, effects, effects-rise}
 use Rattle.backward.proofs.Changing.{gathering-begins, gathering-asked, gathering-passed, gathering-ends}
 use Rattle.backward.proofs.matters.facts_of_conditions.Goals as goal
 

@@ -1,10 +1,5 @@
-use Rattle.std.proofs.Common.{refl, sym, ap, ◌∙◌, ◌||◌, ℕ, eqb}
-use Rattle.model.specs.Relevance.{fact_of}
-use Rattle.formula.specs.Views.{literal}
-use Rattle.formula.specs.Literals.{literals_left}
-use Rattle.backward.specs.Facts.{has_fact}
-use Rattle.backward.proofs.Sets.{set-none, grown, grown-none}
-use Rattle.backward.proofs.Naming.{named_by, literal-names, formula-names, named-first, none-named-by}
+use Rattle.backward.proofs.Words.{refl, sym, ap, ◌∙◌, ◌||◌, ℕ, eqb, fact_of, literal, literals_left, has_fact}
+use Rattle.backward.proofs.{Sets.set-none, Sets.grown, Sets.grown-none, Naming.named_by, Naming.literal-names, Naming.formula-names, Naming.named-first, Naming.none-named-by}
 use Rattle.backward.proofs.named.named_facts.Goals as goal
 
 pub returns-in-Literal : goal.returns-in-Literal

@@ -1,6 +1,5 @@
 use Rattle.std.proofs.Common.{sym, ◌∙◌, ◌<◌, arith}
-use Rattle.backward.proofs.States.{byte-flag}
-use Rattle.backward.proofs.Making.{lanes-yes, lanes-no, making-fact, making-next, making-ends}
+use Rattle.backward.proofs.{States.byte-flag, Making.lanes-yes, Making.lanes-no, Making.making-fact, Making.making-next, Making.making-ends}
 use Rattle.backward.proofs.rows.make.Goals as goal
 use Rattle.backward.proofs.rows.make.Goals.{then-yes, else-yes}
 

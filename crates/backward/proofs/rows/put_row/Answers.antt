@@ -1,7 +1,5 @@
-use Rattle.std.proofs.Common.{ap, ◌∙◌, ◌<◌, arith}
-use Rattle.model.specs.Kleene.{is_yes}
-use Rattle.backward.proofs.States.{byte-flag}
-use Rattle.backward.proofs.Writing.{putting-next, putting-ends}
+use Rattle.backward.proofs.Words.{ap, ◌∙◌, ◌<◌, arith, is_yes}
+use Rattle.backward.proofs.{States.byte-flag, Writing.putting-next, Writing.putting-ends}
 use Rattle.backward.proofs.rows.put_row.Goals as goal
 
 pub loop-f-preserved : goal.loop-f-preserved

@@ -1,21 +1,12 @@
-use Rattle.std.proofs.Common.{◌≡◌, sym, ap, ◌∙◌, ℕ, ◌+◌, ◌*◌, ◌≤◌, ◌<◌, suc, length, arith}
-use native.Mathlib.Nat.{suc-mul}
-use Rattle.model.specs.Kleene.{is_yes}
-use Rattle.blocks.specs.Values.{task}
-use Rattle.blocks.proofs.Tasks.{task-facts, task-goal, plan-length}
-use Rattle.backward.specs.Changes.{holds_now}
-use Rattle.backward.proofs.Writing.{stops-short, puts-none, puts, tells, part-length, row-put}
+use Rattle.backward.proofs.Words.{◌≡◌, sym, ap, ◌∙◌, ℕ, ◌+◌, ◌*◌, ◌≤◌, ◌<◌, suc, length, arith, suc-mul, is_yes, task, task-facts, task-goal, plan-length, holds_now}
+use Rattle.backward.proofs.{Going.stops-tells, Going.stops-none, Writing.puts-all, Writing.tells, Writing.part-length, Writing.row-put}
 use Rattle.backward.proofs.rows.put_run.Goals as goal
 
 pub returns-then-not-take_steps-clause-puts : goal.returns-then-not-take_steps-clause-puts
-returns-then-not-take_steps-clause-puts c =
-    puts-none (task c.args.task.now) c.args.cases.now c.take_steps.new.cases c.args.rows.now c.take_steps.new.rows c.take_steps.new.marks
-    c.if-not-take_steps.ensures.takes
+returns-then-not-take_steps-clause-puts c = stops-none (task c.args.task.now) c.args.cases.now c.if-not-take_steps.ensures.takes _
 
 pub returns-then-not-take_steps-clause-tells : goal.returns-then-not-take_steps-clause-tells
-returns-then-not-take_steps-clause-tells c =
-    stops-short (task c.args.task.now) c.args.cases.now c.take_steps.new.cases c.args.rows.now c.take_steps.new.rows c.take_steps.new.marks
-    c.if-not-take_steps.ensures.takes
+returns-then-not-take_steps-clause-tells c = stops-tells (task c.args.task.now) c.args.cases.now c.if-not-take_steps.ensures.takes
 
 pub returns-clause-puts : goal.returns-clause-puts
 returns-clause-puts c =
@@ -27,10 +18,11 @@ returns-clause-puts c =
     omega (arith, c.requires.room, ap (λ (x : ℕ). suc len * x) same, suc-mul len n, c.take_steps.auto.rows)
     in
     let size = c.put_row.auto.row ∙ part-length (len * n) n c.take_steps.new.rows room in
-    puts (task t) c.args.cases.now c.take_steps.new.cases c.args.rows.now c.take_steps.new.rows c.take_steps.new.marks
+    λ st z shown reaches.
+    puts-all (task t) c.args.cases.now c.take_steps.new.cases c.args.rows.now c.take_steps.new.rows c.take_steps.new.marks
     c.if-not-take_steps.ensures.takes (len * n)
     (ap (λ (x : ℕ). x * n) (sym (plan-length t)) ∙ ap (λ (x : ℕ). length (task t).plan * x) (same ∙ c.requires.facts ∙ sym (task-facts t)))
-    c.put_row.new.row c.put_row.ensures _ (row-put (len * n) n c.take_steps.new.rows c.put_row.new.row room size)
+    c.put_row.new.row c.put_row.ensures _ (row-put (len * n) n c.take_steps.new.rows c.put_row.new.row room size) st z shown
 
 pub returns-clause-tells : goal.returns-clause-tells
 returns-clause-tells c =

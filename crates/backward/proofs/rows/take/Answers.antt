@@ -1,10 +1,6 @@
-use Rattle.std.proofs.Common.{◌≡◌, sym, ap, subst, ◌∙◌, ℕ, ◌<◌, arith}
-use Rattle.model.specs.Kleene.{is_yes}
-use Rattle.fields.specs.ActionBytes.{Rising}
-use Rattle.fields.specs.declared.actions.Effects.{Effects}
-use Rattle.fields.specs.Actions.{action, effects}
-use Rattle.fields.proofs.FirstEffect.{effects-rise}
+use Rattle.backward.proofs.Words.{◌≡◌, sym, ap, subst, ◌∙◌, ℕ, ◌<◌, arith, is_yes, Rising, action, effects, effects-rise}
 use Rattle.backward.proofs.Making.{changes-inside, unmet, conflicting, taken}
+use Rattle.fields.specs.declared.actions.Effects.{Effects}
 use Rattle.backward.proofs.rows.take.Goals as goal
 
 rises : (es : Effects) (n : ℕ) → es.facts ≡ n → Rising n 0 (effects es)

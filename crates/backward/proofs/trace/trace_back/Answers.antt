@@ -1,10 +1,4 @@
-use Rattle.std.proofs.Common.{◌≡◌, sym, subst, ◌∙◌, ℕ, ◌-◌, suc, arith}
-use lib.ListN.{get_or}
-use Rattle.model.specs.Action.{Action}
-use Rattle.model.specs.ProblemBytes.{action_at}
-use Rattle.blocks.specs.Values.{task}
-use Rattle.blocks.proofs.Tasks.{task-facts, plan-length}
-use Rattle.backward.specs.Marks.{no_mark, MattersBefore}
+use Rattle.backward.proofs.Words.{◌≡◌, sym, subst, ◌∙◌, ℕ, ◌-◌, suc, arith, get_or, Action, action_at, task, task-facts, plan-length, no_mark, MattersBefore}
 use Rattle.backward.proofs.Tracing.{Tracing, tracing-begins, tracing-next, tracing-ends}
 use Rattle.backward.proofs.trace.trace_back.Goals as goal
 

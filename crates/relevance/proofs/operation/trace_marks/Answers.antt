@@ -1,7 +1,5 @@
 use Rattle.std.proofs.Common.{sym, ap, ◌∙◌}
-use Rattle.model.specs.Formula.{Formula}
-use Rattle.model.specs.Operations.{task_of}
-use Rattle.model.specs.Relevance.{names}
+use Rattle.model.specs.{Formula.Formula, Operations.task_of, Relevance.names}
 use Rattle.blocks.specs.Values.{task}
 use Rattle.blocks.proofs.Tasks.{facts-fit, task-goal}
 use Rattle.relevance.proofs.Answers.{traces-marks}

@@ -1,7 +1,4 @@
-use Rattle.std.proofs.Common.{ap}
-use Rattle.fields.specs.Actions.{effects}
-use Rattle.fields.proofs.FirstEffect.{effects-rise}
-use Rattle.backward.proofs.Changing.{changing-begins, changing-next, changing-ends}
+use Rattle.backward.proofs.{Words.ap, Words.effects, Words.effects-rise, Changing.changing-begins, Changing.changing-next, Changing.changing-ends}
 use Rattle.backward.proofs.changes.Changes.of.Goals as goal
 
 pub loop-effect-init : goal.loop-effect-init

@@ -1,6 +1,4 @@
-use Rattle.std.proofs.Common.{refl}
-use Rattle.model.specs.Case.{bit}
-use Rattle.backward.proofs.Sets.{bit-above}
+use Rattle.backward.proofs.{Words.refl, Words.bit, Sets.bit-above}
 use Rattle.backward.proofs.facts.FactSet.has.Goals as goal
 
 pub returns : goal.returns
