@@ -4,5 +4,6 @@ pub mod Entries
 pub mod Holding
 pub mod Turns
 pub mod Conflicts
+pub mod Finding
 pub mod Obeying
 pub mod Members

@@ -6,7 +6,7 @@ use Rattle.model.specs.{Case.flag, Planes.lane_bit}
 use Rattle.model.proofs.Laws.Planes.{low_bit, bit-and, bit-zero, bit-small}
 use Rattle.cases.specs.{declared.value.Value.Value, declared.cases.Cases.Cases, Cases.case_of, Cases.value_at}
 use Rattle.step.specs.{declared.conditions.Conditions.Conditions, declared.action.Hindrance.TheVariants.Precondition, declared.action.Hindrance.TheVariants.Conflict}
-use Rattle.step.specs.{Conditions.Hold, Conditions.LeftOut, Conditions.AllLeftOut, Actions.applicable_bit, Actions.GoesOn, Actions.IsHindered}
+use Rattle.step.specs.{Conditions.Hold, Conditions.no_conflict, Conditions.LeftOut, Conditions.AllLeftOut, Actions.applicable_bit, Actions.GoesOn, Actions.IsHindered}
 use Rattle.step.proofs.Conflicts.{sure-yes, flag-and, flag_true, flag-false}
 
 -- lane 0 alone
@@ -23,7 +23,7 @@ module _ (c : Cases) (a : Action) (alive : ℕ) (v : Value) (x : (j : ℕ) → j
   met-bit : (j : ℕ) → j < 64 → lane_bit j met ≡ min (lane_bit j alive) (flag (holds_in three (case_of c j) a.precondition))
   met-bit j l = bit-and j alive v.sure ∙ ap (min (lane_bit j alive)) (holds-bit j l)
 
-  applicable-bit : (j : ℕ) → j < 64 → applicable_bit c a alive j ≡ min (lane_bit j met) (flag (every c.facts (exclusive three a (case_of c j))))
+  applicable-bit : (j : ℕ) → j < 64 → applicable_bit c a alive j ≡ min (lane_bit j met) (no_conflict c a j)
   unfolding applicable
   applicable-bit j l =
       rw (flag-and (holds_in three (case_of c j) a.precondition) (every c.facts (exclusive three a (case_of c j))), met-bit j l) (omega arith)
@@ -39,28 +39,28 @@ module _ (c : Cases) (a : Action) (alive : ℕ) (v : Value) (x : (j : ℕ) → j
             flag-false _ (sym (holds-bit 0 (omega arith)) ∙ sym (lane-0 alive v.sure one) ∙ ap (lane_bit 0) e ∙ bit-zero 0);
       }
 
-  -- its conditions were found, and the lanes in conflict left out
-  module _ (k : Conditions) (same : k.facts ≡ c.facts) (H : Hold k a.effects (case_of c)) where
-    pub obeys-conflict : 0 < met → (f : ℕ) → AllLeftOut k met f → IsHindered c a alive c (Conflict f)
-    obeys-conflict some f W =
-        record {
-          kept = refl;
-          none = λ j l. applicable-bit j l ∙ (rw same at (W.bits a (case_of c) H j l));
-          hinders =
-              λ one.
-              let most : met ≤ alive = and_le_l alive v.sure in
-              let only : met ≡ 1 = omega arith in
-              let bit : lane_bit 0 v.sure ≡ 1 = sym (lane-0 alive v.sure one) ∙ ap (lane_bit 0) only ∙ low_bit 1 in
-              (flag_true _ (λ z. omega (arith, bit, z, holds-bit 0 (omega arith))), rw same at (W.lowest a (case_of c) H only));
-        }
+  -- some do, and all of them are in conflict
+  pub obeys-conflict : 0 < met → (f : ℕ) → AllLeftOut c a met f → IsHindered c a alive c (Conflict f)
+  obeys-conflict some f W =
+      record {
+        kept = refl;
+        none = λ j l. applicable-bit j l ∙ W.bits j l;
+        hinders =
+            λ one.
+            let most : met ≤ alive = and_le_l alive v.sure in
+            let only : met ≡ 1 = omega arith in
+            let bit : lane_bit 0 v.sure ≡ 1 = sym (lane-0 alive v.sure one) ∙ ap (lane_bit 0) only ∙ low_bit 1 in
+            (flag_true _ (λ z. omega (arith, bit, z, holds-bit 0 (omega arith))), W.lowest only);
+      }
 
-    pub obeys-some :
-        (lanes : ℕ) (d : Cases) → LeftOut k met lanes →
-        ((b : Action) → Hold k b.effects (case_of c) → (j : ℕ) → j < 64 → case_of d j ≡ step three c.facts b (case_of c j)) → GoesOn c a alive d lanes
-    obeys-some lanes d W S =
-        record {
-          among = omega (arith, W.among, and_le_l alive v.sure);
-          some = W.some;
-          bits = λ j l. (rw same at (W.bits a (case_of c) H j l)) ∙ sym (applicable-bit j l);
-          cases = S a H;
-        }
+  -- some go on
+  pub obeys-some :
+      (lanes : ℕ) (k : Conditions) (d : Cases) → LeftOut c a met k lanes →
+      ((b : Action) → Hold k b.effects (case_of c) → (j : ℕ) → j < 64 → case_of d j ≡ step three c.facts b (case_of c j)) → GoesOn c a alive d lanes
+  obeys-some lanes k d W S =
+      record {
+        among = omega (arith, W.among, and_le_l alive v.sure);
+        some = W.some;
+        bits = λ j l. W.bits j l ∙ sym (applicable-bit j l);
+        cases = S a W.hold;
+      }

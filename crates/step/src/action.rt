@@ -31,8 +31,7 @@ pub fn obey(
     if met == 0 {
         return Err(Hindrance::Precondition);
     }
-    conditions.find(action.effects, cases);
-    match conditions.without_conflicts(met) {
+    match conditions.find(action, cases, met) {
         Err(fact) => Err(Hindrance::Conflict { fact }),
         Ok(lanes) => {
             conditions.settle(cases);

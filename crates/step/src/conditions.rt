@@ -4,35 +4,36 @@ ghost use Rattle.std.proofs.Props.{props};
 ghost use Rattle.std.specs.Prelude.{ℕ, ◌<◌, ◌≤◌, IsTrue, get_or};
 ghost use Rattle.model.specs.Limits.{max_facts, max_effects};
 ghost use Rattle.model.specs.FormulaBytes.{is_literal};
+ghost use Rattle.model.specs.Planes.{lane_bit};
 
 use cases::{Cases, Value, evaluate};
-use fields::Effects;
+use fields::Action;
 use formula::Literal;
 
-// Room for the entries of an action over so many facts: each one's literal, by its byte, and the value of its condition. Literals rise. (They
-// stand apart from the values, whose words then lie side by side: so the loop that settles them is vectorised.)
+// Room for the entries of an action over so many facts: each one's literal, by its byte, and the value of its condition, by its two words.
+// Literals rise. (The words stand apart, since each is stored singly: side by side they would be loaded as one, and such a load has to wait for
+// its stores.)
 #[derive(Drop)]
 pub struct Conditions {
     facts: u8,
     count: usize,
     literals: [u8; Conditions::MOST],
-    values: [Value; Conditions::MOST],
+    some: [u64; Conditions::MOST],
+    sure: [u64; Conditions::MOST],
     pub ghost few_facts: { facts ≤ max_facts },
     pub ghost few: { count ≤ max_effects },
     pub ghost declared: { (i : ℕ) → i < count → IsTrue (is_literal facts (get_or literals i 0)) } by { Prim.hlevel props },
+    pub ghost consistent: { (i j : ℕ) → j < 64 → lane_bit j (get_or sure i 0) ≤ lane_bit j (get_or some i 0) },
     pub ghost rise: { (i k : ℕ) → i < k → k < count → get_or literals i 0 < get_or literals k 0 },
 }
-
-// A denial's byte is so much more than its fact's.
-const DENIAL: usize = Literal::DENIAL as usize;
 
 impl Conditions {
     ghost use Rattle.std.specs.Prelude.{◌≡◌, List, []};
     ghost use Rattle.model.specs.Action as model;
     ghost use Rattle.model.specs.Kleene.{Kleene, three};
     ghost use Rattle.fields.specs.Actions as fields;
-    ghost use Rattle.cases.specs.Cases.{case_of};
-    ghost use Rattle.step.specs.Conditions.{Hold, Pushed, LeavesOutConflicts};
+    ghost use Rattle.cases.specs.Cases.{case_of, value_at};
+    ghost use Rattle.step.specs.Conditions.{condition_at, Hold, Pushed, Finds};
 
     // The entries of an action, in any version: two a fact.
     const MOST: usize = 128;
@@ -45,21 +46,55 @@ impl Conditions {
             facts: 0,
             count: 0,
             literals: [0; Conditions::MOST],
-            values: [Value::no(); Conditions::MOST],
+            some: [0; Conditions::MOST],
+            sure: [0; Conditions::MOST],
         }
     }
 
-    // The entries of these effects, with the values of their conditions.
+    // The value of an entry's condition.
     #[inline(always)]
-    pub fn find(&mut self, effects: Effects, cases: &Cases)
-        ensures facts { self.new.facts ≡ effects.entry.facts }
-        ensures hold { Hold self.new (fields.effects effects.entry) (case_of cases.now) }
+    fn condition(&self, e: usize) -> Value
+        requires { e < self.now.count }
+        ensures { (j : ℕ) → j < 64 → value_at result j ≡ value_at (condition_at self.now e) j }
     {
-        self.facts = effects.facts;
-        self.count = 0;
-        for effect in effects {
-            self.push(effect.literal, evaluate(effect.condition, cases));
+        Value {
+            some: self.some[e],
+            sure: self.sure[e],
         }
+    }
+
+    // The entries of this action, with the values of their conditions; and the lanes of `alive` in which no fact would be set and cleared at once:
+    // each has a condition that reads no. Where none is left, the fact at which the last one fell out; for one lane that is the lowest.
+    #[inline(always)]
+    pub fn find(&mut self, action: Action, cases: &Cases, alive: u64) -> Result<u64, usize>
+        requires same { action.effects.facts ≡ cases.now.facts }
+        requires some { 0 < alive }
+        ensures facts { self.new.facts ≡ cases.now.facts }
+        ensures finds { Finds cases.now (fields.action action.entry) alive self.new result }
+    {
+        self.facts = action.effects.facts;
+        self.count = 0;
+        let mut lanes = alive;
+        // The entry that may set what the next one clears: as literals rise, it never goes back.
+        let mut i = 0;
+        for effect in action.effects {
+            let value = evaluate(effect.condition, cases);
+            if effect.literal.is_denial() {
+                let fact = effect.literal.fact();
+                while i < self.count && self.literals[i] < fact {
+                    i += 1;
+                }
+                if i < self.count && self.literals[i] == fact {
+                    let exclusive = !(self.condition(i) & value);
+                    lanes &= exclusive.sure;
+                    if lanes == 0 {
+                        return Err(fact as usize);
+                    }
+                }
+            }
+            self.push(effect.literal, value);
+        }
+        Ok(lanes)
     }
 
     // One more entry.
@@ -72,38 +107,9 @@ impl Conditions {
     {
         let e = self.count;
         self.literals[e] = literal.byte();
-        self.values[e] = value;
+        self.some[e] = value.some;
+        self.sure[e] = value.sure;
         self.count = e + 1;
-    }
-
-    // The lanes of `alive` in which no fact would be set and cleared at once: each has a condition that reads no. Where none is left, the fact
-    // at which the last one fell out; for one lane that is the lowest.
-    #[inline(always)]
-    pub fn without_conflicts(&self, alive: u64) -> Result<u64, usize>
-        requires { 0 < alive }
-        ensures { LeavesOutConflicts self.now alive result }
-    {
-        let mut lanes = alive;
-        // The entry that may set what entry e clears: as literals rise, it never goes back.
-        let mut i = 0;
-        for e in 0..self.count {
-            let cleared = self.literals[e] as usize;
-            if cleared < DENIAL {
-                continue;
-            }
-            while self.literals[i] as usize + DENIAL < cleared {
-                i += 1;
-            }
-            let fact = self.literals[i] as usize;
-            if fact + DENIAL == cleared {
-                let exclusive = !(self.values[i] & self.values[e]);
-                lanes &= exclusive.sure;
-                if lanes == 0 {
-                    return Err(fact);
-                }
-            }
-        }
-        Ok(lanes)
     }
 
     // The cases after the action: a fact is true if its set condition held, or if it was true and its clear condition did not hold. The entries
@@ -117,7 +123,7 @@ impl Conditions {
         for e in (0..self.count).rev() {
             let literal = Literal::of(self.literals[e]);
             // It holds where it did, or where its condition does.
-            let value = self.values[e] | cases.value(literal);
+            let value = self.condition(e) | cases.value(literal);
             cases.put(literal, value);
         }
     }

@@ -1,9 +1,7 @@
-use Rattle.std.proofs.Common.{◌-◌, ◌<◌, ◌∙◌, ap, length, arith}
+use Rattle.std.proofs.Common.{◌-◌, ◌∙◌, ap, arith}
 use Rattle.model.specs.Kleene.{either}
-use Rattle.cases.specs.{declared.value.Value.Value, Cases.value_at}
+use Rattle.cases.specs.{Cases.value_at}
 use Rattle.formula.proofs.Leaves.{literal-byte}
-use Rattle.step.specs.Conditions.{never}
-use Rattle.std.proofs.lemmas.List.{get_or_default}
 use Rattle.step.proofs.{Turns.settling-begins, Turns.settling-next, Turns.settling-ends}
 use Rattle.step.proofs.conditions.Conditions.settle.Goals as goal
 
@@ -19,9 +17,8 @@ pub loop-e-preserved : goal.loop-e-preserved
 loop-e-preserved c =
     let s = c.args.self.now in
     let e = c.loop-e.e - 1 in
-    let long : e < length s.values = omega arith in
     settling-next _ _ _ _ c.loop-e.invariant c.loop-e-test.true c.value.result c.bitor-value.result (rw c.of-literal.ensures at c.value.ensures)
-    (λ j l. c.bitor-value.ensures j l ∙ ap (λ (y : Value). either (value_at y j) (value_at c.value.result j)) (get_or_default s.values e c.index-self-e.result never long))
+    (λ j l. c.bitor-value.ensures j l ∙ ap (λ t. either t (value_at c.value.result j)) (c.condition.ensures j l))
     _ c.put.ensures.facts (rw c.of-literal.ensures at c.put.ensures.cases)
 
 pub returns-clause-steps : goal.returns-clause-steps
