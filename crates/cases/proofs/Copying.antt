@@ -1,5 +1,5 @@
 -- The values of some facts copied from one table to another. Assumes nothing.
-use Rattle.std.proofs.Common.{◌≡◌, refl, sym, ap, ◌∙◌, List, ℕ, ◌+◌, ◌*◌, ◌-◌, ◌%◌, ◌≤◌, ◌<◌, arith, length, get_or, take, drop, length-take, length-drop}
+use Rattle.std.proofs.Common.{◌≡◌, sym, ap, ◌∙◌, List, ℕ, ◌+◌, ◌*◌, ◌-◌, ◌%◌, ◌≤◌, ◌<◌, arith, length, get_or, take, drop, length-take, length-drop}
 use native.Mathlib.Decide.{dec_lt}
 use borrow.Rule.Slice.PartMut.{put_mid, same_len_mid}
 use lib.ListN.{get_or-append, get_or-eq_default}
@@ -8,7 +8,7 @@ use Rattle.model.specs.Kleene.{Kleene, No, denied, three}
 use Rattle.model.specs.Limits.{max_facts}
 use Rattle.model.specs.Formula.{value_of}
 use Rattle.model.specs.FormulaBytes.{literal_of}
-use Rattle.model.specs.Planes.{InLanes, Table}
+use Rattle.model.specs.Planes.{Table}
 use Rattle.model.proofs.Laws.Planes.{literal-fact, literal-denial}
 use Rattle.cases.specs.Words.{CopiesFacts}
 use Rattle.cases.specs.Lanes.{case_in}

@@ -1,7 +1,7 @@
 -- What evaluating answers.
 use Rattle.std.specs.Prelude.{◌≡◌, Bool, true, ℕ, ◌-◌, ◌≤◌, ◌<◌}
 use Rattle.model.specs.Kleene.{Kleene, No, Yes, both, either, three}
-use Rattle.model.specs.Formula as model
+use Rattle.model.specs.Formula.{eval}
 use Rattle.model.specs.FormulaBytes.{Group, conjunction, disjunction, grouped}
 use Rattle.model.specs.Planes.{lane_bit}
 use Rattle.formula.specs.Decoding.{first, after}
@@ -33,30 +33,22 @@ deciding_value disjunction = Yes
 abbrev pub met_at : Met → ℕ → Kleene
 met_at r j = value_in (lane_bit j r.some) (lane_bit j r.sure)
 
--- y is x with the first n joined onto it, in each lane
-abbrev pub Onto : Cases → Group → (ℕ → Kleene) → ℕ → model.Formulas → (ℕ → Kleene) → Type 0
-Onto c g x n ms y = (j : ℕ) → j < 64 → y j ≡ join_values g (x j) (model.eval three (case_of c j) (grouped g (first n ms)))
-
--- the first n are joined onto x, which gives y, and where the whole is asked for, those after them are left
-pub record JoinsFirst (c : Cases) (g : Group) (x : ℕ → Kleene) (n : ℕ) (ms : model.Formulas) (whole : Bool) (y : ℕ → Kleene) (left : model.Formulas) : Type 0 where
-  pub onto : Onto c g x n ms y
-  pub rest : whole ≡ true → left ≡ after n ms
-
--- so a group's members are
-abbrev pub Joins : Cases → Members → (ℕ → Kleene) → Bool → Met → Type 0
-Joins c m x whole r = JoinsFirst c (group_of m.group) x m.count (formulas m.formulas) whole (met_at r) (formulas r.rest)
-
--- all before those that are left are joined onto x to v
-pub record JoinsBefore (c : Cases) (m : Members) (x : ℕ → Kleene) (v : Value) (left : Members) : Type 0 where
-  pub group : left.group ≡ m.group
-  pub few : left.count ≤ m.count
-  pub joined : JoinsFirst c (group_of m.group) x (m.count - left.count) (formulas m.formulas) true (value_at v) (formulas left.formulas)
-
-abbrev pub JoinsLiterals : Cases → Members → (ℕ → Kleene) → Bool → Joined → Type 0
-JoinsLiterals c m x whole (All r) = Joins c m x whole r
-JoinsLiterals c m x whole (Before v left) = JoinsBefore c m x v left
-
 -- the value of the group, and where the whole is asked for, what comes after it
 pub record GroupValue (c : Cases) (m : Members) (whole : Bool) (r : Met) : Type 0 where
-  pub value : (j : ℕ) → j < 64 → met_at r j ≡ model.eval three (case_of c j) (group m)
+  pub value : (j : ℕ) → j < 64 → met_at r j ≡ eval three (case_of c j) (group m)
   pub rest : whole ≡ true → formulas r.rest ≡ after_group m
+
+-- v is the value of the group's first members, and the others are left
+pub record Begun (c : Cases) (m : Members) (v : Value) (left : Members) : Type 0 where
+  pub group : left.group ≡ m.group
+  pub few : left.count ≤ m.count
+  pub value : (j : ℕ) → j < 64 → value_at v j ≡ eval three (case_of c j) (grouped (group_of m.group) (first (m.count - left.count) (formulas m.formulas)))
+  pub rest : formulas left.formulas ≡ after (m.count - left.count) (formulas m.formulas)
+
+abbrev pub JoinsLiterals : Cases → Members → Bool → Joined → Type 0
+JoinsLiterals c m whole (All r) = GroupValue c m whole r
+JoinsLiterals c m whole (Before v left) = Begun c m v left
+
+-- of whatever group these are left, its value
+abbrev pub Ends : Cases → Members → Value → Bool → Met → Type 0
+Ends c left v whole r = (m : Members) → Begun c m v left → GroupValue c m whole r

@@ -1,18 +1,20 @@
 // Evaluating formulas in 64 cases at once.
 ghost use Rattle.std.specs.Prelude.{ℕ, ◌≡◌, true, ◌<◌, IsTrue};
-ghost use Rattle.model.specs.declared.marks.Group.TheVariants.{All, Any};
-ghost use Rattle.model.specs.Marks.{group_of as kind_of};
-ghost use Rattle.formula.specs.Views.{formula, group as group_of};
-ghost use Rattle.cases.specs.Values.{unit_value, join_values, deciding_value, GroupValue, Joins, JoinsLiterals};
 ghost use Rattle.model.specs.Kleene.{three};
 ghost use Rattle.model.specs.Formula.{eval};
+ghost use Rattle.model.specs.FormulaBytes.{member_count};
+ghost use Rattle.model.specs.declared.marks.Group.TheVariants.{All, Any};
+ghost use Rattle.model.specs.Marks.{group_of as kind_of};
+ghost use Rattle.formula.specs.Decoding.{head, after};
+ghost use Rattle.formula.specs.Views.{formula, formulas, group as group_of};
+ghost use Rattle.cases.specs.Values.{unit_value, join_values, deciding_value, met_at, GroupValue, JoinsLiterals, Ends};
 ghost use Rattle.cases.specs.Cases.{case_of, value_at, Everywhere};
 
 use crate::cases::Cases;
 use crate::met::Met;
 use crate::value::Value;
 use crate::words::ONES;
-use formula::{Formula, Members, Next};
+use formula::{Formula, Formulas, Members, Next};
 use model::Group;
 
 // The value of a group with no member.
@@ -47,40 +49,28 @@ fn is_decided(kind: Group, value: Value) -> bool
     }
 }
 
-// Members of a kind that is known: what they are passed to is compiled for it.
-#[inline(always)]
-fn of_kind(kind: Group, members: Members) -> Members
-    requires { members.group ≡ kind }
-    ensures { result ≡ members.entry }
-{
-    Members {
-        group: kind,
-        count: members.count,
-        formulas: members.formulas,
-    }
-}
-
-// Members joined onto a value: all of them, or all before those that are left.
+// What is known of a group: its value, or the value of all members before those that are left.
 #[derive(Clone, Copy)]
 enum Joined<'a> {
     All(Met<'a>),
     Before(Value, Members<'a>),
 }
 
-// Joins the literals that the members begin with. Unless what follows the members is asked for, what decides them ends it.
+// Joins the literals that a group of this kind begins with. Unless what follows the group is asked for, what decides it ends it.
 #[inline(always)]
-fn join_literals<'a>(members: Members<'a>, begun: Value, c: &Cases, whole: bool) -> Joined<'a>
-    ensures { JoinsLiterals c.now members.entry (value_at begun) whole result }
+fn join_literals<'a>(kind: Group, members: Members<'a>, c: &Cases, whole: bool) -> Joined<'a>
+    requires { members.group ≡ kind }
+    ensures { JoinsLiterals c.now members.entry whole result }
 {
-    let mut value = begun;
+    let mut value = unit(kind);
     let mut left = members;
     while left.count > 0 {
-        if !whole & is_decided(members.group, value) {
+        if !whole & is_decided(kind, value) {
             return Joined::All(Met::of(value, left.formulas));
         }
         match left.formulas.next() {
             Next::Literal(literal, rest) => {
-                value = join(members.group, value, c.value(literal));
+                value = join(kind, value, c.value(literal));
                 left = left.past_first(rest);
             }
             Next::Group(_) => return Joined::Before(value, left),
@@ -89,26 +79,33 @@ fn join_literals<'a>(members: Members<'a>, begun: Value, c: &Cases, whole: bool)
     Joined::All(Met::of(value, left.formulas))
 }
 
-// Joins the members.
+// Joins the members that are left of a group of this kind onto the value of those before them.
 #[cycle(evaluator)]
 #[inline(always)]
-fn join_members<'a>(members: Members<'a>, begun: Value, c: &Cases, whole: bool) -> Met<'a>
-    ensures { Joins c.now members.entry (value_at begun) whole result }
+fn join_members<'a>(
+    kind: Group,
+    members: Members<'a>,
+    begun: Value,
+    c: &Cases,
+    whole: bool,
+) -> Met<'a>
+    requires { members.group ≡ kind }
+    ensures { Ends c.now members.entry begun whole result }
 {
     let mut value = begun;
     let mut left = members;
     while left.count > 0 {
-        if !whole & is_decided(members.group, value) {
+        if !whole & is_decided(kind, value) {
             return Met::of(value, left.formulas);
         }
         match left.formulas.next() {
             Next::Literal(literal, rest) => {
-                value = join(members.group, value, c.value(literal));
+                value = join(kind, value, c.value(literal));
                 left = left.past_first(rest);
             }
             Next::Group(inner) => {
-                let met = inner_group(inner, c);
-                value = join(members.group, value, met.value());
+                let met = group(inner, c, true);
+                value = join(kind, value, met.value());
                 left = left.past_first(met.rest);
             }
         }
@@ -121,44 +118,45 @@ fn join_members<'a>(members: Members<'a>, begun: Value, c: &Cases, whole: bool) 
 #[inline(never)]
 fn join_all<'a>(members: Members<'a>, begun: Value, c: &Cases, whole: bool) -> Met<'a>
     requires { members.group ≡ All }
-    ensures { Joins c.now members.entry (value_at begun) whole result }
+    ensures { Ends c.now members.entry begun whole result }
 {
-    join_members(of_kind(Group::All, members), begun, c, whole)
+    join_members(Group::All, members, begun, c, whole)
 }
 
 #[cycle(evaluator)]
 #[inline(never)]
 fn join_any<'a>(members: Members<'a>, begun: Value, c: &Cases, whole: bool) -> Met<'a>
     requires { members.group ≡ Any }
-    ensures { Joins c.now members.entry (value_at begun) whole result }
+    ensures { Ends c.now members.entry begun whole result }
 {
-    join_members(of_kind(Group::Any, members), begun, c, whole)
+    join_members(Group::Any, members, begun, c, whole)
 }
 
-// The group of the members. Where all are literals, it takes no call.
+// The value of a group of this kind. Where all its members are literals, it takes no call.
 #[cycle(evaluator)]
 #[inline(always)]
-fn group<'a>(members: Members<'a>, c: &Cases, whole: bool) -> Met<'a>
+fn join_group<'a>(kind: Group, members: Members<'a>, c: &Cases, whole: bool) -> Met<'a>
+    requires { members.group ≡ kind }
     ensures { GroupValue c.now members.entry whole result }
 {
-    match join_literals(members, unit(members.group), c, whole) {
+    match join_literals(kind, members, c, whole) {
         Joined::All(met) => met,
-        Joined::Before(value, left) => match members.group {
+        Joined::Before(value, left) => match kind {
             Group::All => join_all(left, value, c, whole),
             Group::Any => join_any(left, value, c, whole),
         },
     }
 }
 
-// A group among others, of which those after it are asked for.
+// The value of a group. Its kind is looked at once, so that no loop asks for it.
 #[cycle(evaluator)]
 #[inline(always)]
-pub(crate) fn inner_group<'a>(members: Members<'a>, c: &Cases) -> Met<'a>
-    ensures { GroupValue c.now members.entry true result }
+fn group<'a>(members: Members<'a>, c: &Cases, whole: bool) -> Met<'a>
+    ensures { GroupValue c.now members.entry whole result }
 {
     match members.group {
-        Group::All => group(of_kind(Group::All, members), c, true),
-        Group::Any => group(of_kind(Group::Any, members), c, true),
+        Group::All => join_group(Group::All, members, c, whole),
+        Group::Any => join_group(Group::Any, members, c, whole),
     }
 }
 
@@ -167,11 +165,19 @@ pub(crate) fn inner_group<'a>(members: Members<'a>, c: &Cases) -> Met<'a>
 fn outer_group(members: Members, c: &Cases) -> Value
     ensures { (j : ℕ) → j < 64 → value_at result j ≡ eval three (case_of c.now j) (group_of members.entry) }
 {
-    let met = match members.group {
-        Group::All => group(of_kind(Group::All, members), c, false),
-        Group::Any => group(of_kind(Group::Any, members), c, false),
-    };
-    met.value()
+    group(members, c, false).value()
+}
+
+// The value of the first of some formulas, in each lane's case, and the formulas after it.
+pub fn evaluate_first<'a>(members: Formulas<'a>, c: &Cases) -> Met<'a>
+    requires { 0 < member_count (formulas members) }
+    ensures value { (j : ℕ) → j < 64 → met_at result j ≡ eval three (case_of c.now j) (head (formulas members.entry)) }
+    ensures rest { formulas result.rest ≡ after 1 (formulas members.entry) }
+{
+    match members.next() {
+        Next::Literal(literal, rest) => Met::of(c.value(literal), rest),
+        Next::Group(inner) => group(inner, c, true),
+    }
 }
 
 // The formula's value, in each lane's case. Most are one literal or an empty group, and take no call.
@@ -181,13 +187,7 @@ pub fn evaluate(f: Formula, c: &Cases) -> Value
 {
     match f.alone().next() {
         Next::Literal(literal, _) => c.value(literal),
-        Next::Group(
-            Members {
-                group,
-                count: 0,
-                ..
-            },
-        ) => unit(group),
+        Next::Group(members) if members.count == 0 => unit(members.group),
         Next::Group(members) => outer_group(members, c),
     }
 }

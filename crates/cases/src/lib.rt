@@ -5,14 +5,13 @@ mod block;
 pub mod case;
 pub mod cases;
 pub mod evaluator;
-pub mod first;
-mod met;
+pub mod met;
 pub mod value;
 mod words;
 
 pub use case::Case;
 pub use cases::Cases;
-pub use evaluator::evaluate;
-pub use first::{First, evaluate_first};
+pub use evaluator::{evaluate, evaluate_first};
+pub use met::Met;
 pub use value::Value;
 pub use words::{ONES, lane_bit, word_of};

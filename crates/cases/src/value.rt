@@ -23,10 +23,7 @@ impl Value {
     pub fn yes() -> Value
         ensures { Everywhere Yes result }
     {
-        Value {
-            some: ONES,
-            sure: ONES,
-        }
+        Value::known(ONES)
     }
 
     // No in every lane.

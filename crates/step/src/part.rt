@@ -21,7 +21,7 @@ fn first_false(members: Members, cases: &Cases) -> Option<usize>
     let mut rest = members.formulas;
     for i in 0..members.count as usize {
         let member = evaluate_first(rest, cases);
-        let holds = member.value.is_yes(0);
+        let holds = member.value().is_yes(0);
         if !holds {
             return Some(i);
         }

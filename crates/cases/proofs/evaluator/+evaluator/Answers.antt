@@ -1,43 +1,59 @@
-use Rattle.std.proofs.Common.{arith, ◌∙◌}
+use Rattle.std.proofs.Common.{arith, ap, refl, sym, ◌∙◌}
 use borrow.Author.Tests.{not-true}
 use Rattle.model.proofs.Laws.Truth.{and-true}
+use Rattle.formula.specs.Decoding.{after}
+use Rattle.formula.specs.Views.{formulas}
 use Rattle.formula.proofs.Sizes.{members-fewer}
-use Rattle.cases.proofs.Evaluating.{going-begins, going-more, going-decided, joins-met, left-fewer, literal-first, group-first, literals-left, literals-then}
+use Rattle.cases.proofs.Evaluating.{begun-more, begun-ends, begun-decided, left-fewer, fewer-after, literal-first}
 use Rattle.cases.proofs.evaluator.+evaluator.Goals as goal
 
 pub join_members-loop-left-init : goal.join_members-loop-left-init
-join_members-loop-left-init t c = going-begins _ _ _ _ _
+join_members-loop-left-init t c = (refl, omega arith, λ m G. G)
 
 pub join_members-returns-then-whole-is_decided : goal.join_members-returns-then-whole-is_decided
 join_members-returns-then-whole-is_decided t c =
     let (w, e) = and-true _ _ c.if-whole-is_decided.true in
-    joins-met c.of.result (going-decided _ c.loop-left.invariant (c.is_decided.ensures e) (not-true _ w)) c.of.ensures.value c.of.ensures.rest
+    let (same, fewer, going) = c.loop-left.invariant in
+    λ m G. begun-decided (going m G) _ _ (not-true _ w) (same ∙ c.requires) (c.is_decided.ensures e) c.of.ensures.value
 
-pub join_members-inner_group-met-requires : goal.join_members-inner_group-met-requires
-join_members-inner_group-met-requires t c =
-    (omega (arith, left-fewer c.loop-left.invariant, members-fewer _ _ _ _ c.in-Group.ensures), tt)
+pub join_members-group-met-requires : goal.join_members-group-met-requires
+join_members-group-met-requires t c = omega (arith, c.loop-left.invariant.1, members-fewer _ _ _ _ c.in-Group.ensures)
 
 pub join_members-loop-left-preserved-in-Literal : goal.join_members-loop-left-preserved-in-Literal
 join_members-loop-left-preserved-in-Literal t c =
-    rw (c.past_first-left.ensures.count, c.past_first-left.ensures.formulas)
-    (going-more c.loop-left.invariant (omega arith) (literal-first _ _ _ _ _ c.in-Literal.ensures c.value.ensures) c.join-value.ensures)
+    let e = c.in-Literal.ensures in
+    let past = c.past_first-left.ensures in
+    let (same, fewer, going) = c.loop-left.invariant in
+    let rest = past.formulas ∙ ap (after 1) (sym e) in (
+      past.group ∙ same,
+      rw rest (omega (arith, fewer, fewer-after (formulas c.loop-left.left.formulas))),
+      λ m G.
+          begun-more (going m G) _ _ (omega arith) (same ∙ c.requires) (literal-first c.args.c.now _ e c.value.ensures) c.join-value.ensures past.group past.count rest,
+    )
 
 pub join_members-loop-left-preserved : goal.join_members-loop-left-preserved
 join_members-loop-left-preserved t c =
-    rw (c.past_first-left-in-Group.ensures.count, c.past_first-left-in-Group.ensures.formulas)
-    (going-more c.loop-left.invariant (omega arith)
-    (group-first _ _ _ _ _ c.in-Group.ensures c.inner_group-met.ensures c.value-in-Group.ensures) c.join-value-in-Group.ensures)
+    let e = c.in-Group.ensures in
+    let met = c.group-met.ensures in
+    let past = c.past_first-left-in-Group.ensures in
+    let (same, fewer, going) = c.loop-left.invariant in
+    let rest = past.formulas ∙ met.rest refl ∙ ap (after 1) (sym e) in (
+      past.group ∙ same,
+      rw rest (omega (arith, fewer, fewer-after (formulas c.loop-left.left.formulas))),
+      λ m G.
+          begun-more (going m G) _ _ (omega arith) (same ∙ c.requires) (rw e (λ j l. c.value-in-Group.ensures j l ∙ met.value j l)) c.join-value-in-Group.ensures past.group past.count
+          rest,
+    )
 
-pub group-join_all-requires : goal.group-join_all-requires
-group-join_all-requires t c =
-    (omega (arith, literals-left c.in-Before.ensures), c.in-Before.ensures.group ∙ c.in-All-group.is)
+pub join_members-returns : goal.join_members-returns
+join_members-returns t c = λ m G. begun-ends (c.loop-left.invariant.2 m G) _ _ (omega arith) c.of-2.ensures.value c.of-2.ensures.rest
 
-pub group-join_any-requires : goal.group-join_any-requires
-group-join_any-requires t c =
-    (omega (arith, literals-left c.in-Before.ensures), c.in-Before.ensures.group ∙ c.in-Any.is)
+pub join_group-join_all-requires : goal.join_group-join_all-requires
+join_group-join_all-requires t c =
+    let b = c.in-Before.ensures in
+    (omega (arith, left-fewer b), b.group ∙ c.requires ∙ c.in-All-kind.is)
 
-pub group-returns-in-All-group : goal.group-returns-in-All-group
-group-returns-in-All-group t c = literals-then _ _ _ _ _ _ c.unit.ensures c.in-Before.ensures c.join_all.ensures
-
-pub group-returns-in-Any : goal.group-returns-in-Any
-group-returns-in-Any t c = literals-then _ _ _ _ _ _ c.unit.ensures c.in-Before.ensures c.join_any.ensures
+pub join_group-join_any-requires : goal.join_group-join_any-requires
+join_group-join_any-requires t c =
+    let b = c.in-Before.ensures in
+    (omega (arith, left-fewer b), b.group ∙ c.requires ∙ c.in-Any.is)

@@ -1,17 +1,16 @@
 -- Each call has less to read, or as much and goes on with it. The loop has joined all but what is left.
-use Rattle.std.proofs.Common.{◌+◌, ◌*◌}
-use Rattle.model.specs.Marks.{group_of}
+use Rattle.std.proofs.Common.{◌≡◌, ◌+◌, ◌*◌, ◌≤◌}
 use Rattle.formula.specs.Views.{formulas}
-use Rattle.cases.specs.Cases.{value_at}
+use Rattle.formula.specs.declared.formulas.Members.{Members}
 use Rattle.formula.proofs.Sizes.{sizes}
-use Rattle.cases.proofs.Evaluating.{Going}
+use Rattle.cases.specs.Values.{Begun}
 use Rattle.cases.proofs.evaluator.+evaluator.Given as goal
 
-abbrev pub decreases-inner_group : goal.decreases-inner_group
-decreases-inner_group l = 4 * sizes (formulas l.members.formulas) + 3
-
 abbrev pub decreases-group : goal.decreases-group
-decreases-group l = 4 * sizes (formulas l.members.formulas) + 2
+decreases-group l = 4 * sizes (formulas l.members.formulas) + 3
+
+abbrev pub decreases-join_group : goal.decreases-join_group
+decreases-join_group l = 4 * sizes (formulas l.members.formulas) + 2
 
 abbrev pub decreases-join_all : goal.decreases-join_all
 decreases-join_all l = 4 * sizes (formulas l.members.formulas) + 1
@@ -24,7 +23,8 @@ decreases-join_members l = 4 * sizes (formulas l.members.formulas)
 
 abbrev pub invariant-join_members-loop-left : goal.invariant-join_members-loop-left
 invariant-join_members-loop-left l =
-    Going l.c (group_of l.members.group) (value_at l.fn.begun) l.members.count (formulas l.members.formulas) l.left.count (value_at l.value) (formulas l.left.formulas)
+    (l.left.group ≡ l.members.group) × (sizes (formulas l.left.formulas) ≤ sizes (formulas l.members.formulas)) ×
+    ((m : Members) → Begun l.c m l.fn.begun l.members → Begun l.c m l.value l.left)
 
 abbrev pub decreases-join_members-loop-left : goal.decreases-join_members-loop-left
 decreases-join_members-loop-left l = l.left.count

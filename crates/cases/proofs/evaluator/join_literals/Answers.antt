@@ -1,20 +1,24 @@
-use Rattle.std.proofs.Common.{◌∙◌, refl, arith}
+use Rattle.std.proofs.Common.{arith, ap, sym, ◌∙◌}
 use borrow.Author.Tests.{not-true}
 use Rattle.model.proofs.Laws.Truth.{and-true}
-use Rattle.cases.proofs.Evaluating.{going-begins, going-more, going-decided, joins-met, literal-first}
+use Rattle.formula.specs.Decoding.{after}
+use Rattle.cases.proofs.Evaluating.{begun-none, begun-more, begun-ends, begun-decided, literal-first}
 use Rattle.cases.proofs.evaluator.join_literals.Goals as goal
 
 pub loop-left-init : goal.loop-left-init
-loop-left-init c = (refl, going-begins _ _ _ _ _)
+loop-left-init c = begun-none _ _ _ c.requires c.unit-value.ensures
 
 pub returns-then-whole-is_decided : goal.returns-then-whole-is_decided
 returns-then-whole-is_decided c =
     let (w, e) = and-true _ _ c.if-whole-is_decided.true in
-    joins-met c.of.result (going-decided _ c.loop-left.invariant.1 (c.is_decided.ensures e) (not-true _ w)) c.of.ensures.value c.of.ensures.rest
+    begun-decided c.loop-left.invariant _ _ (not-true _ w) (c.loop-left.invariant.group ∙ c.requires) (c.is_decided.ensures e) c.of.ensures.value
 
 pub loop-left-preserved : goal.loop-left-preserved
-loop-left-preserved c = (
-  c.past_first-left.ensures.group ∙ c.loop-left.invariant.0,
-  rw (c.past_first-left.ensures.count, c.past_first-left.ensures.formulas)
-      (going-more c.loop-left.invariant.1 (omega arith) (literal-first _ _ _ _ _ c.in-Literal.ensures c.value.ensures) c.join-value.ensures),
-)
+loop-left-preserved c =
+    let e = c.in-Literal.ensures in
+    let past = c.past_first-left.ensures in
+    begun-more c.loop-left.invariant _ _ (omega arith) (c.loop-left.invariant.group ∙ c.requires) (literal-first c.args.c.now _ e c.value.ensures)
+    c.join-value.ensures past.group past.count (past.formulas ∙ ap (after 1) (sym e))
+
+pub returns : goal.returns
+returns c = begun-ends c.loop-left.invariant _ _ (omega arith) c.of-2.ensures.value c.of-2.ensures.rest
