@@ -145,7 +145,8 @@ larkhammock_answer larkhammock_run(
 
 /*
  * Judge a plan, looking at no more cases than granted. Refusals as for the
- * plan.
+ * plan. Where it is undecided, ask again with a larger grant: any other answer
+ * is the same under every larger one.
  *   word[0]  1 right, 2 wrong, 3 undecided
  *   word[1]  the visits used; where undecided, the grant
  *   word[2]  where right: the lines of the walk's list
@@ -165,7 +166,8 @@ larkhammock_answer larkhammock_judge(
  * Write the case list of a right plan, its certificate, to the front of out.
  * Bytes past the length written keep their values. Refusals as for the plan,
  * then 50 to 53. A buffer of 65,535 bytes holds any list, and one of 65,533
- * bytes any list of version 1.
+ * bytes any list of version 1. Under a larger grant the list is the same, and
+ * so is each refusal but 50.
  *   word[0]  1 written
  *   word[1]  the length written, in bytes
  */
@@ -229,7 +231,8 @@ larkhammock_answer larkhammock_relevant_facts_sparse(
  * Try every plan of at most so many steps, by length and then by step numbers
  * from the first step on: judge one after the other, looking at no more cases
  * in all than granted. Refusals as for the problem, then, at place 0, 43 where
- * longest is over 4 and 44 where there are over 1,000,000 such plans.
+ * longest is over 4 and 44 where there are over 1,000,000 such plans. Any
+ * answer but undecided is the same under every larger grant.
  *   word[0]  1 found, 2 none is right, 3 undecided
  *   word[1]  the visits used in all; where undecided, the grant
  *   word[2]  where found: the length of the first right plan

@@ -1,14 +1,15 @@
 -- What an answer of `write_list` promises, and every byte of the buffer with it. Then what the answers of `write_list` and `follow_list`
--- promise together, with nothing but the operations' definitions in between. A list is any bytes of any length.
+-- promise together, of calls of which nothing is known but the contracts. A list is any bytes of any length.
 use Rattle.std.specs.Prelude.{◌≡◌, ◌⊎◌, List, ℕ, ◌≤◌, length, take, drop, Result}
 use Rattle.model.specs.Limits.{limits_of}
 use Rattle.model.specs.Answer.{Answer, refused, answered}
 use Rattle.model.specs.Case.{Task, Right}
 use Rattle.model.specs.Walk.{Line, covered, visits, walked}
 use Rattle.model.specs.ListBytes.{encode_list}
-use Rattle.model.specs.Operations.{read_task, list_bytes, write_list, follow_list}
+use Rattle.model.specs.Operations.{read_task, list_bytes}
 use Rattle.model.specs.Guarantees.{lines_in, Passing, ClosesWithin, NotWritten}
 use Rattle.model.specs.Answers.{plain_answer}
+use Rattle.model.specs.Calls.{WriteCall, FollowCall}
 use Rattle.model.specs.declared.Refusal.{Refusal}
 
 -- the length m was answered: the list of the walk's lines stands in the buffer's first m bytes and passes, and the rest is unchanged
@@ -30,15 +31,6 @@ WritePromised problem plan grant before (refused n q) after =
     ((T : Task) × (read_task (limits_of problem) problem plan ≡ answered T) × NotWritten (limits_of problem) T grant (length before) n q))
 WritePromised problem plan grant before (answered m) after =
     (T : Task) × (read_task (limits_of problem) problem plan ≡ answered T) × Writes problem T grant m before after
-
--- the equation of `follow_list`, for a call that answered r
-abbrev pub FollowCall : List ℕ → List ℕ → List ℕ → Result ℕ Refusal → Type 0
-FollowCall problem plan list r = plain_answer r ≡ follow_list (limits_of problem) problem plan list
-
--- the equations of `write_list`, for a call that answered r and left `after` in the buffer
-abbrev pub WriteCall : List ℕ → List ℕ → ℕ → List ℕ → Result ℕ Refusal → List ℕ → Type 0
-WriteCall problem plan grant out r after =
-    (plain_answer r ≡ (write_list (limits_of problem) problem plan grant out).answer) × (after ≡ (write_list (limits_of problem) problem plan grant out).buffer)
 
 pub record Promised (problem plan : List ℕ) : Type 0 where
   -- whatever its bytes are, that a list passes shows that the plan is right; the count is of the lines in its own bytes

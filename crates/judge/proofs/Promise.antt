@@ -1,8 +1,7 @@
 -- What an answer of `judge` promises: from the equation with the definition and the theorem about the definitions. Assumes nothing.
-use Rattle.std.proofs.Common.{◌≡◌, sym, inl, inr, List, ℕ, arith}
+use Rattle.std.proofs.Common.{◌≡◌, sym, inl, inr, List, ℕ}
 use Rattle.model.specs.{Limits.limits_of, Answer.Answer, Answer.refused, Answer.answered, Walk.Verdict}
 use Rattle.model.specs.Operations.{read_task, judge}
-use Rattle.model.specs.Answer as Answer
 use Rattle.model.proofs.{Laws.Tasks.answer-then, Laws.Tasks.refusal-of, Guarantees.guarantees-of}
 use Rattle.judge.specs.Promise.{JudgePromised}
 

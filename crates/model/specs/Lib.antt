@@ -23,6 +23,7 @@ pub mod Planes
 pub mod Faults
 pub mod Marks
 pub mod Answers
+pub mod Calls
 pub mod Text
 pub mod DeskText
 pub mod WellFormed

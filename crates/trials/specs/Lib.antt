@@ -1,2 +1,3 @@
 -- Rows of the trial tables that take long to compute.
 pub mod Sizes
+pub mod Survival

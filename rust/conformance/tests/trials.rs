@@ -103,6 +103,7 @@ of_each_version! {
     both_actions_are_found_by_a_search,
     all_conditions_are_read_before_any_effect,
     unknown_is_neither_no_nor_the_first_completion,
+    a_narrower_start_keeps_plans_right_and_not_lists,
 }
 
 fn the_bytes_of_p_are_the_tree_of_p(version: &Version) {
@@ -396,4 +397,45 @@ fn unknown_is_neither_no_nor_the_first_completion(version: &Version) {
     // True of every state, but only seen to be once fact 1 is fixed.
     problem.goal = Formula::either(1);
     expect(Judge, &with_problem(&problem, &[]), &[1, 7, 4]);
+}
+
+/// P with one start state of its three, with none, and with all of them in words that
+/// say nothing of the case 00?.
+fn a_narrower_start_keeps_plans_right_and_not_lists(version: &Version) {
+    let either_or = |last| Formula::any([Formula::fact(0), Formula::fact(1), last]);
+    let [one, none, reworded] = [
+        Formula::all([Formula::not(0), Formula::fact(1), Formula::not(2)]),
+        Formula::never(),
+        Formula::all([
+            either_or(Formula::fact(2)),
+            either_or(Formula::not(2)),
+            Formula::not(2),
+        ]),
+    ]
+    .map(|initial| Problem {
+        initial,
+        ..p_tree(version)
+    });
+    let judges = |problem: &Problem, steps: &[u8], grant, named: &[u64]| {
+        let case = Case {
+            grant,
+            ..with_problem(problem, steps)
+        };
+        expect(Judge, &case, named);
+    };
+    judges(&one, &[0, 1], 5, &[1, 5, 3]);
+    judges(&none, &[0, 1], 5, &[1, 1, 1]);
+    judges(&reworded, &[0, 1], 5, &[3, 5]);
+    judges(&reworded, &[0, 1], 6, &[3, 6]);
+    judges(&reworded, &[0, 1], 7, &[1, 7, 4]);
+    // Plan 1 is wrong from 100, and right from 010 alone.
+    judges(&p_tree(version), &[1], 7, &[2, 7, version.bit(0), 2]);
+    judges(&one, &[1], 5, &[1, 5, 3]);
+    for (problem, line) in [(&one, 2), (&none, 1), (&reworded, 0)] {
+        let case = Case {
+            list: trial::list(version),
+            ..with_problem(problem, &[0, 1])
+        };
+        expect(FollowList, &case, &[0, 69, line]);
+    }
 }

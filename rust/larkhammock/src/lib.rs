@@ -252,7 +252,8 @@ fn state_of(problem: &[u8], number: u64) -> Option<State> {
     State::of_number(version, u64::from(*problem.get(5)?), number)
 }
 
-/// Judges a plan, looking at no more cases than granted.
+/// Judges a plan, looking at no more cases than granted. Where it is undecided, ask again with a
+/// larger grant: any other answer is the same under every larger one.
 ///
 /// ```
 /// use larkhammock::{example, judge, Verdict};
@@ -280,7 +281,8 @@ pub fn judge(problem: &[u8], plan: &[u8], grant: u64) -> Result<Verdict, Refusal
 
 /// Writes the certificate of a right plan to the front of `out` and returns its
 /// length. The rest of `out` keeps its bytes, and so does all of it where the
-/// call is refused.
+/// call is refused. Under a larger grant the list is the same, and so is each
+/// refusal but 50.
 ///
 /// ```
 /// use larkhammock::{example, write_list, LONGEST_LIST};
@@ -420,7 +422,8 @@ pub fn relevant_facts_sparse<'a>(
 
 /// Tries every plan of at most `longest` steps, by length and then by step
 /// numbers from the first step on, until one is right. They are judged one after
-/// the other, and look at no more cases in all than granted.
+/// the other, and look at no more cases in all than granted. Any answer but
+/// undecided is the same under every larger grant.
 ///
 /// `longest` is at most [`LONGEST_SEARCHED`], and there are at most
 /// [`MOST_SEARCHED`] such plans: up to four steps of 31 actions are few enough, and

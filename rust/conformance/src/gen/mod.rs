@@ -4,6 +4,7 @@
 mod damage;
 mod formulas;
 mod lists;
+mod narrower;
 mod problems;
 mod rng;
 
@@ -16,6 +17,7 @@ use crate::version::{Version, MOST_PLAN_BYTES, MOST_PROBLEM_BYTES, PLAN_VERSION}
 use damage::{arbitrary, damaged, scribbled, unsound};
 pub use formulas::formula_of_size;
 pub use lists::{altered, cover, even_cover, every_cover, in_other_version, refined, Alteration};
+pub use narrower::{every_state, Narrowing};
 use problems::wide_task;
 pub use problems::{ordered_problem, right_task, task};
 pub use rng::Rng;

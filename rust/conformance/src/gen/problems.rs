@@ -210,7 +210,7 @@ fn formula_true_of(rng: &mut Rng, facts: u8, states: &States) -> Formula {
 }
 
 /// True in this state alone.
-fn cube(state: &[bool]) -> Formula {
+pub fn cube(state: &[bool]) -> Formula {
     let literals = state.iter().enumerate().map(|(fact, value)| {
         let denied = !value;
         let fact = fact as u8;

@@ -1,4 +1,4 @@
-use Rattle.std.proofs.Common.{◌≡◌, ◌∙◌, sym, ap, ℕ, arith}
+use Rattle.std.proofs.Common.{◌∙◌, sym, ap}
 use Rattle.model.specs.Answers.{run_answer}
 use Rattle.judge.proofs.Verdicts.{state-run}
 use Rattle.judge.proofs.operation.outcome_of.Goals as goal
