@@ -27,7 +27,7 @@ pub fn head(root: &Path) -> io::Result<String> {
          Each table was measured twice, one time after the other, and a figure is the lesser of two times that agree within a tenth. Where they\n\
          did not, it was measured a third time; where no two of the three agree, the table has the least and the most. What stands in more than\n\
          one table was measured once for all of them. Where the linker puts a function counts too: of one source, ours or plain, two builds\n\
-         have differed by up to a fifth in single rows, which sampling does not even out.\n",
+         have differed by up to a quarter in single rows, which sampling does not even out.\n",
         kernel.trim(),
         crate::timing::SAMPLES,
         crate::timing::SAMPLE.as_millis(),
