@@ -7,13 +7,14 @@
  *
  * Of stack, on this build, a call takes at most 8 KiB to read a problem or a
  * plan, 16 KiB to run a state, 24 KiB to follow a list, 32 KiB to judge a plan
- * or to write a list, 36 KiB to search plans, 48 KiB to tell relevant facts, and
- * 24 KiB to tell them sparsely.
+ * or to write a list, 36 KiB to search plans, 48 KiB to tell relevant facts,
+ * 24 KiB to tell them sparsely, and 12 KiB to merge.
  *
  * A slice is a pointer and then a length: so many bytes of one live object, at
  * most PTRDIFF_MAX of them, which nobody else writes during the call. Slices
- * that are only read may overlap. A buffer that a call writes (out, work)
- * overlaps no other argument, and nobody else reads it during the call either.
+ * that are only read may overlap. A buffer that a call writes (out, work,
+ * table) overlaps no other argument, and nobody else reads it during the call
+ * either.
  *
  * Where the length is 0, any pointer will do, also a null pointer, such as that
  * of an empty vector in C++: nothing is read or written there.
@@ -48,6 +49,13 @@ extern "C" {
 typedef struct {
     uint64_t word[8];
 } larkhammock_answer;
+
+/*
+ * The bytes of the longest problem (a buffer for any merged problem) and the
+ * most actions of one (the bytes of a table for any), in both versions.
+ */
+#define LARKHAMMOCK_LONGEST_PROBLEM 32768
+#define LARKHAMMOCK_MOST_ACTIONS 64
 
 /*
  * What the versions differ in: the most facts of a problem, the most effects of
@@ -245,6 +253,35 @@ larkhammock_answer larkhammock_search_plans(
     const uint8_t *problem, size_t problem_len,
     uint64_t longest,
     uint64_t grant);
+
+/*
+ * Merge two problems, the halls, which share no fact and no action, into one
+ * of version 2. Each hall may be of either version, and both may be the same
+ * slice. Refusals as for a problem: the first hall's, then the second's (the
+ * number does not tell whose it is). Then, at place 0, of the merged problem:
+ * 82 where it has over 64 facts, 83 where it has over 64 actions, 84 where its
+ * initial formula or its goal has over 1,024 bytes, over 255 members of its
+ * outermost "all", or over 8 groups in one another, 85 where its block is over
+ * 32,768 bytes, and 86 where out is shorter than the block, or table has under
+ * one byte an action.
+ *   word[0]  1 merged
+ *   word[1]  the length of the block, in bytes
+ *   word[2]  the length of the table, in bytes: the number of actions
+ * The front of out then holds the block. The second hall's facts follow the
+ * first's: their numbers go up by the first hall's fact count. The initial
+ * formula is the "all" of both initial formulas, the first hall's part first,
+ * where an "all" is taken apart into its members and any other formula is one
+ * member. The goal is made of both goals in the same way. The actions are those
+ * of both halls, in an order that is the library's choice. The front of table
+ * tells it: one byte each, the new numbers of the first hall's actions in
+ * order, and then those of the second's. Bytes past the block and past the
+ * table keep their values.
+ */
+larkhammock_answer larkhammock_merge(
+    const uint8_t *first, size_t first_len,
+    const uint8_t *second, size_t second_len,
+    uint8_t *out, size_t out_len,
+    uint8_t *table, size_t table_len);
 
 #ifdef __cplusplus
 }

@@ -2,3 +2,4 @@ pub mod Actions
 pub mod Problems
 pub mod Tasks
 pub mod Promise
+pub mod Sizes

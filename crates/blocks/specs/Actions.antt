@@ -1,9 +1,13 @@
 -- Where the actions of a problem stand in its block.
-use Rattle.std.specs.Prelude.{IsTrue, List, ℕ, ◌≤◌, ◌<◌, length, drop, slice_index, leb}
+use Rattle.std.specs.Prelude.{◌≡◌, IsTrue, List, ℕ, ◌≤◌, ◌<◌, length, drop, slice_index, leb}
 use Rattle.model.specs.declared.Limits.{Limits}
 use Rattle.model.specs.Action.{Action, tabulate}
 use Rattle.model.specs.Read.{Reader, ◌>>=◌, ◌>>◌, done, position, require}
-use Rattle.model.specs.ProblemBytes.{actions}
+use Rattle.model.specs.ProblemBytes.{Problem, actions, encode_problem}
+use Rattle.model.specs.Limits.{max_formula_bytes, max_problem_bytes}
+use Rattle.model.specs.FormulaBytes.{formula_bytes}
+use Rattle.formula.specs.Views.{formula}
+use Rattle.formula.specs.declared.formulas.Formula.{Formula}
 use Rattle.fields.specs.ActionBytes.{action_of, is_action}
 
 -- each of m actions begins where `at` says
@@ -21,3 +25,15 @@ last_actions F s facts m = do
   p ← position
   require (leb (length s) p) 25 p
   done as'
+
+-- the problem that a block holds, whose actions begin where `at` says
+abbrev pub problem_in : ℕ → Formula → Formula → List ℕ → ℕ → List ℕ → Problem
+problem_in facts initial goal block m at =
+    record { facts = facts; initial = formula initial; goal = formula goal; actions = actions_in block m at }
+
+-- what a sound problem's formulas and block are in size: the block is as long as what the problem is written as
+pub record Sized (F : Limits) (p : Problem) (block : List ℕ) : Type 0 where
+  pub initial : length (formula_bytes p.initial) ≤ max_formula_bytes
+  pub goal : length (formula_bytes p.goal) ≤ max_formula_bytes
+  pub whole : length block ≡ length (encode_problem F p)
+  pub short : length block ≤ max_problem_bytes

@@ -7,19 +7,12 @@ use Rattle.model.specs.declared.Refusal.{Refusal}
 use Rattle.model.specs.ProblemBytes as model
 use Rattle.model.specs.Case as cases
 use Rattle.model.specs.Operations.{task_of}
-use Rattle.formula.specs.Views.{formula}
-use Rattle.blocks.specs.Actions.{actions_in}
+use Rattle.blocks.specs.Actions.{problem_in}
 use Rattle.blocks.specs.declared.problem.Problem.{Problem}
 use Rattle.blocks.specs.declared.task.Task.{Task}
 
 abbrev pub problem : Problem → model.Problem
-problem p =
-    record {
-      facts = p.facts;
-      initial = formula p.initial;
-      goal = formula p.goal;
-      actions = actions_in p.block.now p.actions p.at;
-    }
+problem p = problem_in p.facts p.initial p.goal p.block.now p.actions p.at
 
 abbrev pub task : Task → cases.Task
 task t = task_of t.problem.now.limits (problem t.problem.now) t.steps.now

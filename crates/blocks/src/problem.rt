@@ -4,7 +4,7 @@ ghost use Rattle.model.specs.Limits.{limits_of, max_actions};
 ghost use Rattle.model.specs.Answers.{result_answer};
 ghost use Rattle.model.specs.Read.{answer_of};
 ghost use Rattle.model.specs.WellFormed.{Sensible};
-ghost use Rattle.blocks.specs.Actions.{Begin, actions_in, last_actions};
+ghost use Rattle.blocks.specs.Actions.{Begin, Sized, problem_in, actions_in, last_actions};
 
 use fields::{Action, check_header, count_at, read_action};
 use formula::{Formula, find_formula};
@@ -25,6 +25,7 @@ pub struct Problem<'a> {
     pub ghost few_facts: { facts ≤ limits.facts },
     pub ghost few_actions: { actions ≤ max_actions },
     ghost stand: { Begin facts actions at block.now },
+    pub ghost sized: { Sized limits (problem_in facts initial goal block.now actions at) block.now },
 }
 
 // Reads so many actions from `begin` on, which end the block: where each of them begins.
@@ -54,7 +55,8 @@ fn find_actions(
 }
 
 impl<'a> Problem<'a> {
-    ghost use Rattle.model.specs.ProblemBytes.{problem_of, action_at};
+    ghost use Rattle.std.specs.Prelude.{length};
+    ghost use Rattle.model.specs.ProblemBytes.{problem_of, action_at, actions_bytes};
     ghost use Rattle.fields.specs.Actions.{action};
     ghost use Rattle.blocks.specs.Values.{problem, problem_read};
 
@@ -93,6 +95,14 @@ impl<'a> Problem<'a> {
             block,
             at,
         })
+    }
+
+    // How many bytes its actions take: what the rest of its block leaves.
+    pub fn actions_len(&self) -> usize
+        ensures { result ≡ length (actions_bytes (problem self.now).actions) }
+    {
+        let formulas = 2 * Bounds::LENGTH_BYTES + self.initial.len() + self.goal.len();
+        self.block.len() - Bounds::BEGIN - formulas
     }
 
     // The action that a step names.

@@ -1,6 +1,6 @@
 // Formulas as they stand in a block, one after the other.
 ghost use Rattle.std.specs.Prelude.{◌≡◌, ◌≤◌, IsTrue};
-ghost use Rattle.model.specs.FormulaBytes.{member_count};
+ghost use Rattle.model.specs.FormulaBytes.{member_count, member_bytes};
 ghost use Rattle.formula.specs.Decoding.{decode, head, is_sound};
 
 use crate::literal::Literal;
@@ -51,6 +51,15 @@ impl<'a> Formulas<'a> {
         Formulas {
             bytes: &self.bytes[n..],
         }
+    }
+
+    // How many bytes they take.
+    #[tactic(auto, using(crate::proofs::Counting::bytes_length))]
+    #[inline(always)]
+    pub fn len(self) -> usize
+        ensures { result ≡ length (member_bytes (formulas self.entry)) }
+    {
+        self.bytes.len()
     }
 
     // Whether there is none.
@@ -107,6 +116,8 @@ impl<'a> Members<'a> {
 }
 
 impl<'a> Formula<'a> {
+    ghost use Rattle.std.specs.Prelude.{length};
+    ghost use Rattle.model.specs.FormulaBytes.{formula_bytes};
     ghost use Rattle.formula.specs.Views.{formula, IsOne};
 
     // The formula whose bytes these are: a reader found it.
@@ -118,6 +129,15 @@ impl<'a> Formula<'a> {
         Formula {
             formulas: Formulas { bytes },
         }
+    }
+
+    // How many bytes it takes, without its length field.
+    #[tactic(auto, using(crate::proofs::Counting::bytes_length, crate::proofs::Counting::alone_length))]
+    #[inline(always)]
+    pub fn len(self) -> usize
+        ensures { result ≡ length (formula_bytes (formula self.entry)) }
+    {
+        self.formulas.len()
     }
 
     // It alone, as formulas.

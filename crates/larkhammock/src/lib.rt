@@ -7,9 +7,9 @@ ghost use Rattle.model.specs.Limits.{limits_of};
 ghost use Rattle.model.specs.Answers.{plain_answer, part as part_of, outcome as meaning, verdict as verdict_of, search_end};
 ghost use Rattle.model.specs.Faults.{fault_number};
 ghost use Rattle.model.specs.Operations.{read_problem, read_plan, run_state, judge, write_list, follow_list, relevant_facts, relevant_facts_sparse, search_plans};
-ghost use Rattle.larkhammock.specs.Words.{refusal_words, part_word, part_number, end_words, wrong_words, verdict_words, problem_words, count_words, run_words, judge_words, plan_words, searched_words, search_words};
+ghost use Rattle.larkhammock.specs.Words.{refusal_words, part_word, part_number, end_words, wrong_words, verdict_words, problem_words, count_words, run_words, judge_words, plan_words, searched_words, search_words, merge_words, MergeAnswers};
 
-use model::{Outcome, Part, Refusal, Search, ShortPlan, Verdict};
+use model::{Lengths, Outcome, Part, Refusal, Search, ShortPlan, Verdict};
 
 // An answer: word 0 is its tag, and words that its row does not name are 0.
 #[repr(C)]
@@ -244,4 +244,26 @@ pub extern "C" fn larkhammock_search_plans(problem: &[u8], longest: u64, grant: 
         Err(r) => refused(r),
         Ok(search) => searched(search),
     }
+}
+
+// The row of a merge.
+fn merged(lengths: Result<Lengths, Refusal>) -> Answer
+    ensures { result.word ≡ merge_words (plain_answer lengths) }
+{
+    match lengths {
+        Err(r) => refused(r),
+        Ok(lengths) => row(1, lengths.block as u64, lengths.table as u64, 0, 0),
+    }
+}
+
+#[unsafe(no_mangle)]
+pub extern "C" fn larkhammock_merge(
+    first: &[u8],
+    second: &[u8],
+    out: &mut [u8],
+    table: &mut [u8],
+) -> Answer
+    ensures { MergeAnswers first.now second.now out.old table.old result.word out.new table.new }
+{
+    merged(merge::merge(first, second, out, table))
 }

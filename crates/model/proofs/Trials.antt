@@ -29,4 +29,5 @@ trials-hold =
       sparse_relevances = refl;
       searches = refl;
       versions = refl;
+      merges = refl;
     }

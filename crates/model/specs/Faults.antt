@@ -6,7 +6,7 @@ use Rattle.model.specs.declared.fault.HeaderFault.{HeaderFault}
 use Rattle.model.specs.declared.fault.HeaderFault.TheVariants.{TooLong, TooShort, Version, Length}
 use Rattle.model.specs.declared.fault.Fault.{Fault}
 use Rattle.model.specs.declared.Refusal.{Refusal}
-use Rattle.model.specs.declared.fault.Fault.TheVariants.{Header, BlockEnds, FactCount, ActionCount, FormulaLength, Member, Depth, FormulaEnds, FormulaLeft, EffectCount, EffectLiteral, EffectOrder, BytesLeft, StepAction, StateNumber, RunNotReached, ShortWork, PlanLength, TooManyPlans, Undecided, Wrong, TooManyLines, ShortBuffer, PartialLine, LineKind, LineFacts, LineValue, LinePlace, LineClaim, ListEnds, OtherVersion}
+use Rattle.model.specs.declared.fault.Fault.TheVariants.{Header, BlockEnds, FactCount, ActionCount, FormulaLength, Member, Depth, FormulaEnds, FormulaLeft, EffectCount, EffectLiteral, EffectOrder, BytesLeft, StepAction, StateNumber, RunNotReached, ShortWork, PlanLength, TooManyPlans, Undecided, Wrong, TooManyLines, ShortBuffer, PartialLine, LineKind, LineFacts, LineValue, LinePlace, LineClaim, ListEnds, OtherVersion, MergedFacts, MergedActions, MergedFormula, MergedBytes, MergeRoom}
 
 abbrev pub block_number : Block → ℕ
 block_number block.Problem = 10
@@ -52,6 +52,11 @@ fault_number LinePlace = 68
 fault_number LineClaim = 69
 fault_number ListEnds = 70
 fault_number OtherVersion = 71
+fault_number MergedFacts = 82
+fault_number MergedActions = 83
+fault_number MergedFormula = 84
+fault_number MergedBytes = 85
+fault_number MergeRoom = 86
 
 -- the refusal of a fault at a place
 abbrev pub refusal_at : Fault → ℕ → Refusal

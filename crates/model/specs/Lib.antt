@@ -18,6 +18,7 @@ pub mod FormulaBytes
 pub mod ProblemBytes
 pub mod ListBytes
 pub mod Operations
+pub mod Merging
 pub mod ShortPlans
 pub mod Planes
 pub mod Faults

@@ -3,8 +3,8 @@
 use Rattle.std.specs.Prelude.{Bool, cond, ◌||◌, List, ℕ, get_or, eqb}
 use Rattle.model.specs.declared.Limits.{Limits}
 
--- what no version changes: at most 64 actions, 256 steps and 32,768 bytes of a problem; formulas of 1 to 1,024 bytes, whose groups stand in one
--- another at most 8 deep
+-- what no version changes: at most 64 actions, 256 steps and 32,768 bytes of a problem; formulas of 1 to 1,024 bytes, whose groups have at most 255
+-- members and stand in one another at most 8 deep
 abbrev pub max_actions : ℕ
 max_actions = 64
 
@@ -16,6 +16,9 @@ max_problem_bytes = 32768
 
 abbrev pub max_formula_bytes : ℕ
 max_formula_bytes = 1024
+
+abbrev pub max_members : ℕ
+max_members = 255
 
 abbrev pub max_depth : ℕ
 max_depth = 8

@@ -10,7 +10,7 @@ use Rattle.model.specs.Cover.{RunningEnd}
 use Rattle.model.specs.ProblemBytes.{Problem, encode_problem}
 use Rattle.model.specs.WellFormed.{Sensible}
 use Rattle.model.specs.Guarantees.{Guarantees}
-use Rattle.model.specs.Trials.{Hold, starred, NoStart, edges, DeskGrant, unmet_members, conflicts, running_ends, relevances, sparse_relevances, searches, versions}
+use Rattle.model.specs.Trials.{Hold, starred, NoStart, edges, DeskGrant, unmet_members, conflicts, running_ends, relevances, sparse_relevances, searches, versions, merge_rows}
 
 pub record Theorems : Type 0 where
   -- all input, verdicts, certificates, relevant facts and search, of every version whose numbers are sensible
@@ -46,3 +46,4 @@ pub record TrialsHold : Type 0 where
   pub sparse_relevances : Hold sparse_relevances
   pub searches : Hold searches
   pub versions : Hold versions
+  pub merges : Hold merge_rows

@@ -16,8 +16,9 @@ use Rattle.model.specs.Cover.{cover_end}
 use Rattle.model.specs.Relevance.{names, some, has_entry, matters_before, relevant, states, number_of, rows, relevant_to, run_rows, sparse_rows}
 use Rattle.model.specs.Search.{Search, first_right, none_right, undecided_at, each_step, plans_of, plans_from, plans_up_to, plan_count, search}
 use Rattle.model.specs.Read.{and_then, ◌>>=◌, ◌>>◌, done, position, require, answer_of, big_endian_from, bytes_of, block, byte, counted, of_version, header, count}
-use Rattle.model.specs.FormulaBytes.{is_literal, literal_of, group_head, head_from, head, members, whole, item, stated, formula}
-use Rattle.model.specs.ProblemBytes.{effect, effects, effect_list, action, actions, ending, parts, body, problem, problem_of, steps, plan, plan_of, action_at}
+use Rattle.model.specs.FormulaBytes.{formula_bytes, encode_formula, is_literal, literal_of, group_head, head_from, head, members, whole, item, stated, formula}
+use Rattle.model.specs.ProblemBytes.{effect, effects, effect_list, action, actions, ending, parts, body, problem, problem_of, steps, plan, plan_of, action_at, effects_bytes, action_bytes, actions_bytes, encode_problem}
+use Rattle.model.specs.Merging.{Merge, moved, depth, is_over, old_of, sized, roomy, merged_for, laid_out, merge}
 use Rattle.model.specs.ListBytes.{line_at, lines_from, of_the_problem, case_list, list_of, line_bytes, lines_bytes, encode_list}
 use Rattle.model.specs.Text.{hex}
 use Rattle.model.specs.DeskText.{marks, verdict_line, lines_text, list_text, verdict_rest, answer_line, answer_rest, first_line, later_lines, desk_text}
@@ -35,6 +36,7 @@ pub data Call : Type 0 where
   relevant-facts : List ℕ → List ℕ → ℕ → List ℕ → Call
   relevant-facts-sparse : List ℕ → List ℕ → ℕ → List ℕ → Call
   search-plans : List ℕ → ℕ → ℕ → Call
+  merge-in : List ℕ → List ℕ → List ℕ → List ℕ → List ℕ → Call
   desk : Limits → List ℕ → List ℕ → Call
 
 pub data Reply : Type 0 where
@@ -44,11 +46,12 @@ pub data Reply : Type 0 where
   verdict : Answer (Verdict ℕ) → Reply
   writes : Written → Reply
   searched : Answer Search → Reply
+  merges : Merge → Reply
   text : List ℕ → Reply
 
 -- what the definitions give; a proof that unfolds this computes with all of them
 unfoldable pub reply : Call → Reply
-unfolding eval condition_in every exclusive applicable next step first_false unmet lowest_false part_of goes_on run bit state_of case_of run_of walk_from walk look_at walked judged Answer.◌>>=◌ first refuse_at ends fault follow cover_end and_then ◌>>=◌ ◌>>◌ done position require answer_of big_endian_from bytes_of block byte counted of_version header count is_literal literal_of group_head head_from head members whole item stated formula effect effects effect_list action actions ending parts body problem problem_of steps plan plan_of action_at line_at lines_from of_the_problem case_list list_of line_bytes lines_bytes encode_list is_state_number read_problem read_plan task_of read_task run_state judge list_bytes lines_for written list_for write_list follow_list cover_after names some has_entry matters_before relevant states number_of rows relevant_to run_rows sparse_rows reached_task relevant_facts relevant_facts_sparse each_step plans_of plans_from plans_up_to plan_count search search_plans hex digits marks lines_text list_text verdict_rest answer_line answer_rest first_line later_lines desk_text
+unfolding eval condition_in every exclusive applicable next step first_false unmet lowest_false part_of goes_on run bit state_of case_of run_of walk_from walk look_at walked judged Answer.◌>>=◌ first refuse_at ends fault follow cover_end and_then ◌>>=◌ ◌>>◌ done position require answer_of big_endian_from bytes_of block byte counted of_version header count is_literal literal_of group_head head_from head members whole item stated formula effect effects effect_list action actions ending parts body problem problem_of steps plan plan_of action_at line_at lines_from of_the_problem case_list list_of line_bytes lines_bytes encode_list is_state_number read_problem read_plan task_of read_task run_state judge list_bytes lines_for written list_for write_list follow_list cover_after names some has_entry matters_before relevant states number_of rows relevant_to run_rows sparse_rows reached_task relevant_facts relevant_facts_sparse each_step plans_of plans_from plans_up_to plan_count search search_plans formula_bytes encode_formula effects_bytes action_bytes actions_bytes encode_problem moved depth is_over old_of sized roomy merged_for laid_out merge hex digits marks lines_text list_text verdict_rest answer_line answer_rest first_line later_lines desk_text
 reply (read-problem p) = counts (read_problem (limits_of p) p)
 reply (read-plan p q) = number (read_plan (limits_of p) p q)
 reply (run-state p q s) = outcome (run_state (limits_of p) p q s)
@@ -59,6 +62,7 @@ reply (cover-after p q l m) = number (cover_after (limits_of p) p q l m)
 reply (relevant-facts p q s work) = writes (relevant_facts (limits_of p) p q s work)
 reply (relevant-facts-sparse p q s work) = writes (relevant_facts_sparse (limits_of p) p q s work)
 reply (search-plans p l g) = searched (search_plans (limits_of p) p l g)
+reply (merge-in order p q out table) = merges (merge order p q out table)
 reply (desk F p q) = text (desk_text F p q)
 
 pub record Row : Type 0 where
@@ -623,6 +627,84 @@ searches =
     ∷ (search-plans (idling 0) 5 5 ⇒ searched (refused 43 0))
     ∷ (search-plans P 0xffffffffffffffff 0 ⇒ searched (refused 43 0))
     ∷ (search-plans [] 5 0 ⇒ searched (refused 11 0))
+    ∷ []
+
+-- two halls: 2 facts and 1 action; 2 facts and 2 actions, of version 2
+abbrev hall : List ℕ
+hall = hex "01 00000014 02 01 0004 81 02 00 01 0001 01 0002 80 00 01 01 0001 00"
+
+abbrev other_hall : List ℕ
+other_hall =
+    hex
+    "02 00000027 02 02 0004 80 02 00 41 0004 81 02 40 01 0001 00 01 01 0002 80 00 0002 80 00 02 40 0001 41 41 0004 81 02 00 01"
+
+-- a problem of so many facts, with no action, whose start and goal have so many bytes
+abbrev hall_of : ℕ → List ℕ → List ℕ → List ℕ
+hall_of facts initial goal =
+    block
+    2
+    (facts ∷ 0 ∷ (bytes_of 2 (length initial) ++ (initial ++ (bytes_of 2 (length goal) ++ goal))))
+
+abbrev always : List ℕ
+always = hex "80 00"
+
+-- groups in one another, 8 deep: an "any" that is the outermost, and an "all"
+abbrev deep_any : List ℕ
+deep_any = hex "81 01 80 01 81 01 80 01 81 01 80 01 81 01 80 00"
+
+abbrev deep_all : List ℕ
+deep_all = hex "80 01 81 01 80 01 81 01 80 01 81 01 80 01 81 00"
+
+-- an "all" and an "any" of so many literals; and an "all" of three of the longest of these
+abbrev all_of : ℕ → List ℕ
+all_of n = 0x80 ∷ n ∷ replicate n 0
+
+abbrev any_of : ℕ → List ℕ
+any_of n = 0x81 ∷ n ∷ replicate n 0
+
+abbrev long_all : List ℕ
+long_all = 0x80 ∷ 3 ∷ (any_of 255 ++ (any_of 255 ++ any_of 255))
+
+abbrev merged_as : ℕ → List ℕ → List ℕ → Reply
+merged_as count out table =
+    merges (record { answer = answered (record { block = length out; table = count }); out = out; table = table })
+
+abbrev not_merged : ℕ → ℕ → List ℕ → List ℕ → Reply
+not_merged n q out table = merges (record { answer = refused n q; out = out; table = table })
+
+-- merge: two halls in three orders of their actions, with room to spare and without, and exchanged; too short a buffer for the block and for the
+-- table; 64 facts and 65; an "any" that gets too deep, and an "all" as deep that does not; 255 members and 256; 1,024 bytes and 1,025; 65 actions;
+-- and what is refused of the halls, the first hall's first
+abbrev pub merge_rows : List Row
+merge_rows =
+    (merge-in (2 ∷ 0 ∷ 1 ∷ []) hall other_hall (replicate 62 7) (replicate 4 7) ⇒
+    merges
+    (record {
+      answer = answered (record { block = 60; table = 3 });
+      out = hex "02 00000037 04 03 0008 80 03 81 02 00 01 02 43 0007 80 02 01 81 02 42 03 0001 02 01 03 0002 80 00 0002 80 00 02 42 0001 43 43 0004 81 02 02 03 0002 80 00 01 01 0001 00" ++ (7 ∷ 7 ∷ []);
+      table = 2 ∷ 0 ∷ 1 ∷ 7 ∷ [];
+    }))
+    ∷ (merge-in (0 ∷ 1 ∷ 2 ∷ []) hall other_hall (replicate 60 7) (replicate 3 7) ⇒
+    merged_as 3 (hex "02 00000037 04 03 0008 80 03 81 02 00 01 02 43 0007 80 02 01 81 02 42 03 0002 80 00 01 01 0001 00 0001 02 01 03 0002 80 00 0002 80 00 02 42 0001 43 43 0004 81 02 02 03") (0 ∷ 1 ∷ 2 ∷ []))
+    ∷ (merge-in (2 ∷ 0 ∷ 1 ∷ []) other_hall hall (replicate 60 7) (replicate 3 7) ⇒
+    merged_as 3 (hex "02 00000037 04 03 0008 80 03 00 41 81 02 02 03 0007 80 02 81 02 40 01 03 0002 80 00 02 40 0001 41 41 0004 81 02 00 01 0002 80 00 01 03 0001 02 0001 00 01 01 0002 80 00") (2 ∷ 0 ∷ 1 ∷ []))
+    ∷ (merge-in (0 ∷ 1 ∷ 2 ∷ []) hall other_hall (replicate 59 7) (replicate 3 7) ⇒ not_merged 86 0 (replicate 59 7) (replicate 3 7))
+    ∷ (merge-in (0 ∷ 1 ∷ 2 ∷ []) hall other_hall (replicate 60 7) (replicate 2 7) ⇒ not_merged 86 0 (replicate 60 7) (replicate 2 7))
+    ∷ (merge-in [] (hall_of 63 always always) (hall_of 1 always (0 ∷ [])) (replicate 16 7) [] ⇒ merged_as 0 (hall_of 64 always (hex "80 01 3f")) [])
+    ∷ (merge-in [] (hall_of 64 always always) (hall_of 1 always always) (replicate 15 7) [] ⇒ not_merged 82 0 (replicate 15 7) [])
+    ∷ (merge-in [] (hall_of 64 deep_any always) (hall_of 1 always always) [] [] ⇒ not_merged 82 0 [] [])
+    ∷ (merge-in [] (hall_of 1 deep_any always) (hall_of 1 always always) [] [] ⇒ not_merged 84 0 [] [])
+    ∷ (merge-in [] (hall_of 1 always always) (hall_of 1 always deep_any) [] [] ⇒ not_merged 84 0 [] [])
+    ∷ (merge-in [] (hall_of 1 deep_all always) (hall_of 1 always deep_all) (replicate 43 7) [] ⇒ merged_as 0 (hall_of 2 deep_all deep_all) [])
+    ∷ (merge-in [] (hall_of 1 (all_of 254) always) (hall_of 1 (0 ∷ []) always) (replicate 270 7) [] ⇒
+    merged_as 0 (hall_of 2 (0x80 ∷ 255 ∷ (replicate 254 0 ++ (1 ∷ []))) always) [])
+    ∷ (merge-in [] (hall_of 1 (all_of 254) always) (hall_of 1 (all_of 2) always) (replicate 271 7) [] ⇒ not_merged 84 0 (replicate 271 7) [])
+    ∷ (merge-in [] (hall_of 1 always long_all) (hall_of 1 always (any_of 249)) [] [] ⇒ not_merged 86 0 [] [])
+    ∷ (merge-in [] (hall_of 1 always long_all) (hall_of 1 always (any_of 250)) [] [] ⇒ not_merged 84 0 [] [])
+    ∷ (merge-in [] (idling 64) (idling 1) [] [] ⇒ not_merged 83 0 [] [])
+    ∷ (merge-in [] [] [] (7 ∷ []) (7 ∷ []) ⇒ not_merged 11 0 (7 ∷ []) (7 ∷ []))
+    ∷ (merge-in [] (3 ∷ hex "00000000") [] [] [] ⇒ not_merged 12 0 [] [])
+    ∷ (merge-in [] hall (2 ∷ hex "00000001 41") (7 ∷ []) [] ⇒ not_merged 15 5 (7 ∷ []) [])
     ∷ []
 
 -- tables: every row gives what it says

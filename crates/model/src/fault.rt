@@ -106,6 +106,14 @@ pub enum Fault {
     ListEnds,
     // Of a list's header: its version is not the problem's.
     OtherVersion,
+    // Of a merge: both problems have more facts than a problem may.
+    MergedFacts,
+    MergedActions,
+    // The initial formula or the goal of both is over its limit of bytes, members or depth.
+    MergedFormula,
+    MergedBytes,
+    // The buffer for the merged problem or for the table cannot hold it.
+    MergeRoom,
 }
 
 impl Fault {
@@ -146,6 +154,11 @@ impl Fault {
             Fault::LineClaim => 69,
             Fault::ListEnds => 70,
             Fault::OtherVersion => 71,
+            Fault::MergedFacts => 82,
+            Fault::MergedActions => 83,
+            Fault::MergedFormula => 84,
+            Fault::MergedBytes => 85,
+            Fault::MergeRoom => 86,
         }
     }
 

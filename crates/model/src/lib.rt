@@ -30,7 +30,14 @@ impl Problem {
 
     pub const MAX_EFFECTS_V2: u8 = 128;
 
+    // Bytes before the initial formula: the header, and the counts of facts and of actions.
+    pub const BEGIN: usize = Limits::HEAD_BYTES + 2;
+    // Bytes of a formula's length field.
+    pub const LENGTH_BYTES: usize = 2;
+
     pub const MAX_FORMULA_BYTES: usize = 1024;
+
+    pub const MAX_MEMBERS: usize = 255;
 
     pub const MAX_DEPTH: u8 = 8;
     // Values that the code holds: a denial's byte is its fact's and 64 more, so no version has more facts.
@@ -167,6 +174,13 @@ pub enum Outcome {
 pub struct Counts {
     pub facts: u8,
     pub actions: u8,
+}
+
+// How many bytes a merge wrote: of the merged problem's block, and of the table of its actions' new numbers.
+#[derive(Clone, Copy)]
+pub struct Lengths {
+    pub block: usize,
+    pub table: usize,
 }
 
 // What the judge says of a plan.

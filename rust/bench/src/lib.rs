@@ -8,6 +8,7 @@ pub mod judge;
 pub mod judges;
 pub mod lengths;
 pub mod machine;
+pub mod merging;
 mod pace;
 pub mod page;
 pub mod plain;

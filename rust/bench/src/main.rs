@@ -9,16 +9,17 @@ use std::path::Path;
 
 use bench::judges::Judges;
 use bench::page::Part;
-use bench::{follow, growth, judge, machine, relevance, search, solvers, stack, versions};
+use bench::{follow, growth, judge, machine, merging, relevance, search, solvers, stack, versions};
 
 type Section = (&'static str, fn(&mut Judges) -> Part);
 
-const SECTIONS: [Section; 8] = [
+const SECTIONS: [Section; 9] = [
     ("judge", judge::section),
     ("follow", follow::section),
     ("versions", versions::section),
     ("relevance", relevance::section),
     ("search", search::section),
+    ("merging", merging::section),
     ("growth", growth::section),
     ("stack", stack::section),
     ("solvers", solvers::section),

@@ -115,6 +115,51 @@ pub fn store_with_one_away(carriages: u8, aisles: u8) -> Measured {
     Measured::new(name, store.problem_with_one_away(), store.plan())
 }
 
+/// A problem of few facts for its bytes: actions that set each of the facts, under
+/// conditions of three literals, and preconditions that take the bytes that are left.
+#[derive(Clone, Copy)]
+pub struct Full {
+    pub facts: u8,
+    pub actions: usize,
+    /// Of the initial formula and of the goal.
+    pub members: usize,
+    /// What each formula is.
+    pub group: fn(Vec<Formula>) -> Formula,
+}
+
+impl Full {
+    fn formula(&self, members: usize) -> Formula {
+        let facts = (0..self.facts).cycle();
+        (self.group)(facts.take(members).map(Formula::fact).collect())
+    }
+
+    pub fn of_length(&self, name: &str, length: usize) -> Measured {
+        let effect = |fact| Effect::sets(fact, self.formula(3));
+        let effects: Vec<Effect> = (0..self.facts).map(effect).collect();
+        let precondition = |members| Action {
+            precondition: self.formula(members),
+            effects: effects.clone(),
+        };
+        let mut tree = Problem {
+            version: VERSION_1,
+            facts: self.facts,
+            initial: self.formula(self.members),
+            goal: self.formula(self.members),
+            actions: vec![precondition(100); self.actions],
+        };
+        // A byte more for each member, up to 255 of them.
+        let mut room = length - encode::problem(&tree).len();
+        for action in &mut tree.actions {
+            let more = room.min(155);
+            *action = precondition(100 + more);
+            room -= more;
+        }
+        let measured = Measured::new(name, tree, Vec::new());
+        assert_eq!(measured.problem.len(), length, "{name}");
+        measured
+    }
+}
+
 /// The problem with each fact under another number.
 fn renamed(problem: &Problem, to: &dyn Fn(u8) -> u8) -> Problem {
     let literal = |l: Literal| Literal {

@@ -2,49 +2,26 @@
 
 use std::hint::black_box;
 
-use conformance::encode;
-use conformance::model::{Action, Effect, Formula, Problem};
-use conformance::version::VERSION_1;
+use conformance::model::Formula;
+use conformance::version::MOST_PROBLEM_BYTES;
 use larkhammock::{Counts, Version};
 
 use crate::figure::agreed;
 use crate::page::{nanoseconds, speed, whole, Table};
 use crate::plain;
-use crate::problems::{bombs, grid, store, Measured};
+use crate::problems::{bombs, grid, store, Full, Measured};
 use crate::ratios::Ratios;
 use crate::timing::times;
 
-/// The longest problem block.
-const LONGEST: usize = 32_768;
-
-/// A problem of the greatest length: 64 actions with all their effects under
-/// conditions, and what is left in formulas of the greatest length.
+/// A problem of the greatest length.
 fn longest() -> Measured {
-    let formula = |members: usize| Formula::any((0..members).map(|i| Formula::fact(i as u8 % 48)));
-    let effects = |count: u8| (0..count).map(|f| Effect::sets(f, formula(3))).collect();
-    let mut tree = Problem {
-        version: VERSION_1,
+    let full = Full {
         facts: 48,
-        initial: formula(200),
-        goal: formula(200),
-        actions: vec![
-            Action {
-                precondition: formula(100),
-                effects: effects(48),
-            };
-            64
-        ],
+        actions: 64,
+        members: 200,
+        group: Formula::any,
     };
-    let length = |tree: &Problem| encode::problem(tree).len();
-    // A byte more for each member, up to 255 of them.
-    let mut room = LONGEST - length(&tree);
-    for action in &mut tree.actions {
-        let more = room.min(155);
-        action.precondition = formula(100 + more);
-        room -= more;
-    }
-    assert_eq!(length(&tree), LONGEST);
-    Measured::new("the longest", tree, Vec::new())
+    full.of_length("the longest", MOST_PROBLEM_BYTES)
 }
 
 /// The times of the library and of plain Rust, which must agree.

@@ -2,8 +2,9 @@
    one byte: below the last place where another byte stands afterwards nobody
    wrote. Twice, with two bytes, since a call may write either of them.
 
-   Arguments: the operation, and the files of problem, plan and list. Prints the
-   tag of the answer and the bytes of stack, with what is needed for calling. */
+   Arguments: the operation, and the files of problem, plan and list, and of the
+   two halls that are merged. Prints the tag of the answer and the bytes of stack,
+   with what is needed for calling. */
 #define _XOPEN_SOURCE 700
 #include <stdio.h>
 #include <stdlib.h>
@@ -19,7 +20,7 @@ struct block {
 
 static const uint64_t no_fact_true = 0, plenty = 1000000, longest = 4;
 
-static struct block problem, plan, list, lent;
+static struct block problem, plan, list, first, second, lent, table;
 static uint8_t stack[1 << 20];
 static ucontext_t outside, inside;
 static larkhammock_answer (*operation)(void);
@@ -75,6 +76,12 @@ static larkhammock_answer search_plans(void)
     return larkhammock_search_plans(SLICE(problem), longest, plenty);
 }
 
+static larkhammock_answer merge(void)
+{
+    return larkhammock_merge(SLICE(first), SLICE(second), SLICE(lent),
+                             SLICE(table));
+}
+
 static const struct {
     const char *name;
     larkhammock_answer (*call)(void);
@@ -83,7 +90,7 @@ static const struct {
     {"run", run},                   {"judge", judge},
     {"write_list", write_list},     {"follow_list", follow_list},
     {"search_plans", search_plans}, {"relevant_facts", relevant_facts},
-    {"relevant_facts_sparse", relevant_facts_sparse},
+    {"relevant_facts_sparse", relevant_facts_sparse}, {"merge", merge},
 };
 
 static void fail(const char *what)
@@ -133,13 +140,16 @@ static size_t taken(uint8_t filler)
 int main(int count, char **words)
 {
     size_t once, again;
-    if (count != 5)
-        fail("an operation and three files are needed");
+    if (count != 7)
+        fail("an operation and five files are needed");
     find(words[1]);
     load(&problem, words[2]);
     load(&plan, words[3]);
     load(&list, words[4]);
+    load(&first, words[5]);
+    load(&second, words[6]);
     lent.len = sizeof lent.bytes;
+    table.len = sizeof table.bytes;
     once = taken(0x5a);
     again = taken(0xa5);
     printf("%d %zu\n", (int)answer.word[0], once > again ? once : again);

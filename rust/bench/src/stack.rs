@@ -15,7 +15,7 @@ use crate::judges::Judges;
 use crate::page::{whole, Part, Table};
 
 /// The functions of the C interface, without what their names have in common.
-const OPERATIONS: [&str; 9] = [
+const OPERATIONS: [&str; 10] = [
     "read_problem",
     "read_plan",
     "run",
@@ -25,7 +25,12 @@ const OPERATIONS: [&str; 9] = [
     "relevant_facts",
     "relevant_facts_sparse",
     "search_plans",
+    "merge",
 ];
+
+/// The files of the blocks that the measure takes, in this order: the last two are
+/// halls that are merged.
+const FILES: [&str; 5] = ["problem", "plan", "list", "first", "second"];
 
 /// As deep as groups may nest.
 const DEEPEST: usize = 8;
@@ -45,8 +50,8 @@ fn nested(depth: usize, fact: u8) -> Formula {
 /// In the one start state no fact is true, or the last alone: so the walk goes
 /// down to the last fact and is short. The action counts to four with the facts
 /// before it, so that no shorter plan is right.
-fn deepest_problem(version: &Version) -> Problem {
-    let last = version.most_facts - 1;
+fn deepest_problem(version: &Version, facts: u8) -> Problem {
+    let last = facts - 1;
     let counter: Vec<u8> = (last - 4..last).collect();
     let mut effects = vec![Effect::sets(counter[0], Formula::always())];
     for pair in counter.windows(2) {
@@ -56,7 +61,7 @@ fn deepest_problem(version: &Version) -> Problem {
     let nothing_else = (0..last).map(Formula::not);
     Problem {
         version: *version,
-        facts: last + 1,
+        facts,
         initial: Formula::all([unknown()].into_iter().chain(nothing_else)),
         goal: Formula::all([unknown(), Formula::fact(counter[3])]),
         actions: vec![Action {
@@ -102,12 +107,16 @@ impl Measure {
     }
 
     fn write_blocks(&self, version: &Version) {
-        let problem = encode::problem(&deepest_problem(version));
+        let of_facts = |facts| encode::problem(&deepest_problem(version, facts));
+        let problem = of_facts(version.most_facts);
+        // Two halls of a version have as many facts as one problem of it.
+        let hall = of_facts(version.most_facts / 2);
         let plan = encode::plan(&[0; 4]);
         let mut list = vec![0; LONGEST_LIST];
         let length = write_list(&problem, &plan, u64::MAX, &mut list).expect("the plan is right");
         list.truncate(length);
-        for (name, block) in [("problem", problem), ("plan", plan), ("list", list)] {
+        let blocks = [problem, plan, list, hall.clone(), hall];
+        for (name, block) in FILES.iter().zip(blocks) {
             fs::write(self.folder.join(name), block).expect("the temporary folder can be written");
         }
     }
@@ -116,7 +125,7 @@ impl Measure {
     fn stack(&self, operation: &str) -> u64 {
         let output = Command::new(self.folder.join("stack"))
             .arg(operation)
-            .args(["problem", "plan", "list"].map(|name| self.folder.join(name)))
+            .args(FILES.map(|name| self.folder.join(name)))
             .output()
             .expect("the measure can be started");
         let said = String::from_utf8_lossy(&output.stdout);
@@ -152,6 +161,7 @@ pub fn section(_: &mut Judges) -> Part {
 const HEAD: &str = "
 ## Stack
 
-Of 48 facts, in version 2 of 64, and formulas that nest 8 deep: the walk goes down to the last fact, and a search to plans of four steps. A call runs on a stack
-that was filled with one byte, and what it takes goes down to the last byte that is another. `larkhammock.h` has the bound that a test holds it to.
+Of 48 facts, in version 2 of 64, and formulas that nest 8 deep: the walk goes down to the last fact, and a search to plans of four steps; of two halls that are
+merged, each has half the facts. A call runs on a stack that was filled with one byte, and what it takes goes down to the last byte that is another.
+`larkhammock.h` has the bound that a test holds it to.
 ";

@@ -3,6 +3,7 @@
 #[macro_use]
 #[path = "../../conformance/tests/versions/mod.rs"]
 mod versions;
+mod merging;
 
 use std::collections::{BTreeMap, BTreeSet};
 use std::iter;
@@ -19,7 +20,7 @@ use conformance::families::idle;
 use conformance::gen::{damaged_case, even_cover, sound_case, Rng};
 use conformance::harness::Case;
 use conformance::oracle;
-use conformance::version::Version;
+use conformance::version::{Version, VERSIONS};
 use larkhammock::{raw, write_list, Outcome, Part, State, LONGEST_LIST};
 
 type Judge = fn(&[u8], &[u8], u64) -> plain::Verdict;
@@ -56,6 +57,8 @@ of_each_version! {
     plain_followers_follow_long_lists_alike,
     plain_followers_follow_as_long_lists,
     plain_followers_tell_a_full_cover_from_none,
+    plain_merging_merges_and_refuses_alike,
+    plain_merging_keeps_to_the_limits_alike,
 }
 
 fn plain_judges_judge_and_refuse_alike(version: &Version) {
@@ -353,5 +356,42 @@ fn plain_followers_tell_a_full_cover_from_none(version: &Version) {
         let what = format!("{lines:?}");
         let told = follow_alike(problem, plan, &encode::list(version, &lines), &what);
         assert_eq!(refusal_number(&told), number, "{what}");
+    }
+}
+
+/// Two halls of which each is sound, or mostly so, and buffers that are long enough, or
+/// nearly.
+fn plain_merging_merges_and_refuses_alike(version: &Version) {
+    let mut rng = Rng::new(0xbe82);
+    let mut met = BTreeMap::new();
+    for round in 0..8_000 {
+        let other = rng.pick(&VERSIONS);
+        let first = mostly_sound_case(&mut rng, version, round).problem;
+        let second = mostly_sound_case(&mut rng, &other, round / 4).problem;
+        let rooms = merging::rooms(&mut rng, &first, &second);
+        let number = merging::alike(&first, &second, rooms, &format!("round {round}"));
+        *met.entry(number).or_insert(0) += 1;
+    }
+    for number in iter::once(0).chain(11..26).chain([84, 86]) {
+        assert!(met.contains_key(&number), "{number} in {met:?}");
+    }
+    assert!(met[&0].min(met[&86]) > 1_000, "{met:?}");
+}
+
+/// Each two of a few halls, some of which go over a limit together.
+fn plain_merging_keeps_to_the_limits_alike(version: &Version) {
+    let halls = merging::halls(version);
+    let mut met = BTreeMap::new();
+    for first in &halls {
+        for second in &halls {
+            let what = format!("{} and {}", first.name, second.name);
+            for rooms in merging::near(&first.problem, &second.problem) {
+                let number = merging::alike(&first.problem, &second.problem, rooms, &what);
+                *met.entry(number).or_insert(0) += 1;
+            }
+        }
+    }
+    for number in [0, 82, 83, 84, 85, 86] {
+        assert!(met.get(&number) > Some(&4), "{number} in {met:?}");
     }
 }

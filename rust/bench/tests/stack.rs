@@ -8,7 +8,7 @@ use bench::stack::measured;
 use conformance::version::{Version, VERSION_1, VERSION_2};
 
 /// What the header promises of each operation, in KiB, and in its words.
-const PROMISED: [(&str, u64, &str); 9] = [
+const PROMISED: [(&str, u64, &str); 10] = [
     ("read_problem", 8, "8 KiB to read a problem or a plan"),
     ("read_plan", 8, "8 KiB to read a problem or a plan"),
     ("run", 16, "16 KiB to run a state"),
@@ -22,6 +22,7 @@ const PROMISED: [(&str, u64, &str); 9] = [
     ("relevant_facts", 48, "48 KiB to tell relevant facts"),
     ("relevant_facts_sparse", 24, "24 KiB to tell them sparsely"),
     ("search_plans", 36, "36 KiB to search plans"),
+    ("merge", 12, "12 KiB to merge"),
 ];
 
 /// The operations that walk down to the last fact.

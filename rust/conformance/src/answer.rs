@@ -2,7 +2,7 @@
 //! row does not name are 0.
 
 use crate::model::Problem;
-use crate::oracle::{Outcome, Part, Refusal, Search, Verdict};
+use crate::oracle::{Merged, Outcome, Part, Refusal, Search, Verdict};
 
 pub type Answer = [u64; 8];
 
@@ -62,6 +62,13 @@ pub fn search_plans(result: &Result<Search, Refusal>) -> Answer {
         Ok(Search::Found { plan, visits }) => words(&plan_words(1, *visits, plan)),
         Ok(Search::NoneRight { visits }) => words(&[2, *visits]),
         Ok(Search::Undecided { plan, visits }) => words(&plan_words(3, *visits, plan)),
+    }
+}
+
+pub fn merge(result: &Result<Merged, Refusal>) -> Answer {
+    match result {
+        Err(refusal) => refused(refusal),
+        Ok(merged) => words(&[1, merged.block.len() as u64, merged.numbers.len() as u64]),
     }
 }
 

@@ -1,5 +1,5 @@
-//! Holds a library to the oracle: whole answers, and every byte of a lent buffer
-//! with guards around it.
+//! Holds a library to the oracle: whole answers, and every byte of the lent buffers
+//! with guards around them.
 
 use std::fmt;
 use std::ops::Range;
@@ -7,7 +7,7 @@ use std::ops::Range;
 use crate::answer::{self, words, Answer};
 use crate::oracle::{self, Task};
 
-/// What is tested: the nine operations, as their eight words.
+/// What is tested: the ten operations, as their eight words.
 pub trait Subject {
     fn read_problem(&self, problem: &[u8]) -> Answer;
     fn read_plan(&self, problem: &[u8], plan: &[u8]) -> Answer;
@@ -24,6 +24,7 @@ pub trait Subject {
         arena: &mut Arena,
     ) -> Answer;
     fn search_plans(&self, problem: &[u8], longest: u64, grant: u64) -> Answer;
+    fn merge(&self, first: &[u8], second: &[u8], out: &mut Arena, table: &mut Arena) -> Answer;
 }
 
 #[derive(Clone, Copy, Debug, PartialEq, Eq)]
@@ -37,10 +38,11 @@ pub enum Operation {
     RelevantFacts,
     RelevantFactsSparse,
     SearchPlans,
+    Merge,
 }
 
 impl Operation {
-    pub const ALL: [Operation; 9] = [
+    pub const ALL: [Operation; 10] = [
         Operation::ReadProblem,
         Operation::ReadPlan,
         Operation::Run,
@@ -50,10 +52,11 @@ impl Operation {
         Operation::RelevantFacts,
         Operation::RelevantFactsSparse,
         Operation::SearchPlans,
+        Operation::Merge,
     ];
 }
 
-/// Arguments for all nine operations.
+/// Arguments for all ten operations.
 #[derive(Clone, Default)]
 pub struct Case {
     pub problem: Vec<u8>,
@@ -71,6 +74,12 @@ pub struct Case {
     pub longest: u64,
     /// The grant of a search: many plans share it, where the other is for one.
     pub shared_grant: u64,
+    /// The second problem of a merge, whose first one is the problem.
+    pub second: Vec<u8>,
+    /// The bytes that are lent for a merged block.
+    pub block_room: usize,
+    /// The bytes that are lent for the numbers of its actions.
+    pub places: usize,
 }
 
 /// The lent buffer with guard bytes on both sides.
@@ -97,13 +106,27 @@ impl Arena {
     pub fn out(&mut self) -> &mut [u8] {
         &mut self.bytes[self.room.clone()]
     }
+
+    /// The same, to be looked at.
+    pub fn lent(&self) -> &[u8] {
+        &self.bytes[self.room.clone()]
+    }
+
+    /// Where the first byte is that another has not, counted from the part that is lent.
+    fn differs_from(&self, other: &Arena) -> Option<isize> {
+        let mut pairs = self.bytes.iter().zip(&other.bytes);
+        let at = pairs.position(|(one, other)| one != other)?;
+        Some(at as isize - Arena::GUARD as isize)
+    }
 }
 
-/// An answer and what it left in the buffer.
+/// An answer and what it left in the buffers.
 #[derive(Clone, PartialEq, Eq)]
 pub struct Effect {
     pub answer: Answer,
     pub arena: Arena,
+    /// The second buffer of a merge.
+    pub table: Arena,
 }
 
 /// A call that went otherwise than the oracle says.
@@ -122,10 +145,13 @@ impl fmt::Debug for Difference {
         writeln!(f, "{operation:?}")?;
         writeln!(f, "  expected {:?}", self.expected.answer)?;
         writeln!(f, "  got      {:?}", self.got.answer)?;
-        let pairs = self.expected.arena.bytes.iter().zip(&self.got.arena.bytes);
-        if let Some(at) = pairs.enumerate().position(|(_, (e, g))| e != g) {
-            let at = at as isize - Arena::GUARD as isize;
-            writeln!(f, "  buffer differs first at {at}")?;
+        for (name, expected, got) in [
+            ("buffer", &self.expected.arena, &self.got.arena),
+            ("table", &self.expected.table, &self.got.table),
+        ] {
+            if let Some(at) = expected.differs_from(got) {
+                writeln!(f, "  {name} differs first at {at}")?;
+            }
         }
         writeln!(f, "  problem {}", hex(&case.problem))?;
         writeln!(f, "  plan {}", hex(&case.plan))?;
@@ -133,11 +159,13 @@ impl fmt::Debug for Difference {
         write!(f, "  state {:x} grant {}", case.state, case.grant)?;
         write!(f, " room {} work {}", case.room, case.work)?;
         writeln!(f, " sparse work {}", case.sparse_work)?;
-        write!(
+        writeln!(
             f,
             "  longest {} shared grant {}",
             case.longest, case.shared_grant
-        )
+        )?;
+        writeln!(f, "  second {}", hex(&case.second))?;
+        write!(f, "  block room {} places {}", case.block_room, case.places)
     }
 }
 
@@ -145,10 +173,24 @@ fn hex(bytes: &[u8]) -> String {
     bytes.iter().map(|b| format!("{b:02x}")).collect()
 }
 
-/// The oracle in a library's place.
-struct Oracle;
+/// The oracle in a library's place. A merged problem's actions may be in any order: it
+/// takes that of this table where one is told there, and the first hall's first elsewhere.
+struct Oracle<'a> {
+    table: &'a [u8],
+}
 
-impl Subject for Oracle {
+impl Oracle<'_> {
+    fn order(&self, actions: usize) -> Vec<usize> {
+        let numbers = self.table.iter().copied().map(usize::from);
+        let told: Vec<usize> = numbers.take(actions).collect();
+        if told.len() == actions && oracle::is_order(&told) {
+            return told;
+        }
+        (0..actions).collect()
+    }
+}
+
+impl Subject for Oracle<'_> {
     fn read_problem(&self, problem: &[u8]) -> Answer {
         answer::read_problem(&oracle::read_problem(problem))
     }
@@ -204,6 +246,16 @@ impl Subject for Oracle {
     fn search_plans(&self, problem: &[u8], longest: u64, grant: u64) -> Answer {
         answer::search_plans(&oracle::search_plans(problem, longest, grant))
     }
+
+    fn merge(&self, first: &[u8], second: &[u8], out: &mut Arena, table: &mut Arena) -> Answer {
+        let lent = [out.room.len(), table.room.len()];
+        let merged = oracle::merge_blocks([first, second], lent, |count| self.order(count));
+        if let Ok(merged) = &merged {
+            out.out()[..merged.block.len()].copy_from_slice(&merged.block);
+            table.out()[..merged.numbers.len()].copy_from_slice(&merged.numbers);
+        }
+        answer::merge(&merged)
+    }
 }
 
 /// The values stand at the front of the lent part, a byte each.
@@ -215,7 +267,14 @@ fn put<'a>(arena: &mut Arena, values: impl Iterator<Item = &'a bool>) {
 
 /// What the oracle says of one call.
 pub fn expected(operation: Operation, case: &Case) -> Effect {
-    observed(&Oracle, operation, case)
+    observed(&Oracle { table: &[] }, operation, case)
+}
+
+/// The same beside what a subject made of it, whose order of merged actions is as good as
+/// any other.
+fn expected_beside(got: &Effect, operation: Operation, case: &Case) -> Effect {
+    let table = got.table.lent();
+    observed(&Oracle { table }, operation, case)
 }
 
 /// What the subject makes of one call.
@@ -227,6 +286,10 @@ pub fn observed(subject: &dyn Subject, operation: Operation, case: &Case) -> Eff
         ..
     } = case;
     let mut arena = Arena::new(room(operation, case));
+    let mut table = Arena::new(match operation {
+        Operation::Merge => case.places,
+        _ => 0,
+    });
     let answer = match operation {
         Operation::ReadProblem => subject.read_problem(problem),
         Operation::ReadPlan => subject.read_plan(problem, plan),
@@ -239,16 +302,22 @@ pub fn observed(subject: &dyn Subject, operation: Operation, case: &Case) -> Eff
             subject.relevant_facts_sparse(problem, plan, case.state, &mut arena)
         }
         Operation::SearchPlans => subject.search_plans(problem, case.longest, case.shared_grant),
+        Operation::Merge => subject.merge(problem, &case.second, &mut arena, &mut table),
     };
-    Effect { answer, arena }
+    Effect {
+        answer,
+        arena,
+        table,
+    }
 }
 
-/// Only three operations have a buffer.
+/// Only four operations have a buffer, and a merge has a table beside it.
 fn room(operation: Operation, case: &Case) -> usize {
     match operation {
         Operation::WriteList => case.room,
         Operation::RelevantFacts => case.work,
         Operation::RelevantFactsSparse => case.sparse_work,
+        Operation::Merge => case.block_room,
         _ => 0,
     }
 }
@@ -259,16 +328,17 @@ pub fn check(
     operation: Operation,
     case: &Case,
 ) -> Result<Answer, Box<Difference>> {
-    compare(subject, operation, case, expected(operation, case))
+    let got = observed(subject, operation, case);
+    let expected = expected_beside(&got, operation, case);
+    compare(operation, case, expected, got)
 }
 
 fn compare(
-    subject: &dyn Subject,
     operation: Operation,
     case: &Case,
     expected: Effect,
+    got: Effect,
 ) -> Result<Answer, Box<Difference>> {
-    let got = observed(subject, operation, case);
     if got == expected {
         return Ok(got.answer);
     }
@@ -280,7 +350,7 @@ fn compare(
     }))
 }
 
-/// Compares all nine calls; the answers in the order of [`Operation::ALL`].
+/// Compares all ten calls; the answers in the order of [`Operation::ALL`].
 pub fn check_all(subject: &dyn Subject, case: &Case) -> Result<Vec<Answer>, Box<Difference>> {
     Operation::ALL
         .iter()
@@ -289,12 +359,13 @@ pub fn check_all(subject: &dyn Subject, case: &Case) -> Result<Vec<Answer>, Box<
 }
 
 /// Holds the oracle and the subject to an answer that was worked out by hand,
-/// and the buffer to the oracle's.
+/// and the buffers to the oracle's.
 #[track_caller]
 pub fn expect(subject: &dyn Subject, operation: Operation, case: &Case, named: &[u64]) {
-    let expected = expected(operation, case);
+    let got = observed(subject, operation, case);
+    let expected = expected_beside(&got, operation, case);
     assert_eq!(expected.answer, words(named), "the oracle's {operation:?}");
-    if let Err(difference) = compare(subject, operation, case, expected) {
+    if let Err(difference) = compare(operation, case, expected, got) {
         panic!("{difference:?}");
     }
 }

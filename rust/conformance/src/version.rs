@@ -10,6 +10,9 @@ pub const MOST_ACTIONS: usize = 64;
 /// A formula's bytes without its length.
 pub const MOST_FORMULA_BYTES: usize = 1_024;
 
+/// A group's members, whose count is one byte.
+pub const MOST_MEMBERS: usize = 255;
+
 /// Groups nest so deep at most, the outermost being 1.
 pub const DEEPEST: usize = 8;
 

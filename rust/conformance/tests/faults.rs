@@ -2,6 +2,7 @@
 
 mod former;
 mod layouts;
+mod merges;
 mod rules;
 mod searches;
 mod support;
@@ -19,6 +20,7 @@ use conformance::trial;
 use conformance::version::{Version, HEADER, VERSION_1};
 use former::{with_sets_winning, MOVES};
 use layouts::Layout;
+use merges::Merger;
 use rules::Rule;
 use searches::Searcher;
 use support::Library;
@@ -90,6 +92,11 @@ impl Subject for Tampered {
             Library.search_plans(problem, longest, grant),
         )
     }
+
+    fn merge(&self, first: &[u8], second: &[u8], out: &mut Arena, table: &mut Arena) -> Answer {
+        let answer = Library.merge(first, second, out, table);
+        self.tamper(Operation::Merge, answer)
+    }
 }
 
 of_each_version! {
@@ -98,6 +105,7 @@ of_each_version! {
     each_wrong_idea_of_versions_is_found_out,
     each_wrong_layout_is_found_out,
     each_wrong_search_is_found_out,
+    each_wrong_merge_is_found_out,
     each_byte_of_the_buffers_and_their_guards_is_compared,
     the_oracle_without_a_fault_is_not_found_out,
 }
@@ -192,6 +200,19 @@ impl Subject for Oracle {
         })
         .0
     }
+
+    fn merge(&self, first: &[u8], second: &[u8], out: &mut Arena, table: &mut Arena) -> Answer {
+        let case = Case {
+            problem: first.to_vec(),
+            second: second.to_vec(),
+            block_room: out.room.len(),
+            places: table.room.len(),
+            ..Case::default()
+        };
+        let effect = expected(Operation::Merge, &case);
+        (*out, *table) = (effect.arena, effect.table);
+        effect.answer
+    }
 }
 
 fn ask(
@@ -229,6 +250,8 @@ fn of_the_other(block: &[u8]) -> Vec<u8> {
 enum Fault {
     /// Changes one byte of the buffer or its guards, from the first guard on.
     StrayByte(usize),
+    /// The same of the table of a merge.
+    StrayPlace(usize),
     NoProblemIsSound,
     NoPlanIsSound,
     RunIsNeverMissed,
@@ -261,6 +284,8 @@ enum Fault {
     LaysOut(Layout),
     /// Tries short plans in this way.
     Searches(Searcher),
+    /// Merges two problems in this way.
+    Merges(Merger),
     NoRunIsTold,
     WorkBeforeOutcome,
     NoStateIsWritten,
@@ -594,6 +619,19 @@ impl Subject for Fault {
             _ => Oracle.search_plans(problem, longest, grant),
         }
     }
+
+    fn merge(&self, first: &[u8], second: &[u8], out: &mut Arena, table: &mut Arena) -> Answer {
+        if let Fault::Merges(merger) = self {
+            return merger.answer([first, second], [out, table]);
+        }
+        let answer = Oracle.merge(first, second, out, table);
+        match self {
+            Fault::StrayByte(at) => out.bytes[*at] ^= 1,
+            Fault::StrayPlace(at) => table.bytes[*at] ^= 1,
+            _ => {}
+        }
+        answer
+    }
 }
 
 fn each_wrong_idea_is_found_out(version: &Version) {
@@ -698,6 +736,17 @@ fn each_wrong_search_is_found_out(version: &Version) {
     }
 }
 
+fn each_wrong_merge_is_found_out(version: &Version) {
+    for merger in Merger::WRONG {
+        let fault = Fault::Merges(merger);
+        let mut rng = Rng::new(0xfa1a);
+        let generated = (0..2_000).map(|_| sound_case(&mut rng, version));
+        let mut cases = merges::at_the_edge(version).into_iter().chain(generated);
+        let found = cases.any(|case| check(&fault, Operation::Merge, &case).is_err());
+        assert!(found, "{merger:?} gets past 2,000 cases");
+    }
+}
+
 #[track_caller]
 fn each_byte_is_compared(operation: Operation, case: &Case, lent: usize) {
     let arena = expected(operation, case).arena;
@@ -735,6 +784,20 @@ fn each_byte_of_the_buffers_and_their_guards_is_compared(version: &Version) {
         };
         each_byte_is_compared(Operation::RelevantFactsSparse, &case, work);
     }
+    // And those of a merged problem, with the numbers of its four actions beside it.
+    for (room, places) in [(70, 6), (62, 6), (70, 3)] {
+        let case = Case {
+            second: trial::problem(&version.other()),
+            block_room: room,
+            places,
+            ..trial::with_plan(version, &[])
+        };
+        each_byte_is_compared(Operation::Merge, &case, room);
+        for at in 0..places + 2 * Arena::GUARD {
+            let found = check(&Fault::StrayPlace(at), Operation::Merge, &case);
+            assert!(found.is_err(), "byte {at} of {places} and guards");
+        }
+    }
 }
 
 /// The oracle made into a subject is itself: so it is each fault alone that is
@@ -752,6 +815,10 @@ fn the_oracle_without_a_fault_is_not_found_out(version: &Version) {
         check(&layout, Operation::RelevantFactsSparse, &case).expect("the layout is as written");
         let search = Fault::Searches(Searcher::AsWritten);
         check(&search, Operation::SearchPlans, &case).expect("the search is as written");
+        for merger in Merger::RIGHT {
+            let merge = Fault::Merges(merger);
+            check(&merge, Operation::Merge, &case).expect("the merge is as written");
+        }
     }
     let list = trial::list(version);
     let state = version.number(&[false, true, true]);
@@ -759,8 +826,11 @@ fn the_oracle_without_a_fault_is_not_found_out(version: &Version) {
         list,
         state,
         longest: 2,
+        second: trial::problem(version),
+        block_room: 63,
+        places: 4,
         ..trial::with_plan(version, &[0, 1])
     };
     let answers = Operation::ALL.map(|operation| expected(operation, &case).answer[0]);
-    assert_eq!(answers, [1; 9]);
+    assert_eq!(answers, [1; 10]);
 }

@@ -29,7 +29,7 @@ const NUMBERS: u64 = 4;
 
 /// Every number that a call can be refused with.
 fn every_refusal() -> BTreeSet<u64> {
-    let ranges = [10..=25, 30..=34, 40..=44, 50..=53, 60..=71];
+    let ranges = [10..=25, 30..=34, 40..=44, 50..=53, 60..=71, 82..=86];
     ranges.into_iter().flatten().collect()
 }
 
@@ -157,6 +157,7 @@ fn every_operation_answers_as_the_oracle_and_every_refusal_is_met(version: &Vers
         (search, 1, 0),
         (search, 2, 0),
         (search, 3, 0),
+        (Operation::Merge as u8, 1, 0),
     ];
     assert_eq!(tags, every_tag.into());
     runs.are_of_every_kind("run");
@@ -243,6 +244,13 @@ fn search(search: larkhammock::Search) -> oracle::Search {
     }
 }
 
+fn merged(merged: larkhammock::Merged) -> oracle::Merged {
+    oracle::Merged {
+        block: merged.problem.to_vec(),
+        numbers: merged.numbers.to_vec(),
+    }
+}
+
 /// The state of this number, if the problem has one; of a block that is no problem,
 /// some state.
 fn state_of(problem: &[u8], number: u64) -> Option<larkhammock::State> {
@@ -269,6 +277,7 @@ fn the_safe_crate_says_the_same(version: &Version) {
             sparse_work,
             longest,
             shared_grant,
+            ..
         } = &case;
         assert_eq!(
             larkhammock::read_problem(problem),
@@ -323,7 +332,22 @@ fn the_safe_crate_says_the_same(version: &Version) {
             larkhammock::search_plans(problem, *longest, *shared_grant).map(search),
             oracle::search_plans(problem, *longest, *shared_grant).map_err(refusal)
         );
+        merges_the_same(&case);
     }
+}
+
+fn merges_the_same(case: &Case) {
+    let lent = [case.block_room, case.places];
+    let (mut out, mut table) = (vec![0; lent[0]], vec![0; lent[1]]);
+    let told = larkhammock::merge(&case.problem, &case.second, &mut out, &mut table).map(merged);
+    // Their order is the library's.
+    let numbers = told.as_ref().map(|merged| merged.numbers.clone());
+    let order = |count| match numbers {
+        Ok(numbers) => numbers.into_iter().map(usize::from).collect(),
+        Err(_) => (0..count).collect(),
+    };
+    let expected = oracle::merge_blocks([&case.problem, &case.second], lent, order);
+    assert_eq!(told, expected.map_err(refusal));
 }
 
 /// Every number has words of its own.

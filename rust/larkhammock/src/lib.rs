@@ -8,7 +8,8 @@
 //! [follows](follow_list) a certificate that anyone has written. Of one run that
 //! reaches the goal it tells [which start facts](relevant_facts) that rests on, also
 //! from a [smaller work area](relevant_facts_sparse), and where nobody has a plan it
-//! [tries](search_plans) every short one.
+//! [tries](search_plans) every short one. Two problems that share nothing it
+//! [merges](merge()) into one.
 //!
 //! Problems, plans and lists are blocks of bytes. Any bytes may be handed in:
 //! what is not sound is turned down with a [`Refusal`]. A problem is of one of two
@@ -41,6 +42,7 @@
 
 pub mod example;
 mod lines;
+mod merge;
 pub mod raw;
 mod refusal;
 mod relevance;
@@ -49,11 +51,20 @@ mod state;
 mod version;
 
 pub use lines::{Line, Lines};
+pub use merge::{merge, Hall, Merged};
 pub use refusal::Refusal;
 pub use relevance::{ReachedRun, SparseRun, States};
 pub use search::{Search, ShortPlan};
 pub use state::{FactSet, State};
 pub use version::Version;
+
+/// The bytes of the longest problem: a buffer of this length holds what [`merge()`] writes
+/// for any two.
+pub const LONGEST_PROBLEM: usize = 32_768;
+
+/// The most actions of a problem: a table of so many bytes holds what [`merge()`] writes
+/// there for any two problems.
+pub const MOST_ACTIONS: usize = 64;
 
 /// The bytes of the longest list of any version: a buffer of this length holds what
 /// [`write_list`] writes for any plan. [`Version::longest_list`] has those of one.
@@ -86,7 +97,7 @@ pub struct Counts {
     pub version: Version,
     /// The number of facts, 1 to [`Version::most_facts`].
     pub facts: u64,
-    /// The number of actions, 0 to 64.
+    /// The number of actions, 0 to [`MOST_ACTIONS`].
     pub actions: u64,
 }
 

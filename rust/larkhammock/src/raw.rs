@@ -25,8 +25,8 @@ pub struct Answer {
 // What each function asks of its caller, as `include/larkhammock.h` has it:
 // - a pointer and its length are so many bytes of one live object, at most
 //   `isize::MAX` of them, which nobody else writes during the call
-// - `out` or `work` overlaps no other argument, and nobody else reads it during
-//   the call either
+// - `out`, `work` or `table` overlaps no other argument, and nobody else reads it
+//   during the call either
 // - a pointer may be null where its length is 0
 extern "C" {
     fn larkhammock_read_problem(problem: *const u8, problem_len: usize) -> Answer;
@@ -91,11 +91,21 @@ extern "C" {
         longest: u64,
         grant: u64,
     ) -> Answer;
+    fn larkhammock_merge(
+        first: *const u8,
+        first_len: usize,
+        second: *const u8,
+        second_len: usize,
+        out: *mut u8,
+        out_len: usize,
+        table: *mut u8,
+        table_len: usize,
+    ) -> Answer;
 }
 
 // SAFETY, for every call below: a slice is so many bytes of one live object, at
 // most `isize::MAX` of them, and its pointer is never null. It is borrowed for
-// the time of the call, so that nobody else writes it; `out` or `work` is
+// the time of the call, so that nobody else writes it; `out`, `work` or `table` is
 // borrowed alone, so that it overlaps nothing and nobody else reads it. The
 // library reads and writes within those lengths and keeps no pointer.
 
@@ -198,4 +208,20 @@ pub fn relevant_facts_sparse(problem: &[u8], plan: &[u8], state: u64, work: &mut
 /// Tag 1 found, 2 none, 3 undecided: visits, length, each of four steps.
 pub fn search_plans(problem: &[u8], longest: u64, grant: u64) -> Answer {
     unsafe { larkhammock_search_plans(problem.as_ptr(), problem.len(), longest, grant) }
+}
+
+/// Tag 1: length of the block in `out`, length of the table.
+pub fn merge(first: &[u8], second: &[u8], out: &mut [u8], table: &mut [u8]) -> Answer {
+    unsafe {
+        larkhammock_merge(
+            first.as_ptr(),
+            first.len(),
+            second.as_ptr(),
+            second.len(),
+            out.as_mut_ptr(),
+            out.len(),
+            table.as_mut_ptr(),
+            table.len(),
+        )
+    }
 }

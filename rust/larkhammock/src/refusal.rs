@@ -17,7 +17,8 @@ use std::fmt;
 pub struct Refusal {
     /// Which fault: 10 to 25 for a problem, 30 to 34 for a plan, 40 for a
     /// state, 41 and 42 for the facts that its run rests on, 43 and 44 for a search,
-    /// 50 to 53 for writing a list, 60 to 71 for following one.
+    /// 50 to 53 for writing a list, 60 to 71 for following one, 82 to 86 for merging
+    /// two problems.
     pub number: u64,
     /// Where: a byte's position, or what the fault's description says.
     pub place: u64,
@@ -75,6 +76,11 @@ impl Refusal {
             69 => "the line's claim is not so",
             70 => "the list does not end at the last state",
             71 => "the list's version is not its problem's",
+            82 => "together they have over 64 facts",
+            83 => "together they have over 64 actions",
+            84 => "the merged initial formula or goal is over 1,024 bytes, 255 members or 8 deep",
+            85 => "the merged problem is longer than 32,768 bytes",
+            86 => "the buffer is too short for the merged problem, or the table for its actions",
             _ => "a number that this version does not know",
         }
     }

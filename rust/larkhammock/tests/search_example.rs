@@ -1,32 +1,12 @@
 //! The example program `search`, on the files of `examples/`.
 
-use std::env;
-use std::path::{Path, PathBuf};
-use std::process::{Command, Output};
+mod program;
 
-/// It is built with the tests of this crate, and stands beside their folder.
-fn program() -> PathBuf {
-    let test = env::current_exe().expect("a test knows its file");
-    let folder = test
-        .ancestors()
-        .nth(2)
-        .expect("it is in a folder of its own");
-    folder.join("examples/search")
-}
-
-fn run(arguments: &[&str]) -> Output {
-    Command::new(program())
-        .current_dir(Path::new(env!("CARGO_MANIFEST_DIR")).join(".."))
-        .args(arguments)
-        .output()
-        .expect("the program runs")
-}
+use program::refuses_arguments;
 
 #[track_caller]
 fn prints(arguments: &[&str], line: &str) {
-    let output = run(arguments);
-    assert_eq!(String::from_utf8_lossy(&output.stdout), format!("{line}\n"));
-    assert!(output.stderr.is_empty() && output.status.success());
+    program::prints("search", arguments, line);
 }
 
 const PROBLEM: &str = "../examples/small-store/problem";
@@ -55,8 +35,6 @@ fn it_wants_a_problem_and_a_length() {
         &[PROBLEM, "four"],
         &["no such file", "4"],
     ] {
-        let output = run(arguments);
-        assert!(output.stdout.is_empty() && !output.stderr.is_empty());
-        assert!(!output.status.success());
+        refuses_arguments("search", arguments);
     }
 }

@@ -1,9 +1,10 @@
 //! What is measured, as one would write it by hand in Rust: the judge twice, a
 //! case at a time, and 63 cases at a time on bit planes; the relevant facts of a
-//! run; the search among short plans; and following a list. All have the same
-//! reading and the library's answers, and share nothing with it.
+//! run; the search among short plans; following a list; and merging two halls. All
+//! have the same reading and the library's answers, and share nothing with it.
 
 pub mod follow;
+pub mod merge;
 pub mod planes;
 pub mod read;
 pub mod relevance;

@@ -192,7 +192,7 @@ fn goal<'a>(task: &Task<'a>) -> &'a [u8] {
 }
 
 /// The formula whose length field comes first, and what follows it.
-fn split(bytes: &[u8]) -> (&[u8], &[u8]) {
+pub(super) fn split(bytes: &[u8]) -> (&[u8], &[u8]) {
     let length = usize::from(u16::from_be_bytes([bytes[0], bytes[1]]));
     bytes[2..].split_at(length)
 }

@@ -26,6 +26,7 @@ pub fn example() -> Example {
             ),
         ],
         search: None,
+        merging: None,
     }
 }
 

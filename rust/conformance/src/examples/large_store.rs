@@ -31,6 +31,7 @@ pub fn example() -> Example {
             ),
         ],
         search: None,
+        merging: None,
     }
 }
 

@@ -2,16 +2,20 @@
 
 mod grid;
 mod large_store;
+mod merging;
 mod small_store;
 mod sorting;
 mod store;
 mod trial;
+mod two_halls;
 
 use std::collections::BTreeMap;
 
 use crate::desk;
 use crate::encode;
 use crate::oracle::{self, Facts, Search, Task};
+
+pub use merging::Merging;
 
 /// One problem or a few, with what they are about.
 pub struct Example {
@@ -20,6 +24,7 @@ pub struct Example {
     about: String,
     pub trials: Vec<Trial>,
     pub search: Option<Searching>,
+    pub merging: Option<Merging>,
 }
 
 /// Searches among the short plans of the file `problem`, up to each of these
@@ -125,6 +130,7 @@ pub fn all() -> Vec<Example> {
         large_store::example(),
         sorting::example(),
         grid::example(),
+        two_halls::example(),
     ]
 }
 
@@ -142,6 +148,9 @@ pub fn files() -> BTreeMap<String, Vec<u8>> {
             put(trial.plan.0, trial.plan.1.clone());
             put(trial.output, trial.printed());
         }
+        if let Some(merging) = &example.merging {
+            put("table", merging.table.clone());
+        }
     }
     files
 }
@@ -158,6 +167,7 @@ Problems and plans for the desk program, `./larkhammock PROBLEM PLAN`:
   of version 2
 - [sorting](sorting/README.md): a sorting network of 8 channels
 - [grid](grid/README.md): a robot that does not know where it is
+- [two-halls](two-halls/README.md): two problems, and one for both
 
 `problem`, `plan` and the like are blocks. `output` and the like are what the
 program prints, byte for byte. All of it, these pages included, is written by
@@ -201,6 +211,13 @@ fn readme(example: &Example) -> String {
             page += &format!("{problem} {longest}\n{}\n", search.printed(*longest));
         }
         page += "```\n";
+    }
+    if let Some(merging) = &example.merging {
+        let folder = format!("../examples/{}", example.folder);
+        page += &format!("\n## By merging\n\n{}\n\n```\n$ cd rust\n", merging.story);
+        page += "$ cargo run --release --example merge -- ";
+        page += &format!("{folder}/first {folder}/second /tmp/problem /tmp/table\n");
+        page += &format!("{}\n```\n", merging.printed());
     }
     page
 }

@@ -36,6 +36,7 @@ pub fn example() -> Example {
             ),
         ],
         search: Some(search),
+        merging: None,
     }
 }
 

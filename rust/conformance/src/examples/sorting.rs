@@ -35,6 +35,7 @@ pub fn example() -> Example {
             ),
         ],
         search: None,
+        merging: None,
     }
 }
 

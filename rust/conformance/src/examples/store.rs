@@ -49,6 +49,7 @@ pub fn example() -> Example {
             },
         ],
         search: None,
+        merging: None,
     }
 }
 

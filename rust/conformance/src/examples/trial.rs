@@ -48,6 +48,7 @@ pub fn example() -> Example {
             },
         ],
         search: None,
+        merging: None,
     }
 }
 

@@ -5,19 +5,22 @@ mod damage;
 mod formulas;
 mod lists;
 mod narrower;
+mod pairs;
 mod problems;
 mod rng;
 
 use crate::encode;
+use crate::families::idle;
 use crate::harness::Case;
 use crate::model::Line;
-use crate::oracle::{search_plans, walk, End, Search, Task};
-use crate::version::{Version, MOST_PLAN_BYTES, MOST_PROBLEM_BYTES, PLAN_VERSION};
+use crate::oracle::{merge, read_problem, search_plans, walk, End, Search, Task};
+use crate::version::{Version, MOST_PLAN_BYTES, MOST_PROBLEM_BYTES, PLAN_VERSION, VERSION_1};
 
 use damage::{arbitrary, damaged, scribbled, unsound};
 pub use formulas::formula_of_size;
 pub use lists::{altered, cover, even_cover, every_cover, in_other_version, refined, Alteration};
 pub use narrower::{every_state, Narrowing};
+pub use pairs::{at_limits, damaged_problem, merge_case, problem_of_size};
 use problems::wide_task;
 pub use problems::{ordered_problem, right_task, task};
 pub use rng::Rng;
@@ -29,7 +32,7 @@ const PATIENCE: u64 = 1_500;
 /// answer.
 const SEARCH_PATIENCE: u64 = 100;
 
-/// Arguments for all nine operations, all of them sound.
+/// Arguments for all ten operations, all of them sound.
 pub fn sound_case(rng: &mut Rng, version: &Version) -> Case {
     let task = if rng.chance(1, 2) {
         right_task(rng, version)
@@ -137,6 +140,7 @@ fn list_beside(rng: &mut Rng, version: &Version, lines: &[Line]) -> Vec<u8> {
 fn settle(rng: &mut Rng, case: &mut Case, patience: u64) {
     settle_search(case);
     settle_sparse(case);
+    settle_merge(case);
     case.grant = rng.word();
     case.room = rng.below(64);
     case.work = rng.below(64);
@@ -165,6 +169,29 @@ fn settle_sparse(case: &mut Case) {
     case.sparse_work = match Task::parse(&case.problem, &case.plan) {
         Ok(task) => near(rng, task.sparse_work_bytes()),
         Err(_) => rng.below(64),
+    };
+}
+
+/// Chooses a second problem for a merge, and buffers: mostly both are long enough.
+fn settle_merge(case: &mut Case) {
+    let rng = &mut rng_of(&case.problem, !case.state);
+    let first = read_problem(&case.problem);
+    let beside = first.clone().unwrap_or_else(|_| idle(VERSION_1, 1));
+    case.second = pairs::second(rng, &beside);
+    (case.block_room, case.places) = (rng.below(64), rng.below(4));
+    let (Ok(first), Ok(second)) = (first, read_problem(&case.second)) else {
+        return;
+    };
+    let count = first.actions.len() + second.actions.len();
+    let order: Vec<usize> = (0..count).collect();
+    let Ok(merged) = merge(&first, &second, &order) else {
+        return;
+    };
+    let block = encode::problem(&merged).len();
+    (case.block_room, case.places) = match rng.below(4) {
+        0 => (near(rng, block), count + rng.below(5)),
+        1 if count > 0 => (block + rng.below(40), near(rng, count)),
+        _ => (block + rng.below(40), count + rng.below(5)),
     };
 }
 

@@ -5,6 +5,7 @@
 
 mod cases;
 mod follow;
+mod merge;
 mod parse;
 mod relevance;
 mod search;
@@ -15,6 +16,7 @@ use crate::model::{Action, Line, Problem};
 use crate::version::STRETCH;
 
 pub use cases::{closes, walk, End, Walk};
+pub use merge::{is_order, merge, merge_blocks, Merged};
 pub use relevance::{conditions, named, Facts};
 pub use search::{plans, Search};
 pub use states::{after, conflicts, holds, lowest_failing, outcome, states};

@@ -19,6 +19,41 @@ static const uint8_t stalling[] = {
 static const uint8_t other_way[] = {1, 0, 0, 0, 2, 1, 0};
 static const uint8_t one[] = {1, 0, 0, 0, 1, 0};
 static const uint8_t strange[] = {1, 0, 0, 0, 2, 0, 2};
+static const uint8_t large[] = {                  /* 62 facts */
+    2, 0, 0, 0, 10, 62, 0, 0, 2, 0x80, 0, 0, 2, 0x80, 0,
+};
+
+static void merge(void)
+{
+    uint8_t out[MERGED_LEN + 7], table[6], kept[MERGED_LEN + 7];
+    memset(kept, 0xee, sizeof kept);
+    memset(out, 0xee, sizeof out);
+    memset(table, 0xee, sizeof table);
+    is("merge, cut", larkhammock_merge(problem, 3, problem, 4,
+                                       SLICE(out), SLICE(table)),
+       0, 11, 3, 0);
+    is("merge, second cut", larkhammock_merge(SLICE(problem), problem, 4,
+                                              SLICE(out), SLICE(table)),
+       0, 11, 4, 0);
+    is("merge, too many facts", larkhammock_merge(SLICE(problem), SLICE(large),
+                                                  SLICE(out), SLICE(table)),
+       0, 82, 0, 0);
+    is("merge, short", larkhammock_merge(SLICE(problem), SLICE(problem),
+                                         out, MERGED_LEN - 1, SLICE(table)),
+       0, 86, 0, 0);
+    is("merge, short table", larkhammock_merge(SLICE(problem), SLICE(problem),
+                                               SLICE(out), table, 3),
+       0, 86, 0, 0);
+    holds("merge, refused", SLICE(out), kept);
+    holds("merge, refused", SLICE(table), kept);
+    is("merge", larkhammock_merge(SLICE(problem), SLICE(problem),
+                                  SLICE(out), SLICE(table)),
+       1, MERGED_LEN, 4, 0);
+    merges("merge", out, table);
+    holds("merge", out + MERGED_LEN, 7, kept);
+    holds("merge", table + 4, 2, kept);
+    is("merge, read", larkhammock_read_problem(out, MERGED_LEN), 1, 6, 4, 0);
+}
 
 int main(void)
 {
@@ -146,6 +181,8 @@ int main(void)
        larkhammock_search_plans(SLICE(problem), 5, plenty), 0, 43, 0, 0);
     is("search_plans, cut",
        larkhammock_search_plans(problem, 4, 5, plenty), 0, 11, 4, 0);
+
+    merge();
 
     if (faults == 0)
         printf("%d answers as they should be\n", checked);

@@ -116,6 +116,8 @@ static void no_problem(const uint8_t *p, size_t len, const uint8_t *plan,
        0, 11, len, 0);
     is("search_plans", larkhammock_search_plans(p, len, 4, plenty),
        0, 11, len, 0);
+    is("merge", larkhammock_merge(p, len, p, len, out.at, out_len, NULL, 0),
+       0, 11, len, 0);
     starts("no problem", out, out_len, NULL, 0);
 }
 
@@ -170,6 +172,30 @@ static void no_room(struct room p, struct room plan, const uint8_t *lines,
     starts("no room", out, out_len, NULL, 0);
 }
 
+/* The same of a second problem, and of a buffer and a table that are too
+   short. */
+static void no_second(struct room p, const uint8_t *second, size_t len,
+                      struct room few, size_t few_len)
+{
+    struct room out = unwritten(MERGED_LEN), table = unwritten(4);
+    const size_t p_len = sizeof problem;
+    is("merge", larkhammock_merge(p.at, p_len, second, len,
+                                  out.at, MERGED_LEN, table.at, 4),
+       0, 11, len, 0);
+    is("merge, short", larkhammock_merge(p.at, p_len, p.at, p_len,
+                                         few.at, few_len, table.at, 4),
+       0, 86, 0, 0);
+    is("merge, short table",
+       larkhammock_merge(p.at, p_len, p.at, p_len,
+                         out.at, MERGED_LEN, few.at, few_len),
+       0, 86, 0, 0);
+    starts("merge, refused", out, MERGED_LEN, NULL, 0);
+    starts("merge, refused", table, 4, NULL, 0);
+    starts("merge, refused", few, few_len, NULL, 0);
+    leave(out);
+    leave(table);
+}
+
 /* No byte with a null pointer and with a live one, and one byte: in the place
    of each slice, the others being whole. */
 static void few_bytes(struct room p, struct room plan)
@@ -187,6 +213,9 @@ static void few_bytes(struct room p, struct room plan)
     no_room(p, plan, NULL, 0, null, 0);
     no_room(p, plan, none.at, 0, none, 0);
     no_room(p, plan, one.at, 1, out, 1);
+    no_second(p, NULL, 0, null, 0);
+    no_second(p, none.at, 0, none, 0);
+    no_second(p, one.at, 1, out, 1);
 
     leave(none);
     leave(one);
@@ -252,6 +281,37 @@ static void writes(struct room p, struct room plan)
     }
 }
 
+/* Bytes from there on are as they were. */
+static void ends(const char *call, struct room room, size_t from, size_t len)
+{
+    const struct room rest = {room.at + from, NULL, 0};
+    starts(call, rest, len - from, NULL, 0);
+}
+
+/* A merge into buffers of so many bytes. */
+static void merges_into(struct room p, size_t out_len, size_t table_len)
+{
+    struct room out = unwritten(out_len), table = unwritten(table_len);
+    const int fits = out_len >= MERGED_LEN && table_len >= 4;
+    is("merge", larkhammock_merge(p.at, sizeof problem, p.at, sizeof problem,
+                                  out.at, out_len, table.at, table_len),
+       fits, fits ? MERGED_LEN : 86, fits ? 4 : 0, 0);
+    if (fits)
+        merges("merge", out.at, table.at);
+    ends("merge", out, fits ? MERGED_LEN : 0, out_len);
+    ends("merge, table", table, fits ? 4 : 0, table_len);
+    leave(out);
+    leave(table);
+}
+
+/* The same of both buffers of a merge, where both problems are one slice. */
+static void merges_at_edges(struct room p)
+{
+    for (size_t len = MERGED_LEN - 1; len <= MERGED_LEN + 8; len++)
+        for (size_t table_len = 3; table_len <= 6; table_len++)
+            merges_into(p, len, table_len);
+}
+
 /* The first bytes of a block, whose header says that these are all. */
 static struct room cut(const uint8_t *block, size_t len)
 {
@@ -273,12 +333,21 @@ static void is_refused(const char *call, larkhammock_answer got, size_t len)
 /* A problem and a list that end inside, at each place where they can. */
 static void cut_short(struct room p, struct room plan)
 {
+    uint8_t out[MERGED_LEN], table[4];
     for (size_t len = 0; len < sizeof problem; len++) {
         struct room less = cut(problem, len);
         is_refused("read_problem", larkhammock_read_problem(less.at, len), len);
         is_refused("judge",
                    larkhammock_judge(less.at, len, plan.at, sizeof both,
                                      plenty),
+                   len);
+        is_refused("merge",
+                   larkhammock_merge(less.at, len, p.at, sizeof problem,
+                                     SLICE(out), SLICE(table)),
+                   len);
+        is_refused("merge, second",
+                   larkhammock_merge(p.at, sizeof problem, less.at, len,
+                                     SLICE(out), SLICE(table)),
                    len);
         leave(less);
     }
@@ -300,6 +369,7 @@ static void all_edges(void)
     few_bytes(p, plan);
     reads(p, plan, lines);
     writes(p, plan);
+    merges_at_edges(p);
     cut_short(p, plan);
     holds("the problem", p.at, sizeof problem, problem);
     holds("the plan", plan.at, sizeof both, both);

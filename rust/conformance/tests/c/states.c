@@ -87,6 +87,8 @@ int main(void)
        LARKHAMMOCK_V1_LONGEST_SPARSE_WORK);
     is("sparse work", 2, 0, (256 / 16 + 17) * LARKHAMMOCK_V2_MOST_FACTS,
        LARKHAMMOCK_V2_LONGEST_SPARSE_WORK);
+    is("problem", 1, 0, 32768, LARKHAMMOCK_LONGEST_PROBLEM);
+    is("actions", 1, 0, 64, LARKHAMMOCK_MOST_ACTIONS);
     is("effects", 1, 0, 2 * LARKHAMMOCK_V1_STATE_BITS,
        LARKHAMMOCK_V1_MOST_EFFECTS);
     is("effects", 2, 0, 2 * LARKHAMMOCK_V2_STATE_BITS,

@@ -143,6 +143,7 @@ fn the_problem_is_refused_before_the_plan_and_the_list(version: &Version) {
     ] {
         expect(operation, &case, &[0, 31, 1]);
     }
-    // A search takes no plan.
+    // A search takes no plan, and a merge a second problem instead.
     expect(SearchPlans, &case, &[0, 43, 0]);
+    expect(Merge, &case, &[0, 11, 0]);
 }

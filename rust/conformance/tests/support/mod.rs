@@ -49,4 +49,8 @@ impl Subject for Library {
     fn search_plans(&self, problem: &[u8], longest: u64, grant: u64) -> Answer {
         raw::search_plans(problem, longest, grant).word
     }
+
+    fn merge(&self, first: &[u8], second: &[u8], out: &mut Arena, table: &mut Arena) -> Answer {
+        raw::merge(first, second, out.out(), table.out()).word
+    }
 }

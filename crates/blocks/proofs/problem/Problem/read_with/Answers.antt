@@ -1,8 +1,9 @@
 use Rattle.std.proofs.Common.{add_assoc, ◌≡◌, refl}
 use Rattle.model.specs.{FormulaBytes.formula, Read.count, Read.◌>>=◌, Read.◌>>◌, Read.and_then, Read.answer_of}
 use Rattle.model.specs.ProblemBytes.{problem, problem_of, body, parts}
-use Rattle.blocks.specs.Actions.{last_actions}
-use Rattle.blocks.proofs.Problems.{ending-by}
+use Rattle.model.specs.Answer.{answered}
+use Rattle.blocks.specs.Actions.{last_actions, problem_in}
+use Rattle.blocks.proofs.{Problems.ending-by, Promise.of-slice, Sizes.read-sized}
 use Rattle.formula.proofs.Readers.{returned}
 use Rattle.blocks.proofs.problem.Problem.read_with.Goals as goal
 
@@ -44,3 +45,20 @@ pub returns-clause-read : goal.returns-clause-read
 unfolding problem_of problem body parts answer_of ◌>>◌ ◌>>=◌ and_then
 returns-clause-read c =
     rw (← c.in_ok-body.ensures, ← c.in_ok-facts.ensures.is, ← c.in_ok-actions.ensures.is, add_assoc c.in_ok-body.body 1 1, ← c.in_ok-initial.ensures, ← c.in_ok-goal.ensures, ending-by, ← c.in_ok-at.ensures.read) refl
+
+-- the sizes are those of the problem that was read
+pub invariant_of-result : goal.invariant_of-result
+unfolding problem_of problem body parts answer_of ◌>>◌ ◌>>=◌ and_then
+invariant_of-result c =
+    let p = problem_in c.in_ok-facts.facts c.in_ok-initial.initial.formula c.in_ok-goal.goal.formula c.args.block.now c.in_ok-actions.actions c.in_ok-at.at in
+    let e : problem_of c.args.limits c.args.block.now ≡ answered p =
+    rw (← c.in_ok-body.ensures, ← c.in_ok-facts.ensures.is, ← c.in_ok-actions.ensures.is, add_assoc c.in_ok-body.body 1 1, ← c.in_ok-initial.ensures, ← c.in_ok-goal.ensures, ending-by, ← c.in_ok-at.ensures.read) refl in
+    let (some, few) = c.in_ok-facts.ensures.bounded in
+    record {
+      sensible = c.requires;
+      some_facts = some;
+      few_facts = few;
+      few_actions = c.in_ok-actions.ensures.bounded.1;
+      stand = c.in_ok-at.ensures.begin;
+      sized = read-sized c.args.limits c.requires c.args.block.now (of-slice c.args.block.now c.type_inv.block) p e;
+    }

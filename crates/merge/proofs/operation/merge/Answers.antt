@@ -1,0 +1,62 @@
+use Rattle.std.proofs.Common.{◌≡◌, refl, sym, ◌∙◌, arith, length}
+use Rattle.std.proofs.lemmas.Result.{err_from_is_err_and}
+use Rattle.model.specs.Answer.{refused}
+use Rattle.model.specs.Merging.{halls, roomy}
+use Rattle.blocks.specs.Values.{problem}
+use Rattle.blocks.proofs.Promise.{of-slice}
+use Rattle.merge.proofs.Sound.{sized-fits, halls-count}
+use Rattle.merge.proofs.Answers.{first-refused, second-refused, over-limit, no-room, wrote}
+use Rattle.merge.proofs.Checking.{short-out, short-table, has-room}
+use Rattle.merge.proofs.operation.merge.Goals as goal
+use Rattle.merge.proofs.operation.merge.Goals.{then-out-lengths-via-then-out-lengths, then-out-lengths-via-else-out-lengths+then-table-lengths}
+
+pub returns-in_err-first : goal.returns-in_err-first
+returns-in_err-first c =
+    let p = err_from_is_err_and c.from_residual.result c.from_residual.ensures.1 in
+    let a = first-refused c.args.first.now c.args.second.now c.args.out.now c.args.table.now (of-slice _ c.type_inv.first) (of-slice _ c.type_inv.second) _ c.in_err-first.ensures.read in
+    rw (p.1, p.2) (record { merged = a.call; promised = a.promised })
+
+pub returns-in_err-second : goal.returns-in_err-second
+returns-in_err-second c =
+    let p = err_from_is_err_and c.from_residual-in_err-second.result c.from_residual-in_err-second.ensures.1 in
+    let a =
+    second-refused c.args.first.now c.args.second.now c.args.out.now c.args.table.now (of-slice _ c.type_inv.first) (of-slice _ c.type_inv.second) _ c.in_ok-first.ensures.read _ c.in_err-second.ensures.read in
+    rw (p.1, p.2) (record { merged = a.call; promised = a.promised })
+
+pub returns-in_err-check : goal.returns-in_err-check
+returns-in_err-check c =
+    let p = err_from_is_err_and c.from_residual-in_err-check.result c.from_residual-in_err-check.ensures.1 in
+    let a =
+    over-limit c.args.first.now c.args.second.now c.args.out.now c.args.table.now (of-slice _ c.type_inv.first) (of-slice _ c.type_inv.second) _ _ c.in_ok-first.ensures.read c.in_ok-second.ensures.read _
+    c.in_err-check.ensures in
+    rw (p.1, p.2) (record { merged = a.call; promised = a.promised })
+
+pub returns-then-out-lengths : goal.returns-then-out-lengths
+returns-then-out-lengths c =
+    let r = halls (problem c.in_ok-first.first) (problem c.in_ok-second.second) in
+    let short : refused 86 0 ≡ roomy (length c.args.out.now) (length c.args.table.now) r =
+    elim c.then-out-lengths.branch [
+      | then-out-lengths-via-then-out-lengths w ↦ short-out r (length c.args.out.now) (length c.args.table.now) (omega (arith, c.len.ensures, w.if-out-lengths.true))
+      | then-out-lengths-via-else-out-lengths+then-table-lengths w ↦
+          short-table r (length c.args.out.now) (length c.args.table.now) (omega (arith, c.actions.ensures, w.if-table-lengths.true))
+    ] in
+    let a =
+    no-room c.args.first.now c.args.second.now c.args.out.now c.args.table.now (of-slice _ c.type_inv.first) (of-slice _ c.type_inv.second) _ _ c.in_ok-first.ensures.read c.in_ok-second.ensures.read
+    c.in_ok-check.ensures _ short in
+    rw c.at.ensures (record { merged = a.call; promised = a.promised })
+
+pub put_table-requires-clause-few : goal.put_table-requires-clause-few
+put_table-requires-clause-few c =
+    let k = sized-fits _ (sym c.in_ok-check.ensures) in
+    omega (arith, k.count, c.actions.ensures)
+
+pub returns : goal.returns
+returns c =
+    let r = halls (problem c.in_ok-first.first) (problem c.in_ok-second.second) in
+    let room = has-room r (length c.args.out.now) (length c.args.table.now) (omega (arith, c.len.ensures, c.if-out-lengths.false)) (omega (arith, c.actions.ensures, c.if-table-lengths.false)) in
+    let a =
+    wrote c.args.first.now c.args.second.now c.args.out.now c.args.table.now (of-slice _ c.type_inv.first) (of-slice _ c.type_inv.second) _ _ c.in_ok-first.ensures.read c.in_ok-second.ensures.read
+    c.in_ok-check.ensures _ _ c.put.ensures c.actions.result
+    (c.actions.ensures ∙ halls-count (problem c.in_ok-first.first) (problem c.in_ok-second.second)) _ c.put_table.ensures room (record { block = c.len.result; table = c.actions.result })
+    c.len.ensures refl in
+    record { merged = a.call; promised = a.promised }

@@ -1,0 +1,52 @@
+// Merging two halls.
+ghost use Rattle.std.specs.Prelude.{◌≤◌, length};
+ghost use Rattle.model.specs.Calls.{MergeCall};
+ghost use Rattle.model.specs.Answers.{plain_answer};
+ghost use Rattle.merge.specs.Promise.{MergePromised};
+ghost use Rattle.merge.specs.Writing.{Puts, in_order};
+
+use crate::halls::Halls;
+use blocks::Problem;
+use model::{Fault, Lengths, Refusal};
+
+// Each of so many actions keeps its number.
+fn put_table(table: &mut [u8], count: usize)
+    requires few { count ≤ 64 }
+    requires room { count ≤ length table.old }
+    ensures { Puts (in_order count) table.old count table.new }
+{
+    for number in 0..count {
+        table[number] = number as u8;
+    }
+}
+
+// Merge two halls into one problem of version 2: the refusals of the first problem and of the second; 82 to 84 for more facts, actions or formula
+// bytes, members or groups in one another than a problem may have, 85 for a longer block, and 86 for a short buffer, at 0; or the lengths of the
+// block in `out`, and of the table of the actions' new numbers.
+pub fn merge(
+    first: &[u8],
+    second: &[u8],
+    out: &mut [u8],
+    table: &mut [u8],
+) -> Result<Lengths, Refusal>
+    ensures merged { MergeCall first.now second.now out.old table.old result out.new table.new }
+    ensures promised { MergePromised first.now second.now out.old table.old (plain_answer result) out.new table.new }
+{
+    let first = Problem::read(first)?;
+    let second = Problem::read(second)?;
+    let halls = Halls {
+        first: &first,
+        second: &second,
+    };
+    halls.check()?;
+    let lengths = Lengths {
+        block: halls.len(),
+        table: halls.actions() as usize,
+    };
+    if out.len() < lengths.block || table.len() < lengths.table {
+        return Err(Fault::MergeRoom.at(0));
+    }
+    halls.put(out);
+    put_table(table, lengths.table);
+    Ok(lengths)
+}
