@@ -4,12 +4,7 @@ use Rattle.model.specs.Limits.{version2, max_facts, max_actions, max_problem_byt
 use Rattle.model.specs.Answer.{refused, answered}
 use Rattle.model.specs.ProblemBytes.{Problem, encode_problem}
 use Rattle.model.specs.Merging.{is_over, sized, roomy}
-
-pub or-first : (a b : Bool) → a ≡ true → (a || b) ≡ true
-or-first a b e = rw e refl
-
-pub or-second : (a b : Bool) → b ≡ true → (a || b) ≡ true
-or-second a b e = grind arith
+use Rattle.model.proofs.Laws.Truth.{or-second}
 
 module _ (r : Problem) where
   pub over-facts : max_facts < r.facts → refused 82 0 ≡ sized r

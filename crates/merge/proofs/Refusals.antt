@@ -8,6 +8,7 @@ use Rattle.model.specs.WellFormed.{Bytes, ProblemOk}
 use Rattle.model.specs.Merging.{is_over, halls, sized, roomy, merged_for}
 use Rattle.model.proofs.Guarantees.{limits-sensible}
 use Rattle.model.proofs.Laws.Tasks.{refusal-of}
+use Rattle.model.proofs.Laws.Truth.{or_cases, or-false}
 use Rattle.merge.specs.Promise.{Reads, RefusedFor, by_first, by_second, by_facts, by_actions, by_formula, by_bytes, by_room}
 use Rattle.merge.proofs.AnyOrder.{first-sound, second-sound}
 use Rattle.merge.proofs.Sound as Sound
@@ -18,9 +19,6 @@ tested :
     {A : Type 0} {n place k at : ℕ} (b : Bool) (x : Answer A) → cond b (refused k at) x ≡ refused n place →
     ((b ≡ true) × (k ≡ n) × (at ≡ place)) ⊎ ((b ≡ false) × (x ≡ refused n place))
 tested b x e = grind arith
-
-or-parts : (a b : Bool) → (a || b) ≡ true → (a ≡ true) ⊎ (b ≡ true)
-or-parts a b e = grind arith
 
 no-refusal : {A : Type 0} {n place : ℕ} (x : A) → answered x ≡ refused n place → ⊥
 no-refusal x e = grind arith
@@ -48,10 +46,11 @@ module _ (first second : List ℕ) (b : Bytes first) (b' : Bytes second) (room p
         | inr (g, e₂) ↦ elim (tested (is_over (halls p q).initial || is_over (halls p q).goal) _ e₂) [
           | inl (t, k, l) ↦
               numbered k l
-              (by_formula p q reads (ltb-false _ _ f) (omega (arith, ltb-false _ _ g, halls-count p q)) (or-parts _ _ t))
-          | inr (_, e₃) ↦ elim (tested (ltb max_problem_bytes (length (encode_problem version2 (halls p q)))) _ e₃) [
+              (by_formula p q reads (ltb-false _ _ f) (omega (arith, ltb-false _ _ g, halls-count p q)) (or_cases _ _ t))
+          | inr (o, e₃) ↦ elim (tested (ltb max_problem_bytes (length (encode_problem version2 (halls p q)))) _ e₃) [
             | inl (t, k, l) ↦
-                numbered k l (by_bytes p q reads (ltb-false _ _ f) (omega (arith, ltb-false _ _ g, halls-count p q)) (ltb-true _ _ t))
+                let (i, j) = or-false _ _ o in
+                numbered k l (by_bytes p q reads (ltb-false _ _ f) (omega (arith, ltb-false _ _ g, halls-count p q)) i j (ltb-true _ _ t))
             | inr (_, e₄) ↦ absurd (no-refusal (halls p q) e₄)
           ]
         ]
@@ -74,7 +73,7 @@ module _ (first second : List ℕ) (b : Bytes first) (b' : Bytes second) (room p
         short :
             (ltb room (length (encode_problem version2 (halls p q))) || ltb places (length (halls p q).actions)) ≡ true →
             (room < length (encode_problem version2 (halls p q))) ⊎ (places < length p.actions + length q.actions)
-        short t = elim (or-parts _ _ t) [
+        short t = elim (or_cases _ _ t) [
           | inl x ↦ inl (ltb-true _ _ x)
           | inr y ↦ inr (omega (arith, ltb-true _ _ y, halls-count p q))
         ]

@@ -338,17 +338,6 @@ module _ (F G : Limits) (S : Sensible F) (S' : Sensible G) (p q : Problem) (ok :
         short = k.short;
       }
 
-  pub halls-sized : ProblemOk version2 (halls p q) → sized (halls p q) ≡ answered (halls p q)
-  halls-sized k =
-      fits-sized (halls p q)
-      (record {
-        facts = k.facts;
-        count = k.count;
-        initial = ok-not-over (p.facts + q.facts) (halls p q).initial k.initial;
-        goal = ok-not-over (p.facts + q.facts) (halls p q).goal k.goal;
-        short = k.short;
-      })
-
   -- in any order
   module _ (order : List ℕ) (O : IsOrder (length p.actions + length q.actions) order)
       (A : (b : ℕ) → b < length p.actions + length q.actions → old_of order b < length p.actions + length q.actions)

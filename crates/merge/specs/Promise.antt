@@ -1,5 +1,5 @@
 -- What an answer of `merge` promises, and every byte of both buffers with it.
-use Rattle.std.specs.Prelude.{◌≡◌, ◌⊎◌, true, List, ℕ, ◌+◌, ◌≤◌, ◌<◌, length, take, drop}
+use Rattle.std.specs.Prelude.{◌≡◌, ◌⊎◌, true, false, List, ℕ, ◌+◌, ◌≤◌, ◌<◌, length, take, drop}
 use Rattle.model.specs.declared.Lengths.{Lengths}
 use Rattle.model.specs.Limits.{version2, limits_of, max_facts, max_actions, max_problem_bytes}
 use Rattle.model.specs.Answer.{Answer, refused, answered}
@@ -29,7 +29,7 @@ module _ (first second : List ℕ) where
         (is_over (halls p q).initial ≡ true) ⊎ (is_over (halls p q).goal ≡ true) → RefusedFor room places 84 0
     by_bytes :
         (p q : Problem) → Reads p q → p.facts + q.facts ≤ max_facts → length p.actions + length q.actions ≤ max_actions →
-        max_problem_bytes < length (encode_problem version2 (halls p q)) → RefusedFor room places 85 0
+        is_over (halls p q).initial ≡ false → is_over (halls p q).goal ≡ false → max_problem_bytes < length (encode_problem version2 (halls p q)) → RefusedFor room places 85 0
     by_room :
         (p q : Problem) → Reads p q → ProblemOk version2 (halls p q) →
         (room < length (encode_problem version2 (halls p q))) ⊎ (places < length p.actions + length q.actions) → RefusedFor room places 86 0

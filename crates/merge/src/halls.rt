@@ -5,6 +5,7 @@ use blocks::Problem;
 use model::{Fault, Limits, Problem as Bounds, Refusal};
 use numbers::put_number;
 
+// Both are sound; what they are together may be over a limit, which `check` tells.
 #[derive(Clone, Copy)]
 pub struct Halls<'a> {
     pub first: &'a Problem<'a>,

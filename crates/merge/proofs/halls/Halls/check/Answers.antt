@@ -2,7 +2,8 @@ use Rattle.std.proofs.Common.{◌≡◌, refl, sym, ap, ◌∙◌, true, false, 
 use Rattle.model.specs.Limits.{max_facts, max_actions}
 use Rattle.model.specs.Merging.{is_over}
 use Rattle.merge.specs.Views.{halls_of}
-use Rattle.merge.proofs.Checking.{over-facts, over-actions, over-formula, over-bytes, within, or-first, or-second}
+use Rattle.merge.proofs.Checking.{over-facts, over-actions, over-formula, over-bytes, within}
+use Rattle.model.proofs.Laws.Truth.{or-first, or-second}
 use Rattle.merge.proofs.halls.Halls.check.Goals as goal
 use Rattle.merge.proofs.halls.Halls.check.Goals.{then-is_over-via-then-is_over, then-is_over-via-else-is_over+then-is_over-2}
 
