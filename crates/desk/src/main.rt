@@ -1,15 +1,20 @@
-// The desk program: judges the plan in one file for the problem in another, and prints the verdict and its list.
+// The desk program: judges the plan in one file for the problem in another, and prints the verdict and its list. What is wrong it says in
+// words on standard error, and by its exit status.
 
 #![tactic(auto)]
 
-ghost use Rattle.std.specs.Prelude.{◌≡◌, ◌≤◌, ◌<◌, [], length, take, IfSome, IfNone, IfOk};
-ghost use Rattle.std.specs.Io.KnownBytes.{Consumes, IsAtEnd};
+ghost use Rattle.std.specs.Prelude.{◌≡◌, ◌≤◌, [], length, take, IfOk, IfErr};
 
-use model::{Plan, Problem};
+mod lacks;
+
+use answers::{Answer, RefusalWords, Status};
+use files::{ErrorWords, read_path};
+use lacks::{Lack, Lacks};
+use model::{Plan, Problem, Refusal, Verdict};
 use page::write_page;
-use std::env::Env;
-use std::fs::File;
-use std::io::{BufWriter, Read, Write};
+use std::env::{Env, FillError};
+use std::io::{BufWriter, ErrorKind, Write};
+use std::process::ExitCode;
 use std::rt::Files;
 use std::{io, str};
 
@@ -21,56 +26,103 @@ const PLAN_ROOM: usize = Plan::MAX_BYTES + 1;
 // The bytes of a path, and one after them.
 const PATH_ROOM: usize = 4096;
 
-// Reads until the file ends or buf is full: how many bytes came, which begin buf.
-fn read_file<R: Read>(file: &mut R, buf: &mut [u8]) -> io::Result<usize>
-    ensures within { IfOk result (λ n. n ≤ length buf.new) }
-    ensures bytes { IfOk result (λ n. Consumes (R.remaining file.old) (R.remaining file.new) (take n buf.new)) }
-    ensures end { IfOk result (λ n. n < length buf.new → IsAtEnd (R.remaining file.new)) }
-{
-    let mut done: usize = 0;
-    while done < buf.len() {
-        let got = file.read(&mut buf[done..])?;
-        if got == 0 {
-            return Ok(done);
-        }
-        done = done + got;
-    }
-    Ok(done)
-}
-
-// Reads the file that an argument names: how many bytes came, or nothing where there is no name, no such file, or a read that fails.
-fn load<R: Env + Files>(rt: &R, argument: usize, buf: &mut [u8]) -> Option<usize>
-    ensures { IfSome result (λ n. n ≤ length buf.new) }
+// Reads the file that an argument names: how many bytes came, which begin buf.
+fn load<R: Env + Files>(rt: &R, argument: usize, buf: &mut [u8]) -> Result<usize, Lack>
+    ensures { IfOk result (λ n. n ≤ length buf.new) }
 {
     let mut name = [0u8; PATH_ROOM];
-    let length = rt.arg(argument, &mut name).ok()?;
-    let path = str::from_utf8(&name[..length]).ok()?;
-    let mut file = File::open(rt, path).ok()?;
-    read_file(&mut file, buf).ok()
+    let length = match rt.arg(argument, &mut name) {
+        Ok(length) => length,
+        Err(FillError::NotPresent) => return Err(Lack::NoName),
+        Err(FillError::TooLong) => return Err(Lack::Unread(ErrorKind::InvalidFilename)),
+    };
+    let Ok(path) = str::from_utf8(&name[..length]) else {
+        return Err(Lack::NoText);
+    };
+    match read_path(rt, path, buf) {
+        Ok(n) => Ok(n),
+        Err(error) => Err(Lack::Unread(error.kind())),
+    }
 }
 
 // What was read, which begins buf: nothing where no file was.
-fn begun(buf: &[u8], read: Option<usize>) -> &[u8]
-    requires { IfSome read (λ n. n ≤ length buf.now) }
-    ensures some { IfSome read (λ n. result.now ≡ take n buf.now) }
-    ensures none { IfNone read (result.now ≡ []) }
+fn begun(buf: &[u8], read: Result<usize, Lack>) -> &[u8]
+    requires { IfOk read (λ n. n ≤ length buf.now) }
+    ensures read { IfOk read (λ n. result.now ≡ take n buf.now) }
+    ensures unread { IfErr read (λ _. result.now ≡ []) }
 {
     match read {
-        Some(n) => &buf[..n],
-        None => &[],
+        Ok(n) => &buf[..n],
+        Err(_) => &[],
     }
 }
 
-fn main(rt: HostRuntime) -> io::Result<()> {
+// Whether the command line has more words than the names of a problem and of a plan.
+fn has_more<R: Env>(rt: &R) -> bool {
+    match rt.arg(3, &mut []) {
+        Err(FillError::NotPresent) => false,
+        _ => true,
+    }
+}
+
+// Prints the page, and gives the judge's answer.
+fn print_page<R: Print + AllocGlobal>(
+    rt: &R,
+    problem: &[u8],
+    plan: &[u8],
+) -> io::Result<Result<Verdict, Refusal>> {
+    let mut output = BufWriter::new(rt.alloc(), io::writer(rt))?;
+    let answer = write_page(&mut output, problem, plan)?;
+    output.flush()?;
+    Ok(answer)
+}
+
+// Says on standard error what is wrong. A block that could not be read is not told of as malformed too.
+fn complain<R: Eprint>(
+    rt: &R,
+    lacks: Lacks,
+    printed: io::Result<Result<Verdict, Refusal>>,
+) -> io::Result<()> {
+    if let Some(lack) = lacks.problem {
+        eprintln!(rt; "larkhammock: problem: {lack}")?;
+    }
+    if let Some(lack) = lacks.plan {
+        eprintln!(rt; "larkhammock: plan: {lack}")?;
+    }
+    if lacks.more {
+        eprintln!(rt;
+            "larkhammock: one problem and one plan are judged, and there are more words"
+        )?;
+    }
+    match printed {
+        Err(error) => {
+            let words = ErrorWords(error.kind());
+            eprintln!(rt; "larkhammock: standard output: {words}")
+        }
+        Ok(Err(refusal)) if lacks.has_files() => {
+            let words = RefusalWords(refusal);
+            eprintln!(rt; "larkhammock: {words}")
+        }
+        Ok(_) => Ok(()),
+    }
+}
+
+fn main(rt: HostRuntime) -> ExitCode {
     let mut problem = [0u8; PROBLEM_ROOM];
     let mut plan = [0u8; PLAN_ROOM];
     let problem_read = load(&rt, 1, &mut problem);
     let plan_read = load(&rt, 2, &mut plan);
-    let mut output = BufWriter::new(rt.alloc(), io::writer(&rt))?;
-    write_page(
-        &mut output,
-        begun(&problem, problem_read),
-        begun(&plan, plan_read),
-    )?;
-    output.flush()
+    let printed = print_page(&rt, begun(&problem, problem_read), begun(&plan, plan_read));
+    let lacks = Lacks {
+        problem: problem_read.err(),
+        plan: plan_read.err(),
+        more: has_more(&rt),
+    };
+    // What standard error cannot say, the status does.
+    let _ = complain(&rt, lacks, printed);
+    let status = match printed {
+        Ok(answer) => lacks.status(Status::of(answer.map(Answer::Judged))),
+        Err(_) => Status::Unwritten,
+    };
+    ExitCode::from(status)
 }

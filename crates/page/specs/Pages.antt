@@ -7,7 +7,8 @@ use Rattle.model.specs.Answer.{Answer, refused, answered}
 use Rattle.model.specs.Walk.{Verdict, right, wrong, undecided}
 use Rattle.model.specs.Answers.{judge_answer}
 use Rattle.model.specs.ListBytes.{lines_from}
-use Rattle.model.specs.DeskText.{lines_text, too_long, judged_line, desk_text}
+use Rattle.model.specs.Operations.{judge}
+use Rattle.model.specs.DeskText.{lines_text, too_long, judged_line, desk_grant, desk_text}
 use Rattle.page.specs.declared.answers.FirstLine.{FirstLine}
 
 -- what follows the first line, over n facts: only a right plan has lines, and not too many
@@ -25,7 +26,8 @@ page_of F n list answer = judged_line F n answer ++ following F n list answer
 abbrev pub text_of : FirstLine → List ℕ → List ℕ
 text_of l list = page_of l.facts.limits l.facts.count list (judge_answer l.answer)
 
--- the page of the problem s and the plan t has this first line, and `list` has room for any list that is not too long
+-- the page of the problem s and the plan t has this first line, whose answer is the judge's, and `list` has room for any list that is not too long
 pub record PageOf (s t list : List ℕ) (l : FirstLine) : Type 0 where
   pub room : head_bytes + l.facts.limits.line * l.facts.limits.lines ≤ length list
   pub text : text_of l list ≡ desk_text (limits_of s) s t
+  pub answer : judge_answer l.answer ≡ judge (limits_of s) s t desk_grant

@@ -1,11 +1,12 @@
 // The whole page, which is decided once and goes to one writer.
-ghost use Rattle.std.specs.Prelude.{◌≡◌, ◌≤◌, ◌+◌, ◌*◌, length, Some, OnOk};
+ghost use Rattle.std.specs.Prelude.{◌≡◌, ◌≤◌, ◌+◌, ◌*◌, length, Some, OnOk, IfOk};
 ghost use Rattle.std.specs.Io.KnownBytes.{Appends};
 ghost use Rattle.model.specs.Read.{head_bytes};
 ghost use Rattle.model.specs.Limits.{limits_of};
 ghost use Rattle.model.specs.WellFormed.{Sensible};
 ghost use Rattle.model.specs.Answers.{judge_answer};
-ghost use Rattle.model.specs.DeskText.{judged_line, desk_text};
+ghost use Rattle.model.specs.Operations.{judge};
+ghost use Rattle.model.specs.DeskText.{judged_line, desk_grant, desk_text};
 ghost use Rattle.page.specs.Pages.{following, PageOf};
 
 use crate::answers::FirstLine;
@@ -124,12 +125,18 @@ fn judge_blocks(problem: &[u8], plan: &[u8], list: &mut [u8]) -> FirstLine
     }
 }
 
-// Writes the page for the bytes of a problem and of a plan.
-pub fn write_page<W: Write>(writer: &mut W, problem: &[u8], plan: &[u8]) -> io::Result<()>
-    ensures { OnOk result (Appends (W.contents writer.old) (W.contents writer.new) (desk_text (limits_of problem.now) problem.now plan.now)) }
+// Writes the page for the bytes of a problem and of a plan: the judge's answer, which it shows.
+pub fn write_page<W: Write>(
+    writer: &mut W,
+    problem: &[u8],
+    plan: &[u8],
+) -> io::Result<Result<Verdict, Refusal>>
+    ensures page { OnOk result (Appends (W.contents writer.old) (W.contents writer.new) (desk_text (limits_of problem.now) problem.now plan.now)) }
+    ensures answer { IfOk result (λ a. judge_answer a ≡ judge (limits_of problem.now) problem.now plan.now desk_grant) }
 {
     let mut list = [0u8; CaseList::MAX_BYTES];
     let first = judge_blocks(problem, plan, &mut list);
     let page = Page { first, list: &list };
-    write!(writer, "{page}")
+    write!(writer, "{page}")?;
+    Ok(first.answer)
 }

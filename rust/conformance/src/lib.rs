@@ -4,7 +4,7 @@
 //! specification allows: it parses into a tree, enumerates states and keeps every case.
 //! [`gen`] makes problems, plans and lists from fixed seeds, and [`harness`]
 //! compares a library's whole answers and buffers with the oracle's. [`desk`] is
-//! what the desk program prints. [`families`] are problems of any size with right
+//! what the desk program prints, and [`shell`] what the shell's program says. [`families`] are problems of any size with right
 //! plans, and [`examples`] the files of the folder of that name, made of them.
 //! [`version`] has the numbers that all of them go by.
 
@@ -17,5 +17,6 @@ pub mod gen;
 pub mod harness;
 pub mod model;
 pub mod oracle;
+pub mod shell;
 pub mod trial;
 pub mod version;

@@ -1,8 +1,9 @@
 //! A robot on a grid that does not know where it is.
 
-use super::{Example, Trial};
+use super::{names, Example, Trial};
 use crate::encode;
 use crate::families::grid;
+use crate::shell::Names;
 
 const SIDE: u8 = 5;
 
@@ -25,8 +26,17 @@ pub fn example() -> Example {
                  south.",
             ),
         ],
+        names: vec![("names", called())],
         search: None,
         merging: None,
+    }
+}
+
+fn called() -> Names {
+    let line = |word: &'static str| (0..SIDE).map(move |number| format!("{word}-{number}"));
+    Names {
+        facts: line("row").chain(line("column")).collect(),
+        ..names::names(&[], &["north", "south", "west", "east"])
     }
 }
 

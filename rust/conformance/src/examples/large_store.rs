@@ -1,6 +1,6 @@
 //! A store that needs more facts than version 1 has.
 
-use super::{Example, Trial};
+use super::{names, Example, Trial};
 use crate::encode;
 use crate::families::store::Store;
 
@@ -30,6 +30,7 @@ pub fn example() -> Example {
                  aisle 1.",
             ),
         ],
+        names: vec![("names", names::of_store(STORE))],
         search: None,
         merging: None,
     }

@@ -3,6 +3,7 @@
 use crate::encode;
 use crate::model::Problem;
 use crate::oracle::merge;
+use crate::shell::Names;
 
 /// The files `first` and `second`, merged, and a story of it.
 pub struct Merging {
@@ -50,6 +51,19 @@ impl Merging {
         let turns = 0..first.len().max(second.len());
         let steps = turns.flat_map(|turn| first.get(turn).into_iter().chain(second.get(turn)));
         steps.copied().collect()
+    }
+
+    /// The names of both halls in the merged problem.
+    pub fn names(&self, first: &Names, second: &Names) -> Names {
+        let of_both = || first.actions.iter().chain(&second.actions);
+        let mut actions = vec![String::new(); self.table.len()];
+        for (name, number) in of_both().zip(&self.table) {
+            actions[usize::from(*number)] = name.clone();
+        }
+        Names {
+            facts: [&first.facts[..], &second.facts[..]].concat(),
+            actions,
+        }
     }
 
     /// What the program `merge` of the crate `larkhammock` prints, without the end of its

@@ -3,6 +3,7 @@
 mod grid;
 mod large_store;
 mod merging;
+mod names;
 mod small_store;
 mod sorting;
 mod store;
@@ -14,6 +15,7 @@ use std::collections::BTreeMap;
 use crate::desk;
 use crate::encode;
 use crate::oracle::{self, Facts, Search, Task};
+use crate::shell::{Manner, Names};
 
 pub use merging::Merging;
 
@@ -23,8 +25,25 @@ pub struct Example {
     /// The title and all that comes before the trials.
     about: String,
     pub trials: Vec<Trial>,
+    /// The names in each list of names, and its file.
+    pub names: Vec<(&'static str, Names)>,
     pub search: Option<Searching>,
     pub merging: Option<Merging>,
+}
+
+impl Example {
+    /// The names of a trial's problem, and their file: there are as many as it has facts and
+    /// actions.
+    fn names_for(&self, trial: &Trial) -> (&str, &Names) {
+        let problem = oracle::read_problem(&trial.problem.1).expect("the problem is sound");
+        let fits = |names: &Names| {
+            names.facts.len() == usize::from(problem.facts)
+                && names.actions.len() == problem.actions.len()
+        };
+        let found = self.names.iter().find(|(_, names)| fits(names));
+        let (file, names) = found.expect("each problem has names");
+        (file, names)
+    }
 }
 
 /// Searches among the short plans of the file `problem`, up to each of these
@@ -148,6 +167,9 @@ pub fn files() -> BTreeMap<String, Vec<u8>> {
             put(trial.plan.0, trial.plan.1.clone());
             put(trial.output, trial.printed());
         }
+        for (file, names) in &example.names {
+            put(file, names.file().into_bytes());
+        }
         if let Some(merging) = &example.merging {
             put("table", merging.table.clone());
         }
@@ -169,7 +191,8 @@ Problems and plans for the desk program, `./larkhammock PROBLEM PLAN`:
 - [grid](grid/README.md): a robot that does not know where it is
 - [two-halls](two-halls/README.md): two problems, and one for both
 
-`problem`, `plan` and the like are blocks. `output` and the like are what the
+`problem`, `plan` and the like are blocks, and `names` and the like are what their
+facts and actions are called. `output` and the like are what the
 program prints, byte for byte. All of it, these pages included, is written by
 `cargo run --release --bin make-examples` in the folder `rust`.
 ";
@@ -177,6 +200,8 @@ program prints, byte for byte. All of it, these pages included, is written by
 /// A print of more lines than this is shown by its first few.
 const SHORT: usize = 12;
 const FEW: usize = 6;
+/// An explanation of more lines is shown by its first and its last few.
+const LONG: usize = 20;
 
 fn readme(example: &Example) -> String {
     let mut page = format!("{}\n## At the desk\n", example.about);
@@ -198,6 +223,9 @@ fn readme(example: &Example) -> String {
             0 => format!("This is the file `{output}`.\n"),
             more => format!("and {more} lines more, all of them in the file `{output}`.\n"),
         };
+        if text.starts_with("wrong") {
+            page += &explained(example, trial);
+        }
         if let Some(start) = &trial.start {
             let facts = listed(&trial.relevant_facts(start.state));
             page += &format!("\n{}\n", start.story.replace("FACTS", &facts));
@@ -220,6 +248,25 @@ fn readme(example: &Example) -> String {
         page += &format!("{}\n```\n", merging.printed());
     }
     page
+}
+
+/// How the program of the commands explains a wrong plan, by names.
+fn explained(example: &Example, trial: &Trial) -> String {
+    let folder = format!("examples/{}", example.folder);
+    let (problem, plan) = (trial.problem.0, trial.plan.0);
+    let (file, names) = example.names_for(trial);
+    let manner = Manner { names, json: false };
+    let said = manner.explain(&trial.problem.1, &trial.plan.1, desk::GRANT);
+    let mut lines: Vec<&str> = said.output.lines().collect();
+    if lines.len() > LONG {
+        lines.splice(1..lines.len() - FEW, [".."]);
+    }
+    format!(
+        "\nStep by step, by the names in the file `{file}`:\n\n```\n\
+         $ ./larkhammock explain {folder}/{problem} {folder}/{plan} --names {folder}/{file}\n\
+         {}\n```\n",
+        lines.join("\n")
+    )
 }
 
 fn listed(facts: &Facts) -> String {

@@ -1,6 +1,6 @@
 //! A store so small that every short plan can be tried.
 
-use super::{Example, Searching, Trial};
+use super::{names, Example, Searching, Trial};
 use crate::encode;
 use crate::families::store::Store;
 
@@ -35,6 +35,7 @@ pub fn example() -> Example {
                  applicable.",
             ),
         ],
+        names: vec![("names", names::of_store(STORE))],
         search: Some(search),
         merging: None,
     }

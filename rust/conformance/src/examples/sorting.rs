@@ -3,6 +3,7 @@
 use super::{Example, Trial};
 use crate::encode;
 use crate::families::sorting;
+use crate::shell::Names;
 
 const CHANNELS: u8 = 8;
 
@@ -34,8 +35,23 @@ pub fn example() -> Example {
                 "`wrong-plan` leaves out action 14. The state named is a row that it does not sort.",
             ),
         ],
+        names: vec![("names", called())],
         search: None,
         merging: None,
+    }
+}
+
+/// Two comparators join the channels 1 and 2, so their numbers are in their names.
+fn called() -> Names {
+    let comparators = sorting::comparators(CHANNELS);
+    let actions = comparators.iter().enumerate();
+    Names {
+        facts: (0..CHANNELS)
+            .map(|channel| format!("bit-{channel}"))
+            .collect(),
+        actions: actions
+            .map(|(number, (upper, lower))| format!("{number}:{upper}-{lower}"))
+            .collect(),
     }
 }
 

@@ -1,6 +1,6 @@
 //! Carriages in a store after a stoppage.
 
-use super::{Example, Start, Trial};
+use super::{names, Example, Start, Trial};
 use crate::encode;
 use crate::families::store::Store;
 
@@ -48,6 +48,7 @@ pub fn example() -> Example {
                 )
             },
         ],
+        names: vec![("names", names::of_store(STORE))],
         search: None,
         merging: None,
     }

@@ -1,6 +1,6 @@
 //! The trial problem.
 
-use super::{Example, Trial};
+use super::{names, Example, Trial};
 use crate::encode;
 use crate::model::{Effect, Formula};
 use crate::oracle;
@@ -47,6 +47,7 @@ pub fn example() -> Example {
                 )
             },
         ],
+        names: vec![("names", names::names(&["left", "right", "done"], &["try-left", "try-right"]))],
         search: None,
         merging: None,
     }

@@ -1,6 +1,6 @@
 //! Two halls with a plan each, and a plan for both.
 
-use super::{Example, Merging, Trial};
+use super::{names, Example, Merging, Trial};
 use crate::encode;
 use crate::families::store::Store;
 use crate::model::{Action, Effect, Formula, Problem};
@@ -51,6 +51,12 @@ pub fn example() -> Example {
         .replace("NUMBERS", &listed(&merging.table))
         .replace("FIRST", &listed(&merging.of_first(&of_store)))
         .replace("SECOND", &listed(&merging.of_second(&of_turntable)));
+    let first = names::of_store(STORE);
+    let second = names::names(
+        &["east-waits", "west-waits", "points-east"],
+        &["turn", "take"],
+    );
+    let both = merging.names(&first, &second);
     let by_turns = |steps: &[u8]| merging.by_turns(&of_store, steps);
     let problem = &merging.problem;
     Example {
@@ -71,6 +77,11 @@ pub fn example() -> Example {
             },
             Trial::right(problem, &by_turns(&of_turntable), BOTH),
             Trial::wrong(problem, &by_turns(&[TURN, TAKE]), WRONG),
+        ],
+        names: vec![
+            ("first-names", first),
+            ("second-names", second),
+            ("names", both),
         ],
         search: None,
         merging: Some(merging),

@@ -4,10 +4,12 @@
 mod damage;
 mod formulas;
 mod lists;
+mod names;
 mod narrower;
 mod pairs;
 mod problems;
 mod rng;
+mod texts;
 
 use crate::encode;
 use crate::families::idle;
@@ -19,11 +21,13 @@ use crate::version::{Version, MOST_PLAN_BYTES, MOST_PROBLEM_BYTES, PLAN_VERSION,
 use damage::{arbitrary, damaged, scribbled, unsound};
 pub use formulas::formula_of_size;
 pub use lists::{altered, cover, even_cover, every_cover, in_other_version, refined, Alteration};
+pub use names::names;
 pub use narrower::{every_state, Narrowing};
 pub use pairs::{at_limits, damaged_problem, merge_case, problem_of_size};
 use problems::wide_task;
 pub use problems::{ordered_problem, right_task, task};
 pub use rng::Rng;
+pub use texts::{arbitrary_text, damaged_text};
 
 /// No generated call lets the walk look at more cases than this.
 const PATIENCE: u64 = 1_500;

@@ -1,0 +1,2 @@
+-- What a command asks, and what its operation answers.
+pub mod Asked

@@ -1,0 +1,3 @@
+-- The status that the program exits with.
+pub mod Unread
+pub mod Status

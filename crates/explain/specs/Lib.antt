@@ -1,0 +1,5 @@
+-- A run, told step by step.
+pub mod Rows
+pub mod Told
+pub mod States
+pub mod Tells

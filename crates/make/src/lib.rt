@@ -1,0 +1,12 @@
+// Making the blocks of a problem and of a plan from a text.
+#![tactic(auto)]
+
+pub mod actions;
+pub mod complaint;
+pub mod formulas;
+pub mod making;
+pub mod problems;
+pub mod theorem;
+
+pub use complaint::{Complaint, MakeError};
+pub use making::{Blocks, make};

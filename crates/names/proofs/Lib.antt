@@ -1,0 +1,5 @@
+-- Laws of the definitions, for several functions' proofs.
+pub mod Texts
+pub mod Reading
+pub mod Distinct
+pub mod Fitting

@@ -1,0 +1,68 @@
+// The program of the shell: one command a question, which is answered on standard output, and by the exit status. What is wrong is told in
+// words on standard error.
+#![tactic(auto)]
+
+mod command;
+mod failure;
+mod grammar;
+mod inputs;
+mod marks;
+mod output;
+mod plan_block;
+mod session;
+mod state_lines;
+mod texts;
+
+use answers::Status;
+use command::Request;
+use failure::Failure;
+use inputs::{Role, read_text};
+use names::NameList;
+use session::Session;
+use std::env::Env;
+use std::process::ExitCode;
+use std::rt::Files;
+
+fn main(rt: HostRuntime) -> ExitCode {
+    let status = match run(&rt) {
+        Ok(status) => status,
+        Err(failure) => {
+            // What standard error cannot say, the status does.
+            let _ = eprintln!(rt; "larkhammock: {failure}");
+            failure.status()
+        }
+    };
+    ExitCode::from(status)
+}
+
+// Reads the command line, and answers its command.
+fn run<R: Env + Files + Print + Eprint + AllocGlobal>(rt: &R) -> Result<Status, Failure> {
+    let alloc = rt.alloc();
+    let Ok(words) = std::env::args(rt) else {
+        return Err(Failure::WordNoText);
+    };
+    let words: Vec<String> = words.collect(alloc)?;
+    match grammar::grammar(alloc)?.try_get_matches_from(words.as_slice()) {
+        Ok(matches) => answer(rt, Request::of(&matches)?),
+        Err(error) => output::show_usage(rt, &error),
+    }
+}
+
+// Answers a command, in the names that it asks for.
+fn answer<R: Files + Print + Eprint + AllocGlobal>(
+    rt: &R,
+    request: Request,
+) -> Result<Status, Failure> {
+    let json = request.json;
+    let Some(path) = request.names else {
+        return Session {
+            rt,
+            names: None,
+            json,
+        }
+        .answer(request.command);
+    };
+    let text = read_text(rt, Role::Names, path)?;
+    let names = Some(NameList::read(rt.alloc(), &text)?);
+    Session { rt, names, json }.answer(request.command)
+}

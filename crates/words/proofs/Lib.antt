@@ -1,0 +1,2 @@
+-- Laws of the definitions, for several functions' proofs.
+pub mod Reading

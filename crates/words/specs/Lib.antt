@@ -1,0 +1,2 @@
+-- The words of a text that a person writes.
+pub mod Words
