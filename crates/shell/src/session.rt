@@ -6,7 +6,7 @@ use crate::marks::marked_state;
 use crate::output::print;
 use crate::plan_block::plan_block;
 use crate::state_lines::push_states;
-use crate::texts::{json_made, json_text, line_of};
+use crate::texts::{MadeLine, json_made, json_text, line_of};
 use answers::json::json;
 use answers::{Answer, RefusalLine, RefusalWords, Status, Told};
 use ask::Question;
@@ -215,7 +215,7 @@ impl<R: Files + Print + Eprint + AllocGlobal> Session<'_, '_, R> {
             let line = json_made(self.rt.alloc(), length as u64)?;
             print(self.rt, format_args!("{line}\n"))?;
         } else {
-            print(self.rt, format_args!("made {length} bytes\n"))?;
+            print(self.rt, MadeLine(length))?;
         }
         Ok(Status::Yes)
     }

@@ -1,11 +1,12 @@
-// Texts: where something stands in them, and what is told of them as JSON.
-ghost use Rattle.std.specs.Prelude.{◌≡◌, ◌≤◌, ◌++◌, ◌-◌, ◌+◌, length, take, codes, decimal, IfOk};
+// Texts: where something stands in them, and what is told of them, also as JSON.
+ghost use Rattle.std.specs.Prelude.{◌≡◌, ◌≤◌, ◌++◌, ◌-◌, ◌+◌, length, take, Some, codes, decimal, IfOk};
 ghost use Rattle.std.specs.String.{string_bytes};
 ghost use Rattle.serde_json.specs.Written.{compact_text};
 ghost use Rattle.shell.specs.Texts.{line_feeds, text_object};
 
 use serde_json::json;
 use std::alloc::{AllocError, Global};
+use std::fmt;
 
 // How many line feeds a text has.
 fn line_feeds(text: &[u8]) -> usize
@@ -21,6 +22,21 @@ fn line_feeds(text: &[u8]) -> usize
         rest = after;
     }
     feeds
+}
+
+// That a problem's block was made, with its length.
+#[derive(Clone, Copy)]
+pub struct MadeLine(pub usize);
+
+impl fmt::Display for MadeLine {
+    ghost use Rattle.shell.specs.Texts.{made_line};
+
+    ghost output = { λ m. Some (made_line m.0) };
+
+    fn fmt<W: fmt::Write>(&self, f: &mut fmt::Formatter<W>) -> fmt::Result {
+        let length = self.0;
+        writeln!(f, "made {length} bytes")
+    }
 }
 
 // In which line of a text, from 1, so many bytes are left of it.
