@@ -1,14 +1,11 @@
 // Why a command has no answer.
 ghost use Rattle.std.specs.Prelude.{◌≡◌};
-ghost use Rattle.shell.specs.declared.failure.Failure.TheVariants.{Refused, OutOfMemory};
+ghost use Rattle.shell.specs.declared.failure.Failure.TheVariants.{OutOfMemory, NoReply};
 
 use crate::inputs::Role;
-use answers::{RefusalWords, Status};
-use explain::ExplainError;
+use answers::Status;
 use files::ErrorWords;
-use make::{Complaint, MakeError};
-use model::Refusal;
-use names::NamesError;
+use reply::Unanswered;
 use std::alloc::{AllocError, AllocFailed};
 use std::fmt;
 use std::io::ErrorKind;
@@ -18,20 +15,10 @@ pub enum Failure {
     // A word of the command line is no text, and no path can be made of it.
     WordNoText,
     NoCommand,
-    // A state has a mark for each of so many facts.
-    Marks(u8),
     File(Role, ErrorKind),
     Output(ErrorKind),
-    Refused(Refusal),
-    // What is wrong in a line of a text.
-    Text(Complaint, u64),
     LongText(Role),
-    // The text has no plan.
-    NoPlan,
-    // A name is none, or is given twice.
-    BadName,
-    // The names are not as many as the facts and actions.
-    OtherNames,
+    NoReply(Unanswered),
     OutOfMemory,
 }
 
@@ -42,11 +29,10 @@ impl Failure {
         ensures { result ≡ failure_status self }
     {
         match self {
-            Failure::WordNoText | Failure::NoCommand | Failure::Marks(_) => Status::Usage,
+            Failure::WordNoText | Failure::NoCommand => Status::Usage,
             Failure::File(_, _) | Failure::Output(_) | Failure::OutOfMemory => Status::Unwritten,
-            Failure::Refused(refusal) => Status::of(Err(refusal)),
-            Failure::Text(_, _) | Failure::LongText(_) | Failure::NoPlan => Status::Malformed,
-            Failure::BadName | Failure::OtherNames => Status::Malformed,
+            Failure::LongText(_) => Status::Malformed,
+            Failure::NoReply(why) => why.status(),
         }
     }
 }
@@ -56,26 +42,14 @@ impl fmt::Display for Failure {
         match *self {
             Failure::WordNoText => f.write_str("a word of the command line is no UTF-8 text"),
             Failure::NoCommand => f.write_str("the command line has no whole command"),
-            Failure::Marks(facts) => write!(
-                f,
-                "state: {facts} marks are wanted, a 0 or a 1 for each fact"
-            ),
             Failure::File(role, kind) => write!(f, "{}: {}", role.name(), ErrorWords(kind)),
             Failure::Output(kind) => write!(f, "standard output: {}", ErrorWords(kind)),
-            Failure::Refused(refusal) => write!(f, "{}", RefusalWords(refusal)),
-            Failure::Text(complaint, line) => write!(f, "text: line {line}: {}", complaint.words()),
             Failure::LongText(role) => write!(
                 f,
                 "{}: it is longer than such a text may be",
                 role.name()
             ),
-            Failure::NoPlan => f.write_str("text: it has no plan"),
-            Failure::BadName => f.write_str(
-                "names: a name is missing, is given twice, or is no name",
-            ),
-            Failure::OtherNames => f.write_str(
-                "names: there are not as many as the problem has facts and actions",
-            ),
+            Failure::NoReply(why) => write!(f, "{why}"),
             Failure::OutOfMemory => f.write_str("out of memory"),
         }
     }
@@ -97,28 +71,10 @@ impl From<AllocError> for Failure {
     }
 }
 
-impl From<Refusal> for Failure {
-    ghost from_gives = { λ r e. e ≡ Refused r };
+impl From<Unanswered> for Failure {
+    ghost from_gives = { λ why e. e ≡ NoReply why };
 
-    fn from(refusal: Refusal) -> Failure {
-        Failure::Refused(refusal)
-    }
-}
-
-impl From<NamesError> for Failure {
-    fn from(error: NamesError) -> Failure {
-        match error {
-            NamesError::BadName => Failure::BadName,
-            NamesError::OutOfMemory => Failure::OutOfMemory,
-        }
-    }
-}
-
-impl From<ExplainError> for Failure {
-    fn from(error: ExplainError) -> Failure {
-        match error {
-            ExplainError::Refused(refusal) => Failure::Refused(refusal),
-            ExplainError::OutOfMemory => Failure::OutOfMemory,
-        }
+    fn from(why: Unanswered) -> Failure {
+        Failure::NoReply(why)
     }
 }

@@ -6,18 +6,14 @@ mod command;
 mod failure;
 mod grammar;
 mod inputs;
-mod marks;
 mod output;
-mod plan_block;
 mod session;
-mod state_lines;
-mod texts;
 
 use answers::Status;
 use command::Request;
 use failure::Failure;
 use inputs::{Role, read_text};
-use names::NameList;
+use reply::Telling;
 use session::Session;
 use std::env::Env;
 use std::process::ExitCode;
@@ -53,16 +49,10 @@ fn answer<R: Files + Print + Eprint + AllocGlobal>(
     rt: &R,
     request: Request,
 ) -> Result<Status, Failure> {
-    let json = request.json;
-    let Some(path) = request.names else {
-        return Session {
-            rt,
-            names: None,
-            json,
-        }
-        .answer(request.command);
+    let text = match request.names {
+        None => None,
+        Some(path) => Some(read_text(rt, Role::Names, path)?),
     };
-    let text = read_text(rt, Role::Names, path)?;
-    let names = Some(NameList::read(rt.alloc(), &text)?);
-    Session { rt, names, json }.answer(request.command)
+    let telling = Telling::read(rt.alloc(), text.as_deref(), request.json)?;
+    Session { rt, telling }.answer(request.command)
 }

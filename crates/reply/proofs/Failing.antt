@@ -1,0 +1,79 @@
+-- What is told of the state at which a plan is wrong, and of a plan beside its problem.
+use Rattle.std.proofs.Common.{◌≡◌, refl, sym, ap, ◌∙◌, subst, Bool, List, [], ◌++◌, ℕ, Option, None, Some, option_map, Result, Ok, Err}
+use Rattle.std.specs.Borrow.{Bor}
+use Rattle.model.specs.declared.Refusal.{Refusal}
+use Rattle.model.specs.declared.fault.Fault.TheVariants.{StateNumber}
+use Rattle.model.specs.Faults.{refusal_at}
+use Rattle.names.specs.Names.{Names}
+use Rattle.names.specs.Views.{names}
+use Rattle.blocks.specs.Values.{problem}
+use Rattle.blocks.specs.declared.problem.Problem as blocks
+use Rattle.blocks.specs.declared.task.Task.{Task}
+use Rattle.answers.specs.declared.answers.Answer.{Answer}
+use Rattle.answers.specs.declared.status.Status.TheVariants.{Yes, No}
+use Rattle.explain.specs.Told.{explanation}
+use Rattle.explain.specs.Tells.{Explains}
+use Rattle.explain.specs.declared.explanation.ExplainError.TheVariants.{Refused}
+use Rattle.reply.specs.declared.telling.Spoken as code
+use Rattle.reply.specs.Spoken.{Spoken}
+use Rattle.reply.specs.Views.{spoken}
+use Rattle.reply.specs.Said.{Said}
+use Rattle.reply.specs.Replies.{Replied, text_reply, refused_reply, answered_reply}
+use Rattle.reply.specs.Commands as commands
+use Rattle.reply.specs.Commands.{failing_state, WithPlan, explained_reply, Shown, shown_text, shown_reply}
+
+module _ (json : Bool) where
+  -- ---- a run, of the task that the code has of a problem that is spoken of
+
+  module _ (s : code.Spoken) (t : Task) (n : ℕ) where
+    -- the same, of the task's own problem
+    abbrev own_reply : Said
+    own_reply = explained_reply json (record { names = names s.names; limits = t.problem.now.limits; problem = problem t.problem.now }) n t.steps.now
+
+    own-spoken : t.problem.now ≡ s.problem → own_reply ≡ explained_reply json (spoken s) n t.steps.now
+    own-spoken same = ap (λ (p : blocks.Problem). explained_reply json (record { names = names s.names; limits = p.limits; problem = problem p }) n t.steps.now) same
+
+    pub run-explained :
+        {u : Unit {0}} (before after : List ℕ) (r : Said) → t.problem.now ≡ s.problem → before ≡ [] → Explains (names s.names) t n before after (Ok u) → r ≡ text_reply json after No →
+        r ≡ explained_reply json (spoken s) n t.steps.now
+    run-explained before after r same none (is, text) e =
+        let own : text_reply json (explanation (names s.names) (problem t.problem.now) t.problem.now.limits t.steps.now n) No ≡ own_reply = rw is refl in
+        let told : after ≡ explanation (names s.names) (problem t.problem.now) t.problem.now.limits t.steps.now n = text ∙ ap (λ x. x ++ explanation (names s.names) (problem t.problem.now) t.problem.now.limits t.steps.now n) none in
+        e ∙ ap (λ x. text_reply json x No) told ∙ own ∙ own-spoken same
+
+    pub run-refused :
+        (N : Names) (before after : List ℕ) (y : Refusal) (r : Said) → t.problem.now ≡ s.problem → Explains N t n before after (Err (Refused y)) → r ≡ refused_reply json y →
+        r ≡ explained_reply json (spoken s) n t.steps.now
+    run-refused N before after y r same (is, which, left) e =
+        let own : refused_reply json (refusal_at StateNumber 0) ≡ own_reply = rw is refl in
+        e ∙ ap (refused_reply json) which ∙ own ∙ own-spoken same
+
+  -- ---- whether a plan is wrong
+
+  module _ (s : Spoken) (plan : List ℕ) (r : Result Answer Refusal) (o : Option ℕ) (x : Replied) (e : o ≡ failing_state r) where
+    pub wrong-explained : (n : ℕ) → o ≡ Some n → WithPlan json s plan (explained_reply json s n) x → commands.Explains json s plan r (failing_state r) x
+    wrong-explained n is k = let P : Option ℕ → Type 0 = λ v. commands.Explains json s plan r v x in subst P (sym is ∙ e) k
+
+    pub others-answered : o ≡ None → x ≡ Ok (answered_reply json s r) → commands.Explains json s plan r (failing_state r) x
+    others-answered is k = let P : Option ℕ → Type 0 = λ v. commands.Explains json s plan r v x in subst P (sym is ∙ e) k
+
+  -- ---- whether there is a plan
+
+  module _ (s : Spoken) (plan : Option (Bor (List ℕ))) (x : Replied) where
+    pub shown-alone : plan ≡ None → Shown json None s x → Shown json (option_map (λ p. p.now) plan) s x
+    shown-alone is k = rw is k
+
+    pub shown-both : (p : Bor (List ℕ)) → plan ≡ Some p → WithPlan json s p.now (shown_reply json s) x → Shown json (option_map (λ p. p.now) plan) s x
+    shown-both p is k = rw is k
+
+  -- ---- what is shown, piece by piece
+
+  module _ (out shown text : List ℕ) (none : out ≡ []) (e : shown ≡ out ++ text) where
+    shown-first : shown ≡ text
+    shown-first = e ∙ ap (λ x. x ++ text) none
+
+    pub text-shown : (r : Said) → r ≡ text_reply json shown Yes → r ≡ text_reply json text Yes
+    text-shown r k = k ∙ ap (λ x. text_reply json x Yes) shown-first
+
+    pub texts-shown : (both plan : List ℕ) (r : Said) → both ≡ shown ++ plan → r ≡ text_reply json both Yes → r ≡ text_reply json (text ++ plan) Yes
+    texts-shown both plan r f k = k ∙ ap (λ x. text_reply json x Yes) (f ∙ ap (λ x. x ++ plan) shown-first)

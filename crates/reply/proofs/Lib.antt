@@ -1,0 +1,7 @@
+-- Laws of the definitions, for the functions' proofs.
+pub mod Stating
+pub mod Numbering
+pub mod Feeds
+pub mod Speaking
+pub mod Plans
+pub mod Failing

@@ -1,0 +1,11 @@
+-- What each command replies.
+pub mod StateMarks
+pub mod StateLines
+pub mod Texts
+pub mod Unanswered
+pub mod Spoken
+pub mod Views
+pub mod Said
+pub mod Replies
+pub mod Commands
+pub mod Making

@@ -1,0 +1,19 @@
+// What each command replies, from the bytes of the files that were read: the text that is printed, the exit status, and the bytes of a
+// file.
+#![tactic(auto)]
+
+pub mod explaining;
+pub mod making;
+pub mod marks;
+pub mod plan_block;
+pub mod questions;
+pub mod replies;
+pub mod state_lines;
+pub mod telling;
+pub mod texts;
+pub mod unanswered;
+
+pub use making::Made;
+pub use replies::Reply;
+pub use telling::Telling;
+pub use unanswered::Unanswered;
