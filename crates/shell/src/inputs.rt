@@ -62,13 +62,8 @@ pub fn read_whole<R: Files + AllocGlobal>(
     }
 }
 
-// Reads a text; one that is longer than such a text may be is refused.
-pub fn read_text<R: Files + AllocGlobal>(
-    rt: &R,
-    role: Role,
-    path: &str,
-) -> Result<Vec<u8>, Failure> {
-    let text = read_whole(rt, role, path)?;
+// A text that was read, unless it is longer than such a text may be.
+pub fn whole_text(role: Role, text: &[u8]) -> Result<&[u8], Failure> {
     if text.len() > role.most_bytes() {
         return Err(Failure::LongText(role));
     }

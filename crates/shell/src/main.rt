@@ -12,8 +12,7 @@ mod session;
 use answers::Status;
 use command::Request;
 use failure::Failure;
-use inputs::{Role, read_text};
-use reply::Telling;
+use inputs::{Role, read_whole};
 use session::Session;
 use std::env::Env;
 use std::process::ExitCode;
@@ -49,10 +48,10 @@ fn answer<R: Files + Print + Eprint + AllocGlobal>(
     rt: &R,
     request: Request,
 ) -> Result<Status, Failure> {
-    let text = match request.names {
+    let names = match request.names {
         None => None,
-        Some(path) => Some(read_text(rt, Role::Names, path)?),
+        Some(path) => Some(read_whole(rt, Role::Names, path)?),
     };
-    let telling = Telling::read(rt.alloc(), text.as_deref(), request.json)?;
-    Session { rt, telling }.answer(request.command)
+    let json = request.json;
+    Session { rt, names, json }.answer(request.command)
 }

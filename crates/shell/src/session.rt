@@ -1,7 +1,7 @@
 // The commands: each reads its files, and prints what is replied to them.
 use crate::command::{Command, TaskPaths};
 use crate::failure::Failure;
-use crate::inputs::{Role, read_text, read_whole};
+use crate::inputs::{Role, read_whole, whole_text};
 use crate::output::print;
 use answers::{RefusalWords, Status};
 use ask::Blocks;
@@ -9,11 +9,12 @@ use files::save;
 use reply::{Reply, Telling};
 use std::rt::Files;
 
-// How the answers to a command are told, and where.
+// Where the answers to a command are told, in which names, if a text gives any, and whether as JSON.
 #[derive(Drop)]
-pub struct Session<'r, 't, R> {
+pub struct Session<'r, R> {
     pub rt: &'r R,
-    pub telling: Telling<'t>,
+    pub names: Option<Vec<u8>>,
+    pub json: bool,
 }
 
 // The files of a problem and of a plan.
@@ -32,7 +33,7 @@ impl TaskFiles {
     }
 }
 
-impl<R: Files + Print + Eprint + AllocGlobal> Session<'_, '_, R> {
+impl<R: Files + Print + Eprint + AllocGlobal> Session<'_, R> {
     // Answers a command.
     pub fn answer(&self, command: Command) -> Result<Status, Failure> {
         match command {
@@ -57,31 +58,40 @@ impl<R: Files + Print + Eprint + AllocGlobal> Session<'_, '_, R> {
         }
     }
 
+    // A command reads its files first: that one cannot be read goes before what is wrong in another, be it the names.
+    fn telling(&self) -> Result<Telling<'_>, Failure> {
+        let names = match &self.names {
+            None => None,
+            Some(text) => Some(whole_text(Role::Names, text)?),
+        };
+        Ok(Telling::read(self.rt.alloc(), names, self.json)?)
+    }
+
     fn judge(&self, task: TaskPaths, grant: u64) -> Result<Status, Failure> {
         let files = self.read(task)?;
-        self.tell(self.telling.judge(files.blocks(), grant)?)
+        self.tell(self.telling()?.judge(files.blocks(), grant)?)
     }
 
     fn write(&self, task: TaskPaths, list: &str, grant: u64) -> Result<Status, Failure> {
         let files = self.read(task)?;
-        let reply = self.telling.write(files.blocks(), grant)?;
+        let reply = self.telling()?.write(files.blocks(), grant)?;
         self.save_and_tell(Role::List, Some(list), reply)
     }
 
     fn follow(&self, task: TaskPaths, list: &str) -> Result<Status, Failure> {
         let files = self.read(task)?;
         let list = read_whole(self.rt, Role::List, list)?;
-        self.tell(self.telling.follow(files.blocks(), &list)?)
+        self.tell(self.telling()?.follow(files.blocks(), &list)?)
     }
 
     fn run(&self, task: TaskPaths, marks: &str) -> Result<Status, Failure> {
         let files = self.read(task)?;
-        self.tell(self.telling.run(files.blocks(), marks.as_bytes())?)
+        self.tell(self.telling()?.run(files.blocks(), marks.as_bytes())?)
     }
 
     fn facts(&self, task: TaskPaths, marks: &str) -> Result<Status, Failure> {
         let files = self.read(task)?;
-        self.tell(self.telling.facts(files.blocks(), marks.as_bytes())?)
+        self.tell(self.telling()?.facts(files.blocks(), marks.as_bytes())?)
     }
 
     fn search(
@@ -92,29 +102,28 @@ impl<R: Files + Print + Eprint + AllocGlobal> Session<'_, '_, R> {
         plan: Option<&str>,
     ) -> Result<Status, Failure> {
         let problem = read_whole(self.rt, Role::Problem, problem)?;
-        let reply = self.telling.search(&problem, longest, grant)?;
+        let reply = self.telling()?.search(&problem, longest, grant)?;
         self.save_and_tell(Role::Plan, plan, reply)
     }
 
     fn explain(&self, task: TaskPaths, grant: u64) -> Result<Status, Failure> {
         let files = self.read(task)?;
-        self.tell(self.telling.explain(files.blocks(), grant)?)
+        self.tell(self.telling()?.explain(files.blocks(), grant)?)
     }
 
-    // That a problem is refused is told without its plan being read.
     fn show(&self, problem: &str, plan: Option<&str>) -> Result<Status, Failure> {
         let problem = read_whole(self.rt, Role::Problem, problem)?;
-        let shown = self.telling.show(&problem, None)?;
-        let (Some(plan), None) = (plan, shown.refusal) else {
-            return self.tell(shown);
+        let plan = match plan {
+            None => None,
+            Some(path) => Some(read_whole(self.rt, Role::Plan, path)?),
         };
-        let plan = read_whole(self.rt, Role::Plan, plan)?;
-        self.tell(self.telling.show(&problem, Some(&plan))?)
+        self.tell(self.telling()?.show(&problem, plan.as_deref())?)
     }
 
     fn make(&self, text: &str, problem: &str, plan: Option<&str>) -> Result<Status, Failure> {
-        let text = read_text(self.rt, Role::Text, text)?;
-        let made = self.telling.make(&text, plan.is_some())?;
+        let text = read_whole(self.rt, Role::Text, text)?;
+        let text = whole_text(Role::Text, &text)?;
+        let made = self.telling()?.make(text, plan.is_some())?;
         if let (Some(path), Some(block)) = (plan, &made.plan) {
             self.save(Role::Plan, path, block)?;
         }

@@ -40,6 +40,7 @@ const LINES: [(&str, &str); 19] = [
 
 of_each_version! {
     missing_files,
+    a_missing_file_goes_before_what_is_wrong_in_another,
     folders_in_place_of_files,
     files_below_files,
     files_that_none_may_read,
@@ -76,6 +77,31 @@ fn missing_files(version: &Version) {
     let desk = Desk::of_trial("missing", version);
     cannot_be_read(&desk, "nowhere", "no such file");
     cannot_be_read(&desk, "nowhere/problem", "no such file");
+}
+
+/// Every file is read before anything that one says is looked at, the names too.
+fn a_missing_file_goes_before_what_is_wrong_in_another(version: &Version) {
+    let desk = Desk::of_trial("missing-first", version);
+    for name in ["problem", "plan", "list", "wrong"] {
+        desk.put(name, b"no block");
+    }
+    desk.put("empty", b"");
+    desk.put("long", &vec![b'#'; MOST_NAMES_BYTES + 1]);
+    for (line, role) in LINES {
+        let line = line.replace("FILE", "nowhere");
+        let takes_no_more_names = line.contains("--names") || line.starts_with("make");
+        for names in ["empty", "long"] {
+            let line = if takes_no_more_names {
+                line.clone()
+            } else {
+                format!("{line} --names {names}")
+            };
+            desk.expect(
+                &line,
+                &Said::failing(UNWRITTEN, &format!("{role}: no such file")),
+            );
+        }
+    }
 }
 
 fn folders_in_place_of_files(version: &Version) {
