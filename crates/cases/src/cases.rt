@@ -8,7 +8,7 @@ ghost use Rattle.cases.specs.Lanes.{case_in};
 use crate::block::value_of_level;
 use crate::case::Case;
 use crate::value::Value;
-use crate::words::{self, LANES, TABLE};
+use crate::words::{self, LANES, TABLE, spread};
 use formula::Literal;
 
 // The two words of the literal with the byte b stand at twice b: in each lane its value in that lane's case, of so many facts.
@@ -24,7 +24,7 @@ impl Cases {
     ghost use Rattle.std.specs.Prelude.{ℕ, ◌≡◌, ◌+◌, ◌<◌, ◌≤◌, IsTrue, replicate, set};
     ghost use Rattle.model.specs.Kleene.{Kleene, No, Unknown, three};
     ghost use Rattle.model.specs.Formula.{value_of};
-    ghost use Rattle.model.specs.FormulaBytes.{is_literal, literal_of as with_byte};
+    ghost use Rattle.model.specs.FormulaBytes.{is_literal};
     ghost use Rattle.formula.specs.Views.{literal as literal_of};
     ghost use Rattle.model.specs.Case.{case_of as case_numbered};
     ghost use Rattle.model.specs.Planes.{lane_bit};
@@ -72,15 +72,7 @@ impl Cases {
     pub fn value(&self, literal: Literal) -> Value
         ensures { (j : ℕ) → j < 64 → value_at result j ≡ value_of three (case_of self.now j) (literal_of literal) }
     {
-        self.value_of(literal.byte() as usize)
-    }
-
-    // The value of the literal with this byte.
-    #[inline(always)]
-    fn value_of(&self, byte: usize) -> Value
-        requires { byte < 128 }
-        ensures { (j : ℕ) → j < 64 → value_at result j ≡ value_of three (case_of self.now j) (with_byte byte) }
-    {
+        let byte = literal.byte() as usize;
         Value {
             some: self.words[2 * byte],
             sure: self.words[2 * byte + 1],
@@ -94,22 +86,7 @@ impl Cases {
         ensures facts { self.new.facts ≡ self.old.facts }
         ensures cases { (j : ℕ) → j < 64 → case_of self.new j ≡ with_literal (literal_of literal) (value_at value j) (case_of self.old j) }
     {
-        words::set_literal(
-            &mut self.words,
-            literal.byte() as usize,
-            value.some,
-            value.sure,
-        );
-    }
-
-    // In each lane fact f becomes the lane's value.
-    #[inline(always)]
-    pub fn set_fact(&mut self, f: usize, value: Value)
-        requires { f < self.old.facts }
-        ensures facts { self.new.facts ≡ self.old.facts }
-        ensures cases { (j : ℕ) → j < 64 → case_of self.new j ≡ set (case_of self.old j) f (value_at value j) }
-    {
-        words::set_literal(&mut self.words, f, value.some, value.sure);
+        words::set_literal(&mut self.words, literal.byte() as usize, value);
     }
 
     // In each lane fact f becomes what its bit of `yes` says.
@@ -119,7 +96,7 @@ impl Cases {
         ensures facts { self.new.facts ≡ self.old.facts }
         ensures cases { (j : ℕ) → j < 64 → case_of self.new j ≡ set (case_of self.old j) f (value_in (lane_bit j yes) (lane_bit j yes)) }
     {
-        self.set_fact(f as usize, Value::known(yes));
+        self.put(Literal::of(f), Value::known(yes));
     }
 
     // Becomes these cases, of as many facts. No other word is copied: it is the same in both.
@@ -142,8 +119,9 @@ impl Cases {
             → (j : ℕ) → j < 64 → case_of self.new j ≡ with_facts from to (t j) (case_of self.old j) }
     {
         for f in from..to {
-            let value = change(f, self.value_of(f));
-            self.set_fact(f, value);
+            let fact = Literal::of(f as u8);
+            let value = change(f, self.value(fact));
+            self.put(fact, value);
         }
     }
 
@@ -153,7 +131,7 @@ impl Cases {
         ensures facts { self.new.facts ≡ self.old.facts }
         ensures cases { (j : ℕ) → j < 64 → case_of self.new j ≡ with_facts from to (bits_of word) (case_of self.old j) }
     {
-        self.change_facts(from, to, |f, _| Value::known(word).spread(LANES - 1 - f));
+        self.change_facts(from, to, |f, _| Value::known(spread(word, LANES - 1 - f)));
     }
 
     // The facts from .. to - 1 become unknown in every lane.

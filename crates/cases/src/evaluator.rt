@@ -1,17 +1,16 @@
 // Evaluating formulas in 64 cases at once.
-ghost use Rattle.std.specs.Prelude.{ℕ, ◌≡◌, true, ◌<◌, IsTrue};
+ghost use Rattle.std.specs.Prelude.{ℕ, ◌≡◌, ◌≤◌, ◌<◌, IsTrue};
 ghost use Rattle.model.specs.Kleene.{three};
 ghost use Rattle.model.specs.Formula.{eval};
-ghost use Rattle.model.specs.FormulaBytes.{member_count};
+ghost use Rattle.model.specs.FormulaBytes.{member_count, grouped};
 ghost use Rattle.model.specs.declared.marks.Group.TheVariants.{All, Any};
 ghost use Rattle.model.specs.Marks.{group_of as kind_of};
-ghost use Rattle.formula.specs.Decoding.{head, after};
-ghost use Rattle.formula.specs.Views.{formula, formulas, group as group_of};
-ghost use Rattle.cases.specs.Values.{unit_value, join_values, deciding_value, met_at, GroupValue, JoinsLiterals, Ends};
+ghost use Rattle.formula.specs.Decoding.{first, head, after};
+ghost use Rattle.formula.specs.Views.{formula as formula_of, formulas as formulas_of, group as group_of};
+ghost use Rattle.cases.specs.Values.{unit_value, join_values, deciding_value};
 ghost use Rattle.cases.specs.Cases.{case_of, value_at, Everywhere};
 
 use crate::cases::Cases;
-use crate::met::Met;
 use crate::value::Value;
 use crate::words::ONES;
 use formula::{Formula, Formulas, Members, Next};
@@ -23,8 +22,8 @@ fn unit(kind: Group) -> Value
     ensures { Everywhere (unit_value (kind_of kind)) result }
 {
     match kind {
-        Group::All => Value::yes(),
-        Group::Any => Value::no(),
+        Group::All => Value::known(ONES),
+        Group::Any => Value::known(0),
     }
 }
 
@@ -49,145 +48,92 @@ fn is_decided(kind: Group, value: Value) -> bool
     }
 }
 
-// What is known of a group: its value, or the value of all members before those that are left.
-#[derive(Clone, Copy)]
-enum Joined<'a> {
-    All(Met<'a>),
-    Before(Value, Members<'a>),
-}
-
-// Joins the literals that a group of this kind begins with. Unless what follows the group is asked for, what decides it ends it.
-#[inline(always)]
-fn join_literals<'a>(kind: Group, members: Members<'a>, c: &Cases, whole: bool) -> Joined<'a>
-    requires { members.group ≡ kind }
-    ensures { JoinsLiterals c.now members.entry whole result }
-{
-    let mut value = unit(kind);
-    let mut left = members;
-    while left.count > 0 {
-        if !whole & is_decided(kind, value) {
-            return Joined::All(Met::of(value, left.formulas));
-        }
-        match left.formulas.next() {
-            Next::Literal(literal, rest) => {
-                value = join(kind, value, c.value(literal));
-                left = left.past_first(rest);
-            }
-            Next::Group(_) => return Joined::Before(value, left),
-        }
-    }
-    Joined::All(Met::of(value, left.formulas))
-}
-
-// Joins the members that are left of a group of this kind onto the value of those before them.
+// The value of a group of this kind whose members are the first so many formulas. Those after them are left, unless nobody asks for them: then
+// what decides the group ends it.
 #[cycle(evaluator)]
 #[inline(always)]
-fn join_members<'a>(
-    kind: Group,
-    members: Members<'a>,
-    begun: Value,
-    c: &Cases,
-    whole: bool,
-) -> Met<'a>
-    requires { members.group ≡ kind }
-    ensures { Ends c.now members.entry begun whole result }
+fn join_first(kind: Group, count: u8, formulas: &mut Formulas, cases: &Cases, whole: bool) -> Value
+    requires { count ≤ member_count (formulas_of formulas.old) }
+    ensures value { (j : ℕ) → j < 64 → value_at result j ≡ eval three (case_of cases.now j) (grouped (kind_of kind) (first count (formulas_of formulas.old))) }
+    ensures rest { IsTrue whole → formulas_of formulas.new ≡ after count (formulas_of formulas.old) }
 {
-    let mut value = begun;
-    let mut left = members;
-    while left.count > 0 {
+    let mut value = unit(kind);
+    // Its own place among the formulas, so that it need not be stored at each of them.
+    let mut left = *formulas;
+    for _ in 0..count {
         if !whole & is_decided(kind, value) {
-            return Met::of(value, left.formulas);
+            return value;
         }
-        match left.formulas.next() {
-            Next::Literal(literal, rest) => {
-                value = join(kind, value, c.value(literal));
-                left = left.past_first(rest);
-            }
-            Next::Group(inner) => {
-                let met = group(inner, c, true);
-                value = join(kind, value, met.value());
-                left = left.past_first(met.rest);
-            }
-        }
+        value = join(kind, value, evaluate_first(&mut left, cases));
     }
-    Met::of(value, left.formulas)
+    *formulas = left;
+    value
 }
 
 // The same for an "all", and for an "any": each is a loop with its kind known.
 #[cycle(evaluator)]
-#[inline(never)]
-fn join_all<'a>(members: Members<'a>, begun: Value, c: &Cases, whole: bool) -> Met<'a>
-    requires { members.group ≡ All }
-    ensures { Ends c.now members.entry begun whole result }
+fn all(count: u8, formulas: &mut Formulas, cases: &Cases) -> Value
+    requires { count ≤ member_count (formulas_of formulas.old) }
+    ensures value { (j : ℕ) → j < 64 → value_at result j ≡ eval three (case_of cases.now j) (grouped (kind_of All) (first count (formulas_of formulas.old))) }
+    ensures rest { formulas_of formulas.new ≡ after count (formulas_of formulas.old) }
 {
-    join_members(Group::All, members, begun, c, whole)
+    join_first(Group::All, count, formulas, cases, true)
 }
 
 #[cycle(evaluator)]
-#[inline(never)]
-fn join_any<'a>(members: Members<'a>, begun: Value, c: &Cases, whole: bool) -> Met<'a>
-    requires { members.group ≡ Any }
-    ensures { Ends c.now members.entry begun whole result }
+fn any(count: u8, formulas: &mut Formulas, cases: &Cases) -> Value
+    requires { count ≤ member_count (formulas_of formulas.old) }
+    ensures value { (j : ℕ) → j < 64 → value_at result j ≡ eval three (case_of cases.now j) (grouped (kind_of Any) (first count (formulas_of formulas.old))) }
+    ensures rest { formulas_of formulas.new ≡ after count (formulas_of formulas.old) }
 {
-    join_members(Group::Any, members, begun, c, whole)
+    join_first(Group::Any, count, formulas, cases, true)
 }
 
-// The value of a group of this kind. Where all its members are literals, it takes no call.
+// The value of the first of some formulas, in each lane's case; those after it are left.
 #[cycle(evaluator)]
 #[inline(always)]
-fn join_group<'a>(kind: Group, members: Members<'a>, c: &Cases, whole: bool) -> Met<'a>
-    requires { members.group ≡ kind }
-    ensures { GroupValue c.now members.entry whole result }
+pub fn evaluate_first(formulas: &mut Formulas, cases: &Cases) -> Value
+    requires { 0 < member_count (formulas_of formulas.old) }
+    ensures value { (j : ℕ) → j < 64 → value_at result j ≡ eval three (case_of cases.now j) (head (formulas_of formulas.old)) }
+    ensures rest { formulas_of formulas.new ≡ after 1 (formulas_of formulas.old) }
 {
-    match join_literals(kind, members, c, whole) {
-        Joined::All(met) => met,
-        Joined::Before(value, left) => match kind {
-            Group::All => join_all(left, value, c, whole),
-            Group::Any => join_any(left, value, c, whole),
-        },
+    match formulas.next() {
+        Next::Literal(literal, rest) => {
+            *formulas = rest;
+            cases.value(literal)
+        }
+        Next::Group(members) => {
+            let mut rest = members.formulas;
+            let value = match members.group {
+                Group::All => all(members.count, &mut rest, cases),
+                Group::Any => any(members.count, &mut rest, cases),
+            };
+            *formulas = rest;
+            value
+        }
     }
 }
 
-// The value of a group. Its kind is looked at once, so that no loop asks for it.
-#[cycle(evaluator)]
-#[inline(always)]
-fn group<'a>(members: Members<'a>, c: &Cases, whole: bool) -> Met<'a>
-    ensures { GroupValue c.now members.entry whole result }
+// The value of a formula that is a group.
+#[inline(never)]
+fn outer_group(members: Members, cases: &Cases) -> Value
+    ensures { (j : ℕ) → j < 64 → value_at result j ≡ eval three (case_of cases.now j) (group_of members.entry) }
 {
+    let mut formulas = members.formulas;
     match members.group {
-        Group::All => join_group(Group::All, members, c, whole),
-        Group::Any => join_group(Group::Any, members, c, whole),
-    }
-}
-
-// An outermost group's value: what decides it ends it.
-#[inline(never)]
-fn outer_group(members: Members, c: &Cases) -> Value
-    ensures { (j : ℕ) → j < 64 → value_at result j ≡ eval three (case_of c.now j) (group_of members.entry) }
-{
-    group(members, c, false).value()
-}
-
-// The value of the first of some formulas, in each lane's case, and the formulas after it.
-pub fn evaluate_first<'a>(members: Formulas<'a>, c: &Cases) -> Met<'a>
-    requires { 0 < member_count (formulas members) }
-    ensures value { (j : ℕ) → j < 64 → met_at result j ≡ eval three (case_of c.now j) (head (formulas members.entry)) }
-    ensures rest { formulas result.rest ≡ after 1 (formulas members.entry) }
-{
-    match members.next() {
-        Next::Literal(literal, rest) => Met::of(c.value(literal), rest),
-        Next::Group(inner) => group(inner, c, true),
+        Group::All => join_first(Group::All, members.count, &mut formulas, cases, false),
+        Group::Any => join_first(Group::Any, members.count, &mut formulas, cases, false),
     }
 }
 
 // The formula's value, in each lane's case. Most are one literal or an empty group, and take no call.
 #[inline(always)]
-pub fn evaluate(f: Formula, c: &Cases) -> Value
-    ensures { (j : ℕ) → j < 64 → value_at result j ≡ eval three (case_of c.now j) (formula f.entry) }
+pub fn evaluate(formula: Formula, cases: &Cases) -> Value
+    ensures { (j : ℕ) → j < 64 → value_at result j ≡ eval three (case_of cases.now j) (formula_of formula.entry) }
 {
-    match f.alone().next() {
-        Next::Literal(literal, _) => c.value(literal),
+    match formula.alone().next() {
+        Next::Literal(literal, _) => cases.value(literal),
         Next::Group(members) if members.count == 0 => unit(members.group),
-        Next::Group(members) => outer_group(members, c),
+        Next::Group(members) => outer_group(members, cases),
     }
 }

@@ -5,13 +5,11 @@ mod block;
 pub mod case;
 pub mod cases;
 pub mod evaluator;
-pub mod met;
 pub mod value;
 mod words;
 
 pub use case::Case;
 pub use cases::Cases;
 pub use evaluator::{evaluate, evaluate_first};
-pub use met::Met;
 pub use value::Value;
 pub use words::{ONES, lane_bit, word_of};

@@ -2,7 +2,7 @@
 ghost use Rattle.std.specs.Prelude.{ℕ, ◌≤◌, ◌<◌};
 ghost use Rattle.model.specs.Planes.{lane_bit};
 
-use crate::words::{ONES, lane_bit, spread};
+use crate::words::{ONES, lane_bit};
 use std::ops::{BitAnd, BitOr, Not};
 
 // `some` where it is not no, `sure` where it is yes.
@@ -15,24 +15,8 @@ pub struct Value {
 
 impl Value {
     ghost use Rattle.std.specs.Prelude.{◌≡◌, eqb};
-    ghost use Rattle.model.specs.Kleene.{No, Unknown, Yes, is_yes, known};
+    ghost use Rattle.model.specs.Kleene.{Unknown, is_yes, known};
     ghost use Rattle.cases.specs.Cases.{value_at, Everywhere};
-
-    // Yes in every lane.
-    #[inline(always)]
-    pub fn yes() -> Value
-        ensures { Everywhere Yes result }
-    {
-        Value::known(ONES)
-    }
-
-    // No in every lane.
-    #[inline(always)]
-    pub fn no() -> Value
-        ensures { Everywhere No result }
-    {
-        Value { some: 0, sure: 0 }
-    }
 
     // Unknown in every lane.
     #[inline(always)]
@@ -63,18 +47,6 @@ impl Value {
         ensures { result ≡ is_yes (value_at self lane) }
     {
         lane_bit(self.sure, lane) == 1
-    }
-
-    // In every lane what it is in this one.
-    #[inline(always)]
-    pub fn spread(self, lane: usize) -> Value
-        requires { lane < 64 }
-        ensures { Everywhere (value_at self lane) result }
-    {
-        Value {
-            some: spread(self.some, lane),
-            sure: spread(self.sure, lane),
-        }
     }
 }
 

@@ -4,6 +4,8 @@ ghost use Rattle.model.specs.Limits.{max_facts};
 ghost use Rattle.model.specs.Planes.{lane_bit, Table};
 ghost use Rattle.cases.specs.Words.{Spread, raised, SameCase, SetsLiteral, CopiesFacts};
 
+use crate::value::Value;
+
 // Every lane.
 pub const ONES: u64 = u64::MAX;
 
@@ -48,17 +50,17 @@ pub fn word_of(width: usize, number: u64) -> u64
     number << (LANES - width)
 }
 
-// The literal with the byte b gets new values, and its denial with it.
+// The literal with the byte b gets a value, and its denial the denied one.
 #[inline(always)]
-pub fn set_literal(words: &mut [u64; TABLE], b: usize, some: u64, sure: u64)
+pub fn set_literal(words: &mut [u64; TABLE], b: usize, value: Value)
     requires { b < 128 }
-    ensures { SetsLiteral words.old b some sure words.new }
+    ensures { SetsLiteral words.old b value.some value.sure words.new }
 {
     let denial = (b + FACTS) % LITERALS;
-    words[2 * b] = some;
-    words[2 * b + 1] = sure;
-    words[2 * denial] = ONES ^ sure;
-    words[2 * denial + 1] = ONES ^ some;
+    words[2 * b] = value.some;
+    words[2 * b + 1] = value.sure;
+    words[2 * denial] = ONES ^ value.sure;
+    words[2 * denial + 1] = ONES ^ value.some;
 }
 
 // The first so many facts, and their denials with them, get the values that they have in another table.

@@ -37,12 +37,11 @@ fn push_false_members(
 {
     let mut rest = members.formulas;
     for _ in 0..members.count {
-        let member = evaluate_first(rest, cases);
-        let holds = member.value().is_yes(0);
+        let member = rest;
+        let holds = evaluate_first(&mut rest, cases).is_yes(0);
         if !holds {
-            push_line(out, names, rest)?;
+            push_line(out, names, member)?;
         }
-        rest = member.rest;
     }
     Ok(())
 }

@@ -45,7 +45,7 @@ impl Telling<'_> {
                 out.push_str(" blocked, as this is false:\n")?;
                 push_false_part(out, self.names, action.precondition, cases)
             }
-            Hindrance::Conflict { fact } => {
+            Hindrance::Conflict(fact) => {
                 let name = FactName {
                     names: self.names,
                     fact: fact as u8,

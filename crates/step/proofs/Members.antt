@@ -1,16 +1,8 @@
--- The first false member of an "all", and the part of an action that it is. Assumes nothing.
-use Rattle.std.proofs.Common.{◌≡◌, refl, sym, ap, ◌∙◌, Bool, true, false, cond, ℕ, zero, suc, ◌+◌, ◌-◌, ◌≤◌, ◌<◌, List, arith, Option, Some, None}
-use Rattle.model.specs.Kleene.{Kleene, both, is_yes, three}
-use Rattle.model.specs.Formula.{Formula, Formulas, all, none, more, eval, eval_all}
-use Rattle.model.specs.{FormulaBytes.member_count, Run.first_false, Run.unmet, Run.holds_in}
+-- The first false member of an "all". Assumes nothing.
+use Rattle.std.proofs.Common.{◌≡◌, sym, ap, ◌∙◌, Bool, true, false, ℕ, suc, ◌+◌, ◌-◌, ◌≤◌, ◌<◌, arith}
+use Rattle.model.specs.Formula.{Formula, Formulas, none, more}
+use Rattle.model.specs.{FormulaBytes.member_count, Run.first_false}
 use Rattle.formula.specs.Decoding.{first, after, head}
-use Rattle.std.specs.Option.{unwrap_or}
-use Rattle.step.specs.Actions.{IsFirstFalse}
-
-pub count-first : (n : ℕ) (ms : Formulas) → n ≤ member_count ms → member_count (first n ms) ≡ n
-count-first zero ms h = refl
-count-first (suc n) none h = absurd (omega arith)
-count-first (suc n) (more m ms) h = ap suc (count-first n ms (omega arith))
 
 first-more : (ms : Formulas) → 0 < member_count ms → ms ≡ more (head ms) (after 1 ms)
 first-more ms l = grind arith
@@ -57,23 +49,7 @@ module _ (holds : Formula → Bool) where
             same = rw r (next-same ∙ rw (first_false, e) (omega arith));
           }
 
--- where no member is false, the "all" holds
-turned : (t u : Kleene) (x n : ℕ) → cond (is_yes t) (suc x) 0 ≡ suc n → (x ≡ n → is_yes u ≡ true) → is_yes (both t u) ≡ true
-turned t u x n e h = grind arith
-
-pub none-false : (v : List Kleene) (ms : Formulas) → first_false (holds_in three v) ms ≡ member_count ms → holds_in three v (all ms) ≡ true
-unfolding eval first_false
-none-false v none e = refl
-none-false v (more m ms) e = turned (eval three v m) (eval_all three v ms) (first_false (holds_in three v) ms) (member_count ms) e (none-false v ms)
-
 -- ---- of a formula, which is one alone in ms
 
 pub alone : {f g : Formula} {ms rest : Formulas} → ms ≡ more f none → ms ≡ more g rest → f ≡ g
 alone e h = cc
-
-pub unmet-all :
-    (v : List Kleene) (ms : Formulas) (r : Option ℕ) → IsFirstFalse (holds_in three v) ms r → holds_in three v (all ms) ≡ false →
-    unwrap_or r 0 ≡ unmet (holds_in three v) (all ms)
-unfolding unmet
-unmet-all v ms None h not = let yes = none-false v ms h in absurd (cc)
-unmet-all v ms (Some i) h not = h.1

@@ -5,8 +5,8 @@ use Rattle.model.specs.{Kleene.Kleene, Kleene.is_yes, Kleene.three, Formula.eval
 use Rattle.model.specs.{Case.flag, Planes.lane_bit}
 use Rattle.model.proofs.Laws.Planes.{low_bit, bit-and, bit-zero, bit-small}
 use Rattle.cases.specs.{declared.value.Value.Value, declared.cases.Cases.Cases, Cases.case_of, Cases.value_at}
-use Rattle.step.specs.{declared.conditions.Conditions.Conditions, declared.action.Hindrance.TheVariants.Precondition, declared.action.Hindrance.TheVariants.Conflict}
-use Rattle.step.specs.{Conditions.Hold, Conditions.no_conflict, Conditions.LeftOut, Conditions.AllLeftOut, Actions.applicable_bit, Actions.GoesOn, Actions.IsHindered}
+use Rattle.step.specs.{declared.conditions.Conditions.Conditions, declared.action.Hindrance.Hindrance, declared.action.Hindrance.TheVariants.Precondition, declared.action.Hindrance.TheVariants.Conflict}
+use Rattle.step.specs.{Conditions.Hold, Conditions.no_conflict, Conditions.LeftOut, Conditions.AllLeftOut, Conditions.LeavesNone, Actions.applicable_bit, Actions.GoesOn, Actions.IsHindered}
 use Rattle.step.proofs.Conflicts.{sure-yes, flag-and, flag_true, flag-false}
 
 -- lane 0 alone
@@ -40,7 +40,7 @@ module _ (c : Cases) (a : Action) (alive : ℕ) (v : Value) (x : (j : ℕ) → j
       }
 
   -- some do, and all of them are in conflict
-  pub obeys-conflict : 0 < met → (f : ℕ) → AllLeftOut c a met f → IsHindered c a alive c (Conflict f)
+  obeys-conflict : 0 < met → (f : ℕ) → AllLeftOut c a met f → IsHindered c a alive c (Conflict f)
   obeys-conflict some f W =
       record {
         kept = refl;
@@ -52,6 +52,10 @@ module _ (c : Cases) (a : Action) (alive : ℕ) (v : Value) (x : (j : ℕ) → j
             let bit : lane_bit 0 v.sure ≡ 1 = sym (lane-0 alive v.sure one) ∙ ap (lane_bit 0) only ∙ low_bit 1 in
             (flag_true _ (λ z. omega (arith, bit, z, holds-bit 0 (omega arith))), W.lowest only);
       }
+
+  pub obeys-left : 0 < met → (h : Hindrance) → LeavesNone c a met h → IsHindered c a alive c h
+  obeys-left some Precondition W = absurd W
+  obeys-left some (Conflict f) W = obeys-conflict some f W
 
   -- some go on
   pub obeys-some :

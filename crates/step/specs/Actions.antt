@@ -1,10 +1,8 @@
 -- What obeying an action answers.
-use Rattle.std.specs.Prelude.{◌≡◌, Bool, true, false, List, ℕ, ◌≤◌, ◌<◌, min, Result, Ok, Err, Option, Some, None}
+use Rattle.std.specs.Prelude.{◌≡◌, true, false, List, ℕ, ◌≤◌, ◌<◌, min, Result, Ok, Err}
 use Rattle.model.specs.Kleene.{Kleene, three}
-use Rattle.model.specs.Formula.{Formula, Formulas}
-use Rattle.model.specs.FormulaBytes.{member_count}
 use Rattle.model.specs.Action.{Action, exclusive, applicable, step}
-use Rattle.model.specs.Run.{holds_in, lowest_false, first_false}
+use Rattle.model.specs.Run.{holds_in, lowest_false}
 use Rattle.model.specs.Case.{flag}
 use Rattle.model.specs.Planes.{lane_bit}
 use Rattle.cases.specs.declared.cases.Cases.{Cases}
@@ -37,8 +35,3 @@ pub record IsHindered (c : Cases) (a : Action) (alive : ℕ) (d : Cases) (h : Hi
 abbrev pub Obeys : Cases → Action → ℕ → Cases → Result ℕ Hindrance → Type 0
 Obeys c a alive d (Ok lanes) = GoesOn c a alive d lanes
 Obeys c a alive d (Err h) = IsHindered c a alive d h
-
--- the first of them that does not hold, or that all do
-abbrev pub IsFirstFalse : (Formula → Bool) → Formulas → Option ℕ → Type 0
-IsFirstFalse holds ms None = first_false holds ms ≡ member_count ms
-IsFirstFalse holds ms (Some i) = (i < member_count ms) × (i ≡ first_false holds ms)

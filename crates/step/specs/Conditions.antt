@@ -11,6 +11,8 @@ use Rattle.cases.specs.declared.cases.Cases.{Cases}
 use Rattle.cases.specs.declared.value.Value.{Value}
 use Rattle.cases.specs.Cases.{case_of, value_at}
 use Rattle.step.specs.declared.conditions.Conditions.{Conditions}
+use Rattle.step.specs.declared.action.Hindrance.{Hindrance}
+use Rattle.step.specs.declared.action.Hindrance.TheVariants.{Precondition, Conflict}
 
 -- the entry numbered i
 abbrev pub entry_at : List Effect → ℕ → Effect
@@ -54,6 +56,10 @@ pub record AllLeftOut (cs : Cases) (a : Action) (alive f : ℕ) : Type 0 where
   pub bits : (j : ℕ) → j < 64 → min (lane_bit j alive) (no_conflict cs a j) ≡ 0
   pub lowest : alive ≡ 1 → f ≡ lowest_false cs.facts (exclusive three a (case_of cs 0))
 
-abbrev pub Finds : Cases → Action → ℕ → Conditions → Result ℕ ℕ → Type 0
+abbrev pub LeavesNone : Cases → Action → ℕ → Hindrance → Type 0
+LeavesNone cs a alive Precondition = ⊥
+LeavesNone cs a alive (Conflict f) = AllLeftOut cs a alive f
+
+abbrev pub Finds : Cases → Action → ℕ → Conditions → Result ℕ Hindrance → Type 0
 Finds cs a alive c (Ok lanes) = LeftOut cs a alive c lanes
-Finds cs a alive c (Err f) = AllLeftOut cs a alive f
+Finds cs a alive c (Err h) = LeavesNone cs a alive h

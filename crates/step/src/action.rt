@@ -11,7 +11,7 @@ use fields::Action;
 #[derive(Clone, Copy)]
 pub enum Hindrance {
     Precondition,
-    Conflict { fact: usize },
+    Conflict(usize),
 }
 
 // Obeys the action in those lanes of `alive` in which it is applicable, and answers these. Where there is none, the cases stay as they are; and
@@ -31,11 +31,7 @@ pub fn obey(
     if met == 0 {
         return Err(Hindrance::Precondition);
     }
-    match conditions.find(action, cases, met) {
-        Err(fact) => Err(Hindrance::Conflict { fact }),
-        Ok(lanes) => {
-            conditions.settle(cases);
-            Ok(lanes)
-        }
-    }
+    let lanes = conditions.find(action, cases, met)?;
+    conditions.settle(cases);
+    Ok(lanes)
 }

@@ -6,6 +6,7 @@ ghost use Rattle.model.specs.Limits.{max_facts, max_effects};
 ghost use Rattle.model.specs.FormulaBytes.{is_literal};
 ghost use Rattle.model.specs.Planes.{lane_bit};
 
+use crate::action::Hindrance;
 use cases::{Cases, Value, evaluate};
 use fields::Action;
 use formula::Literal;
@@ -64,9 +65,9 @@ impl Conditions {
     }
 
     // The entries of this action, with the values of their conditions; and the lanes of `alive` in which no fact would be set and cleared at once:
-    // each has a condition that reads no. Where none is left, the fact at which the last one fell out; for one lane that is the lowest.
+    // each has a condition that reads no. Where none is left, the conflict at which the last one fell out; for one lane its fact is the lowest.
     #[inline(always)]
-    pub fn find(&mut self, action: Action, cases: &Cases, alive: u64) -> Result<u64, usize>
+    pub fn find(&mut self, action: Action, cases: &Cases, alive: u64) -> Result<u64, Hindrance>
         requires same { action.effects.facts ≡ cases.now.facts }
         requires some { 0 < alive }
         ensures facts { self.new.facts ≡ cases.now.facts }
@@ -88,7 +89,7 @@ impl Conditions {
                     let exclusive = !(self.condition(i) & value);
                     lanes &= exclusive.sure;
                     if lanes == 0 {
-                        return Err(fact as usize);
+                        return Err(Hindrance::Conflict(fact as usize));
                     }
                 }
             }

@@ -1,12 +1,12 @@
 // Which part of an action keeps it from being applicable, in the case of lane 0. It is worked out for an answer alone: no look pays for it.
-ghost use Rattle.std.specs.Prelude.{◌≡◌, false};
+ghost use Rattle.std.specs.Prelude.{◌≡◌};
 ghost use Rattle.model.specs.Kleene.{three};
 ghost use Rattle.model.specs.Run as run;
 ghost use Rattle.model.specs.Answers.{part};
 ghost use Rattle.formula.specs.Views as views;
 ghost use Rattle.fields.specs.Actions as fields;
 ghost use Rattle.cases.specs.Cases.{case_of};
-ghost use Rattle.step.specs.Actions.{Hinders, IsFirstFalse};
+ghost use Rattle.step.specs.Actions.{Hinders};
 
 use crate::action::Hindrance;
 use cases::{Cases, evaluate_first};
@@ -14,29 +14,27 @@ use fields::Action;
 use formula::{Formula, Members, Next};
 use model::{Group, Part};
 
-// Of the members, the first that is false, from 0.
-fn first_false(members: Members, cases: &Cases) -> Option<usize>
-    ensures { IsFirstFalse (run.holds_in three (case_of cases.now 0)) (views.members members.entry) result }
+// Of the members, how many hold before the first that is false.
+fn first_false(members: Members, cases: &Cases) -> usize
+    ensures { result ≡ run.first_false (run.holds_in three (case_of cases.now 0)) (views.members members.entry) }
 {
     let mut rest = members.formulas;
-    for i in 0..members.count as usize {
-        let member = evaluate_first(rest, cases);
-        let holds = member.value().is_yes(0);
+    for i in 0..members.count {
+        let holds = evaluate_first(&mut rest, cases).is_yes(0);
         if !holds {
-            return Some(i);
+            return i as usize;
         }
-        rest = member.rest;
     }
-    None
+    members.count as usize
 }
 
-// Of a formula that does not hold, the first false member if it is an "all"; otherwise 0.
+// The first false member of an "all"; 0 of any other formula.
 fn unmet_member(formula: Formula, cases: &Cases) -> usize
-    ensures { let holds = run.holds_in three (case_of cases.now 0) in holds (views.formula formula.entry) ≡ false → result ≡ run.unmet holds (views.formula formula.entry) }
+    ensures { result ≡ run.unmet (run.holds_in three (case_of cases.now 0)) (views.formula formula.entry) }
 {
     match formula.alone().next() {
         Next::Group(members) => match members.group {
-            Group::All => first_false(members, cases).unwrap_or(0),
+            Group::All => first_false(members, cases),
             Group::Any => 0,
         },
         Next::Literal(..) => 0,
@@ -49,6 +47,6 @@ pub fn hindering_part(action: Action, cases: &Cases, hindrance: Hindrance) -> Pa
 {
     match hindrance {
         Hindrance::Precondition => Part::Member(unmet_member(action.precondition, cases)),
-        Hindrance::Conflict { fact } => Part::Fact(fact),
+        Hindrance::Conflict(fact) => Part::Fact(fact),
     }
 }

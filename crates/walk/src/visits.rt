@@ -3,7 +3,7 @@
 ghost use Rattle.std.specs.Prelude.{ℕ, ◌≡◌, ◌+◌, ◌*◌, ◌^◌, ◌≤◌, ◌<◌};
 ghost use Rattle.model.specs.Walk.{opened, walked};
 ghost use Rattle.blocks.specs.Values.{task as task_of};
-ghost use Rattle.walk.specs.Lanes.{LevelsOf, OnLevel};
+ghost use Rattle.walk.specs.Lanes.{OnLevel};
 ghost use Rattle.walk.specs.Nodes.{limits_of, look_in, walk_at, At};
 ghost use Rattle.walk.specs.Walks.{Walks};
 
@@ -24,13 +24,6 @@ pub struct Closed {
 pub enum Stopped {
     OutOfVisits,
     Failed { state: u64, left: u64 },
-}
-
-// The levels of a block below a case that leaves so many facts open.
-fn levels_of(left: usize) -> usize
-    ensures { LevelsOf left result }
-{
-    left.min(5)
 }
 
 // The walk from a block's own case, lane 1, at which the tables stand, and do again after it.
@@ -121,7 +114,7 @@ fn walk_below<L: Lines>(
     let above = block.own_case().in_table(problem.limits.width);
     let here = case.in_table(problem.limits.width);
     tables.go(block.first, above, here);
-    let levels = levels_of(problem.facts as usize - case.k);
+    let levels = (problem.facts as usize - case.k).min(5);
     let looks = tables.look(block.task, case.k, levels);
     let below = Block {
         task: block.task,

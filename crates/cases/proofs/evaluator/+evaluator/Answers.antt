@@ -1,59 +1,51 @@
-use Rattle.std.proofs.Common.{arith, ap, refl, sym, ◌∙◌}
-use borrow.Author.Tests.{not-true}
+use Rattle.std.proofs.Common.{arith, refl, sym, ◌∙◌, ◌≡◌, ◌+◌, suc}
 use Rattle.model.proofs.Laws.Truth.{and-true}
-use Rattle.formula.specs.Decoding.{after}
 use Rattle.formula.specs.Views.{formulas}
 use Rattle.formula.proofs.Sizes.{members-fewer}
-use Rattle.cases.proofs.Evaluating.{begun-more, begun-ends, begun-decided, left-fewer, fewer-after, literal-first}
+use Rattle.cases.specs.Cases.{case_of}
+use Rattle.cases.proofs.Evaluating.{decided-first, eval-none, joined-more, after-more, after-some, fewer-after, literal-first}
 use Rattle.cases.proofs.evaluator.+evaluator.Goals as goal
 
-pub join_members-loop-left-init : goal.join_members-loop-left-init
-join_members-loop-left-init t c = (refl, omega arith, λ m G. G)
+pub join_first-loop-init : goal.join_first-loop-init
+join_first-loop-init t c = (λ j l. c.unit-value.ensures j l ∙ sym (eval-none (case_of c.args.cases.now j) _), refl)
 
-pub join_members-returns-then-whole-is_decided : goal.join_members-returns-then-whole-is_decided
-join_members-returns-then-whole-is_decided t c =
-    let (w, e) = and-true _ _ c.if-whole-is_decided.true in
-    let (same, fewer, going) = c.loop-left.invariant in
-    λ m G. begun-decided (going m G) _ _ (not-true _ w) (same ∙ c.requires) (c.is_decided.ensures e) c.of.ensures.value
-
-pub join_members-group-met-requires : goal.join_members-group-met-requires
-join_members-group-met-requires t c = omega (arith, c.loop-left.invariant.1, members-fewer _ _ _ _ c.in-Group.ensures)
-
-pub join_members-loop-left-preserved-in-Literal : goal.join_members-loop-left-preserved-in-Literal
-join_members-loop-left-preserved-in-Literal t c =
-    let e = c.in-Literal.ensures in
-    let past = c.past_first-left.ensures in
-    let (same, fewer, going) = c.loop-left.invariant in
-    let rest = past.formulas ∙ ap (after 1) (sym e) in (
-      past.group ∙ same,
-      rw rest (omega (arith, fewer, fewer-after (formulas c.loop-left.left.formulas))),
-      λ m G.
-          begun-more (going m G) _ _ (omega arith) (same ∙ c.requires) (literal-first c.args.c.now _ e c.value.ensures) c.join-value.ensures past.group past.count rest,
+pub join_first-evaluate_first-requires : goal.join_first-evaluate_first-requires
+join_first-evaluate_first-requires t c =
+    let all = formulas c.args.formulas.now in
+    let left = c.loop.invariant.1 in (
+      rw left (omega (arith, fewer-after c.loop.counter all)),
+      rw left (after-some c.loop.counter all (omega (arith, c.loop-test.true, c.requires))),
     )
 
-pub join_members-loop-left-preserved : goal.join_members-loop-left-preserved
-join_members-loop-left-preserved t c =
-    let e = c.in-Group.ensures in
-    let met = c.group-met.ensures in
-    let past = c.past_first-left-in-Group.ensures in
-    let (same, fewer, going) = c.loop-left.invariant in
-    let rest = past.formulas ∙ met.rest refl ∙ ap (after 1) (sym e) in (
-      past.group ∙ same,
-      rw rest (omega (arith, fewer, fewer-after (formulas c.loop-left.left.formulas))),
-      λ m G.
-          begun-more (going m G) _ _ (omega arith) (same ∙ c.requires) (rw e (λ j l. c.value-in-Group.ensures j l ∙ met.value j l)) c.join-value-in-Group.ensures past.group past.count
-          rest,
+pub join_first-returns-then-whole-is_decided-clause-value : goal.join_first-returns-then-whole-is_decided-clause-value
+join_first-returns-then-whole-is_decided-clause-value t c =
+    let (wanted, decided) = and-true _ _ c.if-whole-is_decided.true in
+    let is = c.is_decided.ensures decided in
+    let value = c.loop.invariant.0 in
+    λ j l.
+    is j l ∙
+    sym
+    (decided-first (case_of c.args.cases.now j) _ c.loop.counter c.args.count (formulas c.args.formulas.now) (omega (arith, c.loop-test.true))
+    (sym (value j l) ∙ is j l))
+
+pub join_first-loop-preserved : goal.join_first-loop-preserved
+join_first-loop-preserved t c =
+    let i = c.loop.counter in
+    let all = formulas c.args.formulas.now in
+    let (value, left) = c.loop.invariant in
+    let next = c.evaluate_first.ensures in
+    let s : i + 1 ≡ suc i = omega arith in (
+      λ j l.
+          c.join-value.ensures j l ∙ rw (s, value j l, next.value j l, left)
+          (sym (joined-more (case_of c.args.cases.now j) _ i all (omega (arith, c.loop-test.true, c.requires)))),
+      next.rest ∙ rw (s, left) (sym (after-more i all)),
     )
 
-pub join_members-returns : goal.join_members-returns
-join_members-returns t c = λ m G. begun-ends (c.loop-left.invariant.2 m G) _ _ (omega arith) c.of-2.ensures.value c.of-2.ensures.rest
+pub evaluate_first-all-value-requires : goal.evaluate_first-all-value-requires
+evaluate_first-all-value-requires t c = (omega (arith, members-fewer _ _ _ _ c.in-Group.ensures), c.in-Group.members.few)
 
-pub join_group-join_all-requires : goal.join_group-join_all-requires
-join_group-join_all-requires t c =
-    let b = c.in-Before.ensures in
-    (omega (arith, left-fewer b), b.group ∙ c.requires ∙ c.in-All-kind.is)
+pub evaluate_first-any-value-requires : goal.evaluate_first-any-value-requires
+evaluate_first-any-value-requires t c = (omega (arith, members-fewer _ _ _ _ c.in-Group.ensures), c.in-Group.members.few)
 
-pub join_group-join_any-requires : goal.join_group-join_any-requires
-join_group-join_any-requires t c =
-    let b = c.in-Before.ensures in
-    (omega (arith, left-fewer b), b.group ∙ c.requires ∙ c.in-Any.is)
+pub evaluate_first-returns-in-Literal-clause-value : goal.evaluate_first-returns-in-Literal-clause-value
+evaluate_first-returns-in-Literal-clause-value t c = literal-first (case_of c.args.cases.now) _ c.in-Literal.ensures c.value.ensures

@@ -7,6 +7,6 @@ returns c =
     let a = c.args in
     let m = (a.b + 64) % 128 in
     record {
-      size = length-with_literal a.words.now a.b m a.some a.sure (omega arith) c.requires refl;
-      is = table-with a.words.now a.b m a.some a.sure (omega arith) c.requires refl;
+      size = length-with_literal a.words.now a.b m a.value.some a.value.sure (omega arith) c.requires refl;
+      is = table-with a.words.now a.b m a.value.some a.value.sure (omega arith) c.requires refl;
     }

@@ -12,16 +12,16 @@ use Rattle.explain.proofs.Texts.{text-next}
 use Rattle.explain.proofs.formulas.push_false_members.Goals as goal
 use Rattle.explain.proofs.formulas.push_false_members.Goals.{then-not-holds+in_ok-push_line, else-not-holds}
 
-pub evaluate_first-member-requires : goal.evaluate_first-member-requires
-evaluate_first-member-requires c = some-left _ _ _ c.loop.invariant.0 c.loop-test.true
+pub evaluate_first-requires : goal.evaluate_first-requires
+evaluate_first-requires c = some-left _ _ _ c.loop.invariant.0 c.loop-test.true
 
 pub loop-preserved : goal.loop-preserved
 loop-preserved c =
     let n = c.args.members.count in
     let rest = formulas c.loop.rest in
     let holds = holds_in three (case_of c.args.cases.now 0) in
-    let member = c.evaluate_first-member.ensures in
-    let is : c.is_yes-holds.result ≡ holds (head rest) = c.is_yes-holds.ensures ∙ ap is_yes (c.value.ensures 0 (omega arith) ∙ member.value 0 (omega arith)) in
+    let member = c.evaluate_first.ensures in
+    let is : c.is_yes-holds.result ≡ holds (head rest) = c.is_yes-holds.ensures ∙ ap is_yes (member.value 0 (omega arith)) in
     let next = members-next (names c.args.names) holds n c.loop.counter rest c.loop.invariant.0 c.loop-test.true in (
       rw member.rest (enough-left _ _ _ c.loop.invariant.0 c.loop-test.true),
       elim c.if-not-holds.branch [

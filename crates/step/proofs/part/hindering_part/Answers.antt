@@ -4,7 +4,7 @@ use Rattle.step.proofs.part.hindering_part.Goals as goal
 
 pub returns-in-Precondition : goal.returns-in-Precondition
 unfolding part_of
-returns-in-Precondition c = λ h. let no = rw c.in-Precondition.is at h in rw no (ap at_member (c.unmet_member.ensures no))
+returns-in-Precondition c = λ h. let no = rw c.in-Precondition.is at h in rw no (ap at_member c.unmet_member.ensures)
 
 pub returns-in-Conflict : goal.returns-in-Conflict
 unfolding part_of

@@ -131,9 +131,9 @@ pub walk_below-invariant_of-below : goal.walk_below-invariant_of-below
 walk_below-invariant_of-below g t c =
     let k = edge-k c.args.block.now _ c.requires.edge _ (c.case-case.ensures _ c.requires.edge) in
     record {
-      some = c.levels_of-levels.ensures.some (omega (arith, k, c.requires.some));
-      few = c.levels_of-levels.ensures.few;
-      inside = omega (arith, c.levels_of-levels.ensures.inside, k, c.requires.some);
+      some = omega (arith, k, c.requires.some, c.min-levels.ensures);
+      few = omega (arith, c.min-levels.ensures);
+      inside = omega (arith, c.min-levels.ensures, k, c.requires.some);
       begins = edge-begins c.args.block.now _ c.requires.edge _ (c.case-case.ensures _ c.requires.edge);
       numbers = edge-numbers c.args.block.now _ c.requires.edge _ (c.case-case.ensures _ c.requires.edge);
       looked =
