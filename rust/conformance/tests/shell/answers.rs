@@ -190,22 +190,23 @@ fn follow(version: &Version) {
 }
 
 fn run(version: &Version) {
-    for example in Example::all("run", version) {
-        let Example {
-            problem,
-            plan,
-            task,
-            ..
-        } = &example;
-        for state in example.states() {
-            let line = format!("run problem plan {}", marks(&task.problem, state));
-            example.in_each_manner(&line, |manner| manner.run(problem, plan, state));
-        }
-    }
+    from_each_state("run", version, |manner, problem, plan, state| {
+        manner.run(problem, plan, state)
+    });
 }
 
 fn facts(version: &Version) {
-    for example in Example::all("facts", version) {
+    from_each_state("facts", version, |manner, problem, plan, state| {
+        manner.facts(problem, plan, state)
+    });
+}
+
+/// What a command answers from a state.
+type FromState = fn(&Manner<'_>, &[u8], &[u8], u64) -> Said;
+
+/// A command that takes a state, from several states of each example.
+fn from_each_state(command: &str, version: &Version, answer: FromState) {
+    for example in Example::all(command, version) {
         let Example {
             problem,
             plan,
@@ -213,8 +214,8 @@ fn facts(version: &Version) {
             ..
         } = &example;
         for state in example.states() {
-            let line = format!("facts problem plan {}", marks(&task.problem, state));
-            example.in_each_manner(&line, |manner| manner.facts(problem, plan, state));
+            let line = format!("{command} problem plan {}", marks(&task.problem, state));
+            example.in_each_manner(&line, |manner| answer(manner, problem, plan, state));
         }
     }
 }
