@@ -1,5 +1,5 @@
 -- The lanes of a block: the parts of a lane are that lane with its next fact fixed, and the code's words show them. Assumes nothing.
-use Rattle.std.proofs.Common.{◌≡◌, refl, sym, ap, ◌∙◌, Bool, true, cond, ◌&&◌, List, [], ◌∷◌, ℕ, zero, suc, ◌+◌, ◌*◌, ◌-◌, ◌^◌, ◌≤◌, ◌<◌, arith, length, get_or, set, length-set, get_or-set_same, get_or-set_other, set-set, eqb, eqb-true, eq-eqb, ne_eqb}
+use Rattle.std.proofs.Common.{◌≡◌, refl, ap, ◌∙◌, Bool, true, cond, ◌&&◌, List, [], ◌∷◌, ℕ, zero, suc, ◌+◌, ◌*◌, ◌-◌, ◌^◌, ◌≤◌, ◌<◌, arith, length, get_or, set, length-set, get_or-set_same, get_or-set_other, set-set, eqb, eqb-true, eq-eqb, ne_eqb}
 use native.Mathlib.Decide.{ℕ_discrete}
 use lib.Seq.{set-get_or, set_comm}
 use Rattle.model.specs.Kleene.{Kleene, No, Unknown, Yes, known}
@@ -7,7 +7,7 @@ use Rattle.model.specs.Action.{every}
 use Rattle.model.proofs.Laws.Conflicts.{every-at}
 use Rattle.model.specs.Planes.{lane_bit, some_bit, sure_bit, InLanes}
 use Rattle.model.proofs.Laws.Truth.{and-true}
-use Rattle.cases.specs.Facts.{fact_of, with_facts}
+use Rattle.cases.specs.Facts.{with_facts}
 use Rattle.cases.specs.Blocks.{path_of, level_value, block_case}
 use Rattle.cases.proofs.Facts.{Outside, with_facts-is}
 
@@ -140,15 +140,3 @@ module _ (root : List Kleene) (k : ℕ) where
       with_facts-is k (k + d) (λ f. level_value (f - k) j) root (block_case root k d j) (length-block root k d j)
       (λ g l a b. block-inside d j g h a b)
       (λ g l out. block-outside root k d j g out)
-
--- ---- from a block to one of its lanes
-
-pub block-path :
-    (root : List Kleene) (k d to lane j : ℕ) → to ≡ k + d →
-    with_facts k to (fact_of (block_case root k d lane)) (block_case root k d j) ≡ block_case root k d lane
-block-path root k d to lane j e =
-    with_facts-is k to _ (block_case root k d j) (block_case root k d lane)
-    (length-block root k d lane ∙ sym (length-block root k d j)) (λ g l a b. refl)
-    (λ g l out.
-    let o : Outside k (k + d) g = λ a b. out a (omega arith) in
-    block-outside root k d lane g o ∙ sym (block-outside root k d j g o))

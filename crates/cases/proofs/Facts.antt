@@ -1,5 +1,5 @@
 -- Facts that change, one after the other. Assumes nothing.
-use Rattle.std.proofs.Common.{◌≡◌, refl, sym, ap, ◌∙◌, cond, List, ℕ, suc, ◌+◌, ◌-◌, ◌/◌, ◌^◌, ◌≤◌, ◌<◌, max, arith, length, get_or, set, replicate, length-set, ext_get_or, get_or-set_same, get_or-set_other, shr-shr, eqb, ltb, lt-ltb, le-ltb}
+use Rattle.std.proofs.Common.{◌≡◌, refl, sym, ap, ◌∙◌, cond, List, ℕ, suc, ◌+◌, ◌-◌, ◌≤◌, ◌<◌, max, arith, length, get_or, set, replicate, length-set, ext_get_or, get_or-set_same, get_or-set_other, eqb, ltb, lt-ltb, le-ltb}
 use native.Mathlib.Decide.{dec_le, dec_lt, ℕ_discrete}
 use lib.ListN.{length-replicate, get_or-replicate, get_or-eq_default}
 use Rattle.model.specs.Kleene.{Kleene, No, Unknown, known}
@@ -128,14 +128,6 @@ module _ {changes : ℕ → Value → Value → Type 0} {facts : ℕ} {old : ℕ
 pub word-bit : (word f : ℕ) → known (eqb (lane_bit (64 - 1 - f) word) 1) ≡ bits_of word f
 unfolding bit lane_bit
 word-bit word f = let e : 64 - suc f ≡ 64 - 1 - f = omega arith in rw e refl
-
--- ---- the common start of two words
-
-pub alike-bits : (v v' m f : ℕ) → m ≤ 64 → v / 2 ^ (64 - m) ≡ v' / 2 ^ (64 - m) → f < m → bit 64 v f ≡ bit 64 v' f
-unfolding bit
-alike-bits v v' m f h e l =
-    let d : 64 - suc f ≡ (64 - m) + (m - suc f) = omega arith in
-    rw (d, ← shr-shr v (64 - m) (m - suc f), ← shr-shr v' (64 - m) (m - suc f), e)
 
 -- ---- from one case to another
 

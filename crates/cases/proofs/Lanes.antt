@@ -9,7 +9,7 @@ use Rattle.model.proofs.Laws.Agreement.{by_row}
 use Rattle.model.proofs.Laws.FormulaCodec.{literal-got}
 use Rattle.model.specs.Action.{tabulate}
 use Rattle.model.specs.Planes.{lane_bit, some_bit, sure_bit, InLane, InLanes, Table, ones}
-use Rattle.model.proofs.Laws.Planes.{bit-small, bit-zero, bit-ones, all-no, all-unknown, lane-both, lane-either, lane-denied, literal-fact, table-fact, table_same}
+use Rattle.model.proofs.Laws.Planes.{bit-small, bit-zero, bit-ones, all-unknown, lane-both, lane-either, lane-denied, literal-fact, table-fact, table_same}
 use Rattle.model.proofs.Laws.Tabulate.{length-tabulate, get_d_tabulate, tabulate-below}
 use Rattle.cases.specs.Words.{SetsLiteral}
 use Rattle.cases.specs.Lanes.{value_in, case_in}
@@ -120,9 +120,6 @@ value-lanes h j l = value-in _ (h.lane j l)
 
 pub consistent-lanes : {some sure : ℕ} {t : ℕ → Kleene} → InLanes some sure t → (j : ℕ) → j < 64 → lane_bit j sure ≤ lane_bit j some
 consistent-lanes h j l = consistent-in _ (h.lane j l)
-
-pub no-lanes : InLanes 0 0 (λ j. No)
-no-lanes = record { lane = λ j l. all-no }
 
 pub unknown-lanes : InLanes ones 0 (λ j. Unknown)
 unknown-lanes = record { lane = λ j l. all-unknown l }

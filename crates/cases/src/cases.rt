@@ -143,20 +143,9 @@ impl Cases {
         self.change_facts(from, to, |_, _| Value::unknown());
     }
 
-    // The case `from` of every lane gives way to `to`; only the facts past their common start are touched.
-    pub fn set_case(&mut self, from: Case, to: Case)
-        requires from { from.fixed ≤ self.old.facts }
-        requires to { to.fixed ≤ self.old.facts }
-        ensures facts { self.new.facts ≡ self.old.facts }
-        ensures cases { (j : ℕ) → j < 64 → case_of self.old j ≡ values_of self.old.facts from
-            → case_of self.new j ≡ values_of self.old.facts to }
-    {
-        self.set_case_past(from.common(to), from, to);
-    }
-
-    // The same where it is known how many facts both fix alike.
+    // The case `from` of every lane gives way to `to`, which fixes so many first facts alike: only those after them are touched.
     #[inline(always)]
-    pub fn set_case_past(&mut self, common: usize, from: Case, to: Case)
+    pub fn set_case(&mut self, common: usize, from: Case, to: Case)
         requires from { from.fixed ≤ self.old.facts }
         requires to { to.fixed ≤ self.old.facts }
         requires common { Common from to common }

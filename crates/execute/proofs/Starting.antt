@@ -10,7 +10,7 @@ use Rattle.runs.proofs.States.{state-run}
 
 module _ (T : Task) (s : ℕ) where
   pub answers-run : (c : Cases) → HasState T s c → (o : Outcome) → outcome o ≡ run three T.facts T.goal T.plan 0 (case_of c 0) → answered (outcome o) ≡ state_answer T s
-  answers-run c H o e = rw (H.is, e ∙ state-run T s c H) refl
+  answers-run c H o e = rw (H.is, e ∙ state-run T s c H.cases) refl
 
 module _ (problem plan : List ℕ) (s : ℕ) where
   pub run-refused : (y : Refusal) → read_task (limits_of problem) problem plan ≡ refusal y → refusal y ≡ run_state (limits_of problem) problem plan s

@@ -1,10 +1,10 @@
 -- Following one line. Assumes nothing.
-use Rattle.std.proofs.Common.{◌≡◌, refl, sym, ap, ap₂, ◌∙◌, Bool, true, false, not, IsTrue, ◌↔◌, List, ℕ, zero, suc, ◌+◌, ◌-◌, ◌^◌, ◌≤◌, ◌<◌, arith, eqb, eq-eqb, ne_eqb, Option, None, Some}
+use Rattle.std.proofs.Common.{◌≡◌, refl, sym, ap, ap₂, ◌∙◌, Bool, true, false, not, IsTrue, ◌↔◌, List, ℕ, zero, suc, ◌+◌, ◌-◌, ◌/◌, ◌^◌, ◌≤◌, ◌<◌, arith, shr-shr, eqb, eq-eqb, ne_eqb, Option, None, Some}
 use Rattle.std.proofs.lemmas.Bool.{true≢false}
 use Rattle.model.specs.Kleene.{Kleene, three}
 use Rattle.model.specs.Formula.{eval}
 use Rattle.model.specs.Run.{run}
-use Rattle.model.specs.Case.{case_of, Task}
+use Rattle.model.specs.Case.{bit, case_of, Task}
 use Rattle.model.specs.Answer.{Answer, refused, answered}
 use Rattle.model.specs.Walk as model
 use Rattle.model.specs.Walk.{kind_number, look_of, look_at}
@@ -21,6 +21,14 @@ use Rattle.runs.specs.declared.lanes.Looks.{Looks}
 use Rattle.runs.specs.Looks.{kind_look, look_bits, LooksAt}
 use Rattle.lines.specs.Lines.{form_fault, with_fault, checked}
 use Rattle.follow.specs.Follows.{line_answer}
+
+-- ---- the common start of two words
+
+pub alike-bits : (v v' m f : ℕ) → m ≤ 64 → v / 2 ^ (64 - m) ≡ v' / 2 ^ (64 - m) → f < m → bit 64 v f ≡ bit 64 v' f
+unfolding bit
+alike-bits v v' m f h e l =
+    let d : 64 - suc f ≡ (64 - m) + (m - suc f) = omega arith in
+    rw (d, ← shr-shr v (64 - m) (m - suc f), ← shr-shr v' (64 - m) (m - suc f), e)
 
 -- ---- a test that says no
 

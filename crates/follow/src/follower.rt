@@ -1,15 +1,31 @@
 // A follower of case lists: it goes from line to line, and knows what the lines so far cover together.
 ghost use Rattle.std.proofs.Props.{props};
 ghost use Rattle.std.specs.Prelude.{ℕ, ◌≡◌, ◌<◌, ◌≤◌};
-ghost use Rattle.cases.specs.Cases.{case_of, values_of};
+ghost use Rattle.cases.specs.Cases.{Common, case_of, values_of};
 
 use crate::covered::Covered;
 use blocks::Task;
 use cases::{Case, Cases, word_of};
 use lines::ListReader;
 use model::{Fault, Refusal};
-use runs::look_beside;
+use runs::{Looks, look, reached_lanes, start_lanes};
 use step::Conditions;
+
+// How many facts two cases fix alike before they part. It is sought from the far end: from one line of a list to the next few facts change.
+#[inline(always)]
+fn fixed_alike(from: Case, to: Case) -> usize
+    requires from { from.fixed ≤ 64 }
+    requires to { to.fixed ≤ 64 }
+    ensures { Common from to result }
+{
+    for fixed in (1..from.fixed.min(to.fixed) + 1).rev() {
+        let past = 64 - fixed;
+        if from.word >> past == to.word >> past {
+            return fixed;
+        }
+    }
+    0
+}
 
 // The case of the last line stands in every lane of `cases`: from one line to the next only the facts in which their cases differ are
 // touched. The plan is run on a copy of them.
@@ -30,6 +46,7 @@ pub struct Follower<'a> {
 impl<'a> Follower<'a> {
     ghost use Rattle.blocks.specs.Values.{task as task_of};
     ghost use Rattle.lines.specs.Readers.{LineStands, line_here};
+    ghost use Rattle.runs.specs.Looks.{LooksAt};
     ghost use Rattle.follow.specs.Follows.{followed, line_answer};
 
     // Before the first line it stands at the case that fixes no fact, and nothing is covered.
@@ -66,13 +83,30 @@ impl<'a> Follower<'a> {
             fixed: line.k as usize,
             word: word_of(width as usize, line.value),
         };
-        self.cases.set_case(self.case, case);
+        let alike = fixed_alike(self.case, case);
+        self.cases.set_case(alike, self.case, case);
         self.case = case;
-        let looks = look_beside(self.task, &self.cases, &mut self.copy, &mut self.conditions);
+        let looks = self.look();
         if looks.kind(0) != Some(line.kind) {
             return Err(Fault::LineClaim.at(place));
         }
         self.covered = self.covered.with(line, width);
         Ok(())
+    }
+
+    // What a visit finds of the case at which it stands. The plan is run on a copy; with no step to obey none is made.
+    fn look(&mut self) -> Looks
+        ensures task { self.new.task.now ≡ self.old.task.now }
+        ensures covered { self.new.covered ≡ self.old.covered }
+        ensures cases { self.new.cases ≡ self.old.cases }
+        ensures looks { LooksAt (task_of self.old.task.now) (case_of self.old.cases) result }
+    {
+        let task = self.task;
+        if task.steps.len() == 0 {
+            let starts = start_lanes(task.problem, &self.cases);
+            return Looks::of(starts, reached_lanes(task.problem, &self.cases, starts));
+        }
+        self.copy.copy_from(&self.cases);
+        look(task, &mut self.copy, &mut self.conditions)
     }
 }

@@ -1,18 +1,14 @@
 -- The judge's verdict, by the walk of a whole task. Assumes nothing.
-use Rattle.std.proofs.Common.{◌≡◌, refl, sym, ap, ◌∙◌, inl, inr, List, ℕ, ◌-◌, ◌≤◌, arith, Ok, Err}
+use Rattle.std.proofs.Common.{◌≡◌, refl, sym, ap, ◌∙◌, List, ℕ, ◌-◌, ◌≤◌, arith, Ok, Err}
 use Rattle.model.specs.{Limits.limits_of, Answer.Answer, Answer.answered, Case.Task, Case.run_of, Case.IsState}
 use Rattle.model.specs.Walk.{Line, covered, failed, visits, walked, right, wrong}
-use Rattle.model.specs.{Operations.state_answer, Operations.read_task, Operations.line_count, Operations.judge, Answers.refusal, Answers.verdict, declared.Outcome.Outcome}
+use Rattle.model.specs.{Operations.read_task, Operations.line_count, Operations.judge, Answers.refusal, Answers.verdict, declared.Outcome.Outcome}
 use Rattle.model.specs.{declared.Refusal.Refusal, declared.Verdict.TheVariants.Right, declared.Verdict.TheVariants.Wrong, declared.Verdict.TheVariants.Undecided}
 use Rattle.model.specs.Answer as Answer
 use Rattle.model.specs.Answers as Answers
-use Rattle.model.proofs.{Laws.Verdicts.walk-fails-first, Laws.Judging.judged-in, Laws.Judging.judged-out, Laws.Tasks.state-tested}
+use Rattle.model.proofs.{Laws.Verdicts.walk-fails-first, Laws.Judging.judged-in, Laws.Judging.judged-out}
 use Rattle.walk.specs.{declared.visits.Closed.Closed, declared.visits.Stopped.TheVariants.OutOfVisits, declared.visits.Stopped.TheVariants.Failed, Walks.Walks}
 use Rattle.judge.specs.Verdicts.{JudgesTask}
-
--- a state is run
-pub state-run : (T : Task) (x : ℕ) → IsState T x → state_answer T x ≡ answered (run_of T x)
-state-run T x st = elim (state-tested T x) [ inl y ↦ rw y.1 refl | inr y ↦ absurd (y.0 st) ]
 
 -- ---- the verdict
 

@@ -9,8 +9,9 @@ ghost use Rattle.judge.specs.Verdicts.{JudgesTask};
 ghost use Rattle.judge.specs.Promise.{JudgePromised};
 
 use blocks::{Problem, Task};
-use execute::run_task;
 use model::{Outcome, Refusal, Verdict};
+use runs::{cases_of_state, run_of_case};
+use step::Conditions;
 use walk::{Lines, Stopped, Unkept, walk_task};
 
 // How the run of a state ends.
@@ -18,10 +19,8 @@ fn outcome_of(task: &Task, state: u64) -> Outcome
     requires { IsState (task_of task.now) state }
     ensures { outcome result ≡ run_of (task_of task.now) state }
 {
-    match run_task(task, state) {
-        Ok(ended) => ended,
-        Err(_) => unreachable!(),
-    }
+    let cases = cases_of_state(task, state);
+    run_of_case(task, &cases, &mut Conditions::new())
 }
 
 // The verdict on a task, by one walk; what becomes of the lines of a right plan is the caller's choice.

@@ -1,5 +1,5 @@
 -- Runs in lanes, a step at a time: what is left of them, and in which lanes they reach the goal. Assumes nothing.
-use Rattle.std.proofs.Common.{◌≡◌, refl, sym, ap, ◌∙◌, subst, Bool, true, false, List, [], ◌∷◌, ℕ, zero, suc, ◌+◌, ◌-◌, ◌≤◌, ◌<◌, min, length, drop, arith, add-one, drop-cons, bit_and, bit_xor}
+use Rattle.std.proofs.Common.{◌≡◌, refl, sym, ap, ◌∙◌, subst, Bool, true, false, List, [], ◌∷◌, ℕ, zero, suc, ◌+◌, ◌-◌, ◌≤◌, ◌<◌, min, length, drop, arith, add-one, drop-cons, bit_and}
 use native.Mathlib.Decide.{ℕ_discrete}
 use Rattle.model.specs.declared.Part.{Part}
 use Rattle.model.specs.Answers.{part}
@@ -11,7 +11,7 @@ use Rattle.model.specs.Run as Run
 use Rattle.model.specs.Case.{flag, Task}
 use Rattle.model.specs.Walk as Walk
 use Rattle.model.specs.ProblemBytes.{action_at}
-use Rattle.model.specs.Planes.{lane_bit, some_bit, ones}
+use Rattle.model.specs.Planes.{lane_bit, some_bit}
 use Rattle.model.proofs.Laws.Planes.{bit-and, bit-zero, bit-flip, bit-small, low_bit}
 use Rattle.cases.specs.declared.cases.Cases.{Cases}
 use Rattle.cases.specs.declared.value.Value.{Value}
@@ -20,6 +20,7 @@ use Rattle.cases.proofs.Lanes.{lanes-of}
 use Rattle.step.specs.declared.action.Hindrance.{Hindrance}
 use Rattle.step.specs.Actions.{Hinders, GoesOn, IsHindered}
 use Rattle.step.proofs.Conflicts.{sure-yes}
+use Rattle.runs.specs.declared.lanes.Looks.{Looks}
 use Rattle.runs.specs.Looks.{run_from, reached_bit, Reaches, GoalReached, Running, look_bits, LooksAt, NotEmpty, looks_of}
 
 -- ---- bits
@@ -188,3 +189,8 @@ looks-at T case some x r R j l =
     look_is (eval three (case j) T.initial) o _ _
     (bit-flip j some l ∙ ap (λ (w : ℕ). 1 - w) (x j l))
     (R j l ∙ ap (λ (w : ℕ). min w (reached_bit o)) (x j l))
+
+-- what a visit finds of the same cases is the same
+pub looks-same : (T : Task) (case case' : ℕ → List Kleene) (r : Looks) → ((j : ℕ) → j < 64 → case j ≡ case' j) → LooksAt T case r → LooksAt T case' r
+looks-same T case case' r e L j l =
+    L j l ∙ ap (λ (x : List Kleene). Walk.look_of (eval three x T.initial) (run three T.facts T.goal T.plan 0 x)) (e j l)

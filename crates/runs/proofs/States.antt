@@ -12,7 +12,7 @@ use Rattle.model.proofs.Laws.Truth.{and_none}
 use Rattle.model.proofs.Laws.Verdicts.{run-full}
 use Rattle.cases.specs.declared.cases.Cases.{Cases}
 use Rattle.cases.specs.Cases.{case_of}
-use Rattle.runs.specs.States.{HasState}
+use Rattle.runs.specs.States.{InEachLane}
 
 -- ---- whether it is one, by the bits of it that are kept
 
@@ -50,7 +50,7 @@ case-known w n s =
     get_d_tabulate n _ i No m ∙ rw (lt-ltb i n m) (sym (get_or-map known (state_of w n s) i false ∙ ap known (get_d_tabulate n (bit w s) i false m))))
 
 -- its run is that of the case in lane 0
-pub state-run : (T : Task) (s : ℕ) (c : Cases) → HasState T s c → run three T.facts T.goal T.plan 0 (case_of c 0) ≡ run_of T s
+pub state-run : (T : Task) (s : ℕ) (c : Cases) → InEachLane T s c → run three T.facts T.goal T.plan 0 (case_of c 0) ≡ run_of T s
 unfolding run_of
 state-run T s c H =
-    ap (run three T.facts T.goal T.plan 0) (H.cases 0 (omega arith)) ∙ run-full T.width T.facts T.goal T.plan s
+    ap (run three T.facts T.goal T.plan 0) (H 0 (omega arith)) ∙ run-full T.width T.facts T.goal T.plan s

@@ -9,10 +9,14 @@ use Rattle.model.specs.Operations.{is_state_number}
 use Rattle.cases.specs.declared.cases.Cases.{Cases}
 use Rattle.cases.specs.Cases.{case_of}
 
--- s is the number of a state of the task, and every lane has that state, as the case that fixes every fact
+-- every lane has the state numbered s, as the case that fixes every fact
+abbrev pub InEachLane : Task → ℕ → Cases → Type 0
+InEachLane T s c = (j : ℕ) → j < 64 → case_of c j ≡ model.case_of T.width T.facts T.facts s
+
+-- s is the number of a state of the task, and every lane has that state
 pub record HasState (T : Task) (s : ℕ) (c : Cases) : Type 0 where
   pub is : is_state_number T s ≡ true
-  pub cases : (j : ℕ) → j < 64 → case_of c j ≡ model.case_of T.width T.facts T.facts s
+  pub cases : InEachLane T s c
 
 -- "40 if it has a bit past the declared facts"
 abbrev pub StateOf : Task → ℕ → Result Cases Refusal → Type 0

@@ -92,23 +92,3 @@ pub fn look(task: &Task, cases: &mut Cases, conditions: &mut Conditions) -> Look
     let starts = start_lanes(task.problem, cases);
     Looks::of(starts, run_lanes(task, cases, conditions, starts))
 }
-
-// The same of cases that stay: the plan is run on a copy of them. With no step to obey none is made.
-pub fn look_beside(
-    task: &Task,
-    cases: &Cases,
-    copy: &mut Cases,
-    conditions: &mut Conditions,
-) -> Looks
-    requires facts { cases.now.facts ≡ task.now.problem.now.facts }
-    requires same { copy.old.facts ≡ cases.now.facts }
-    ensures facts { copy.new.facts ≡ copy.old.facts }
-    ensures looks { LooksAt (task_of task.now) (case_of cases.now) result }
-{
-    let starts = start_lanes(task.problem, cases);
-    if task.steps.len() == 0 {
-        return Looks::of(starts, reached_lanes(task.problem, cases, starts));
-    }
-    copy.copy_from(cases);
-    Looks::of(starts, run_lanes(task, copy, conditions, starts))
-}

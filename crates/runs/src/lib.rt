@@ -5,6 +5,6 @@ pub mod lanes;
 pub mod outcome;
 pub mod state;
 
-pub use lanes::{Looks, look, look_beside, reached_lanes, start_lanes};
+pub use lanes::{Looks, look, reached_lanes, start_lanes};
 pub use outcome::run_of_case;
-pub use state::state_cases;
+pub use state::{cases_of_state, state_cases};

@@ -13,8 +13,7 @@ use Rattle.cases.specs.Blocks.{block_case}
 use Rattle.blocks.specs.declared.problem.Problem.{Problem}
 use Rattle.runs.specs.Looks.{Reaches, LooksAt, looks_of}
 use Rattle.walk.specs.Lanes.{block_of, first_levels}
-use Rattle.walk.proofs.Walking.{looks-same}
-use Rattle.runs.proofs.Running.{looks-at}
+use Rattle.runs.proofs.Running.{looks-at, looks-same}
 use Rattle.walk.specs.declared.visits.Closed.{Closed}
 use Rattle.walk.specs.declared.visits.Stopped.TheVariants.{OutOfVisits, Failed}
 use Rattle.walk.specs.Walks.{Walks}

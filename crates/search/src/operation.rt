@@ -11,9 +11,10 @@ ghost use Rattle.search.specs.Promise.{SearchPromised};
 use crate::below::try_lengths;
 use crate::plan::Root;
 use blocks::Problem;
+use cases::Cases;
 use model::{Fault, Refusal, Search, ShortPlan};
 use runs::start_lanes;
-use walk::first_lanes;
+use walk::first_levels;
 
 // The plans up to a length: the empty one, and each action before every plan that is a step shorter.
 fn plan_count(actions: u64, longest: u64) -> u64
@@ -33,7 +34,8 @@ fn search_problem(problem: &Problem, longest: usize, grant: u64) -> Search
     requires { longest ≤ max_length }
     ensures { search_end result ≡ search (task_with problem.now) grant (plans_in (problem_of problem.now) longest) 0 }
 {
-    let lanes = first_lanes(problem.facts);
+    let mut lanes = Cases::first_case(problem.facts);
+    lanes.fix_levels(0, first_levels(problem.facts));
     let root = Root {
         problem,
         lanes: &lanes,

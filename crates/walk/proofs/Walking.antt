@@ -1,8 +1,8 @@
 -- The walk through a block, lane after lane: what was walked so far, the walk from the lane that is turned to, and the walks that come after
 -- it are the walk from the block's own case. Assumes nothing.
-use Rattle.std.proofs.Common.{◌≡◌, refl, sym, ap, ◌∙◌, subst, Bool, true, false, cond, ◌⊎◌, inl, inr, List, [], ◌∷◌, ◌++◌, ℕ, zero, suc, ◌+◌, ◌*◌, ◌-◌, ◌/◌, ◌%◌, ◌^◌, ◌≤◌, ◌<◌, arith, pow-suc, eqb, length, length-append, replicate, pow_pos, pow_mono, eq-eqb, ne_eqb, Some, Result, Ok, Err, IsTrue, ◌↔◌}
+use Rattle.std.proofs.Common.{◌≡◌, refl, sym, ap, ◌∙◌, subst, Bool, true, false, cond, ◌⊎◌, inl, inr, List, [], ◌∷◌, ◌++◌, ℕ, zero, suc, ◌+◌, ◌*◌, ◌-◌, ◌/◌, ◌%◌, ◌^◌, ◌≤◌, ◌<◌, arith, pow-suc, eqb, length, length-append, pow_pos, pow_mono, eq-eqb, ne_eqb, Some, Result, Ok, Err, IsTrue, ◌↔◌}
 use native.Mathlib.Decide.{dec_le}
-use Rattle.model.specs.Kleene.{Kleene, Unknown, three}
+use Rattle.model.specs.Kleene.{Kleene, three}
 use Rattle.model.specs.Formula.{eval}
 use Rattle.model.specs.Run.{run}
 use Rattle.model.specs.Case as model-case
@@ -20,6 +20,7 @@ use Rattle.cases.specs.Words.{raised, SameCase}
 use Rattle.cases.proofs.Tables.{raised-bit}
 use Rattle.runs.specs.declared.lanes.Looks.{Looks}
 use Rattle.runs.specs.Looks.{kind_look, LooksAt}
+use Rattle.runs.proofs.Running.{looks-same}
 use Rattle.blocks.specs.declared.task.Task as blocks
 use Rattle.blocks.specs.Values as values
 use Rattle.blocks.proofs.Tasks.{task-width, task-facts, facts-fit}
@@ -81,61 +82,61 @@ module _ (b : block.Block) where
   pub most : T.width ≤ 64
   most = omega (arith, task-width b.task.now, b.task.now.problem.now.sensible.word)
 
-  has-case : (e lane : ℕ) → e ≤ b.levels → OnLevel lane e → HasCase T.width b.task.now.problem.now.facts b.first b.levels b.number n≤w b.few b.inside (block-of-mod T.width b.first b.number b.begins) e lane
-  has-case e lane h o = lane-case T.width b.task.now.problem.now.facts b.first b.levels b.number n≤w b.few b.inside (block-of-mod T.width b.first b.number b.begins) e lane h o
+  has-case : (e lane : ℕ) → e ≤ b.levels → OnLevel lane e → HasCase T.width b.task.now.problem.now.facts b.own.k b.levels b.own.number n≤w b.few b.inside (block-of-mod T.width b.own.k b.own.number b.begins) e lane
+  has-case e lane h o = lane-case T.width b.task.now.problem.now.facts b.own.k b.levels b.own.number n≤w b.few b.inside (block-of-mod T.width b.own.k b.own.number b.begins) e lane h o
 
   small : (e lane : ℕ) → e ≤ b.levels → OnLevel lane e → lane < 64
   small e lane h o = omega (arith, o.to, b.few, pow_mono {i = suc e} {j = 6} (omega (arith, b.few)))
 
   -- a lane has its case
-  in-lane : (e lane : ℕ) → e ≤ b.levels → OnLevel lane e → block_of T.width b.task.now.problem.now.facts b.first b.number b.levels lane ≡ model-case.case_of T.width b.task.now.problem.now.facts (b.first + e) (case_at b e lane).number
+  in-lane : (e lane : ℕ) → e ≤ b.levels → OnLevel lane e → block_of T.width b.task.now.problem.now.facts b.own.k b.own.number b.levels lane ≡ model-case.case_of T.width b.task.now.problem.now.facts (b.own.k + e) (case_at b e lane).number
   in-lane e lane h o = (has-case e lane h o).is
 
-  pub begins-at : (e lane : ℕ) → e ≤ b.levels → OnLevel lane e → (case_at b e lane).number % 2 ^ (T.width - (b.first + e)) ≡ 0
-  begins-at e lane h o = mod-of-block T.width (b.first + e) (case_at b e lane).number (has-case e lane h o).block
+  pub begins-at : (e lane : ℕ) → e ≤ b.levels → OnLevel lane e → (case_at b e lane).number % 2 ^ (T.width - (b.own.k + e)) ≡ 0
+  begins-at e lane h o = mod-of-block T.width (b.own.k + e) (case_at b e lane).number (has-case e lane h o).block
 
-  pub room-at : (e lane : ℕ) → e ≤ b.levels → OnLevel lane e → (case_at b e lane).number + 2 ^ (T.width - (b.first + e)) ≤ 2 ^ T.width
-  room-at e lane h o = number-room T.width b.first b.number e lane (2 ^ T.width) (omega (arith, b.inside, n≤w)) o b.numbers
+  pub room-at : (e lane : ℕ) → e ≤ b.levels → OnLevel lane e → (case_at b e lane).number + 2 ^ (T.width - (b.own.k + e)) ≤ 2 ^ T.width
+  room-at e lane h o = number-room T.width b.own.k b.own.number e lane (2 ^ T.width) (omega (arith, b.inside, n≤w)) o b.numbers
 
-  pub within-block : (e lane : ℕ) → e ≤ b.levels → OnLevel lane e → (case_at b e lane).number < b.number + 2 ^ (T.width - b.first)
+  pub within-block : (e lane : ℕ) → e ≤ b.levels → OnLevel lane e → (case_at b e lane).number < b.own.number + 2 ^ (T.width - b.own.k)
   within-block e lane h o =
       omega (
         arith,
-        number-room T.width b.first b.number e lane (b.number + 2 ^ (T.width - b.first)) (omega (arith, b.inside, n≤w)) o (omega arith),
-        pow_pos (T.width - (b.first + e)),
+        number-room T.width b.own.k b.own.number e lane (b.own.number + 2 ^ (T.width - b.own.k)) (omega (arith, b.inside, n≤w)) o (omega arith),
+        pow_pos (T.width - (b.own.k + e)),
       )
 
   -- a visit finds what the block says of the lane
-  look-is : (e lane : ℕ) → e ≤ b.levels → OnLevel lane e → look_at T (b.first + e) (case_at b e lane).number ≡ look_in b lane
+  look-is : (e lane : ℕ) → e ≤ b.levels → OnLevel lane e → look_at T (b.own.k + e) (case_at b e lane).number ≡ look_in b lane
   unfolding look_at
   look-is e lane h o =
       sym
       (b.looked lane (small e lane h o) ∙
-      ap (λ (x : List Kleene). look_of (eval three x T.initial) (run three T.facts T.goal T.plan 0 x)) (in-lane e lane h o ∙ ap (λ (x : ℕ). model-case.case_of T.width x (b.first + e) (case_at b e lane).number) (sym facts-is)))
+      ap (λ (x : List Kleene). look_of (eval three x T.initial) (run three T.facts T.goal T.plan 0 x)) (in-lane e lane h o ∙ ap (λ (x : ℕ). model-case.case_of T.width x (b.own.k + e) (case_at b e lane).number) (sym facts-is)))
 
-  walk-look : (e lane : ℕ) → e ≤ b.levels → OnLevel lane e → walk_at b e lane ≡ walk_from T.width (look_at T) (b.task.now.problem.now.facts - (b.first + e)) (look_in b lane) (b.first + e) (case_at b e lane).number
-  walk-look e lane h o = ap (λ (x : model.Look). walk_from T.width (look_at T) (b.task.now.problem.now.facts - (b.first + e)) x (b.first + e) (case_at b e lane).number) (look-is e lane h o)
+  walk-look : (e lane : ℕ) → e ≤ b.levels → OnLevel lane e → walk_at b e lane ≡ walk_from T.width (look_at T) (b.task.now.problem.now.facts - (b.own.k + e)) (look_in b lane) (b.own.k + e) (case_at b e lane).number
+  walk-look e lane h o = ap (λ (x : model.Look). walk_from T.width (look_at T) (b.task.now.problem.now.facts - (b.own.k + e)) x (b.own.k + e) (case_at b e lane).number) (look-is e lane h o)
 
-  pub lane-closed : (e lane : ℕ) → e ≤ b.levels → OnLevel lane e → (κ : model.Kind) → look_in b lane ≡ model.closed κ → walk_at b e lane ≡ covered (model.line κ (b.first + e) (case_at b e lane).number ∷ []) 1
+  pub lane-closed : (e lane : ℕ) → e ≤ b.levels → OnLevel lane e → (κ : model.Kind) → look_in b lane ≡ model.closed κ → walk_at b e lane ≡ covered (model.line κ (b.own.k + e) (case_at b e lane).number ∷ []) 1
   lane-closed e lane h o κ i = walk-look e lane h o ∙ rw (i, walk-closed) refl
 
-  pub lane-fails : (e lane : ℕ) → e ≤ b.levels → OnLevel lane e → look_in b lane ≡ opened → b.first + e ≡ b.task.now.problem.now.facts → walk_at b e lane ≡ failed (case_at b e lane).number 1
-  lane-fails e lane h o i z = let d : b.task.now.problem.now.facts - (b.first + e) ≡ 0 = omega arith in walk-look e lane h o ∙ rw (i, d, walk-failing) refl
+  pub lane-fails : (e lane : ℕ) → e ≤ b.levels → OnLevel lane e → look_in b lane ≡ opened → b.own.k + e ≡ b.task.now.problem.now.facts → walk_at b e lane ≡ failed (case_at b e lane).number 1
+  lane-fails e lane h o i z = let d : b.task.now.problem.now.facts - (b.own.k + e) ≡ 0 = omega arith in walk-look e lane h o ∙ rw (i, d, walk-failing) refl
 
   pub lane-splits : (e lane : ℕ) → e < b.levels → OnLevel lane e → look_in b lane ≡ opened → walk_at b e lane ≡ join (walk_at b (suc e) (2 * lane)) (walk_at b (suc e) (2 * lane + 1))
   lane-splits e lane h o i =
-      let l : b.first + e < T.width = omega (arith, b.inside, n≤w) in
-      let s : suc (b.first + e) ≡ b.first + suc e = omega arith in
-      let d : b.task.now.problem.now.facts - (b.first + e) - 1 ≡ b.task.now.problem.now.facts - (b.first + suc e) = omega arith in
+      let l : b.own.k + e < T.width = omega (arith, b.inside, n≤w) in
+      let s : suc (b.own.k + e) ≡ b.own.k + suc e = omega arith in
+      let d : b.task.now.problem.now.facts - (b.own.k + e) - 1 ≡ b.task.now.problem.now.facts - (b.own.k + suc e) = omega arith in
       walk-look e lane (omega arith) o ∙
-      ap (λ (x : model.Look). walk_from T.width (look_at T) (b.task.now.problem.now.facts - (b.first + e)) x (b.first + e) (case_at b e lane).number) i ∙
-      walk_split T.width (look_at T) (b.task.now.problem.now.facts - (b.first + e)) (b.first + e) (case_at b e lane).number (omega (arith, b.inside)) ∙
-      ap (λ (x : Walked). join x (walk_of T (b.task.now.problem.now.facts - (b.first + e) - 1) (suc (b.first + e)) ((case_at b e lane).number + 2 ^ (T.width - suc (b.first + e)))))
-      (same-walk T _ _ _ _ _ _ d s (sym (number-no T.width b.first b.number e lane l))) ∙
-      ap (join (walk_at b (suc e) (2 * lane))) (same-walk T _ _ _ _ _ _ d s (sym (number-yes T.width b.first b.number e lane l o.from)))
+      ap (λ (x : model.Look). walk_from T.width (look_at T) (b.task.now.problem.now.facts - (b.own.k + e)) x (b.own.k + e) (case_at b e lane).number) i ∙
+      walk_split T.width (look_at T) (b.task.now.problem.now.facts - (b.own.k + e)) (b.own.k + e) (case_at b e lane).number (omega (arith, b.inside)) ∙
+      ap (λ (x : Walked). join x (walk_of T (b.task.now.problem.now.facts - (b.own.k + e) - 1) (suc (b.own.k + e)) ((case_at b e lane).number + 2 ^ (T.width - suc (b.own.k + e)))))
+      (same-walk T _ _ _ _ _ _ d s (sym (number-no T.width b.own.k b.own.number e lane l))) ∙
+      ap (join (walk_at b (suc e) (2 * lane))) (same-walk T _ _ _ _ _ _ d s (sym (number-yes T.width b.own.k b.own.number e lane l o.from)))
 
   pub some-visits : (e lane : ℕ) → 1 ≤ visits (walk_at b e lane)
-  some-visits e lane = visits-walk T.width (look_at T) (b.task.now.problem.now.facts - (b.first + e)) (look_at T (b.first + e) (case_at b e lane).number) (b.first + e) (case_at b e lane).number
+  some-visits e lane = visits-walk T.width (look_at T) (b.task.now.problem.now.facts - (b.own.k + e)) (look_at T (b.own.k + e) (case_at b e lane).number) (b.own.k + e) (case_at b e lane).number
 
   -- ---- what comes after a lane and all below it
 
@@ -202,7 +203,7 @@ module _ (b : block.Block) where
 
   -- ---- the number of a lane's case, as the code computes it
 
-  module _ (lane l s : ℕ) (o : OnLevel lane l) (inside : lane < 2 * 2 ^ b.levels) (S : s ≡ 2 ^ ((limits_of b).width - (b.first + b.levels))) where
+  module _ (lane l s : ℕ) (o : OnLevel lane l) (inside : lane < 2 * 2 ^ b.levels) (S : s ≡ 2 ^ ((limits_of b).width - (b.own.k + b.levels))) where
     abbrev computed : ℕ
     computed = (lane * 2 ^ (b.levels - l) % 2 ^ 64 - 1 * 2 ^ b.levels % 2 ^ 64) * s
 
@@ -212,19 +213,19 @@ module _ (b : block.Block) where
     pub computed-ge : 1 * 2 ^ b.levels % 2 ^ 64 ≤ lane * 2 ^ (b.levels - l) % 2 ^ 64
     computed-ge = rw (below-fits l lane b.levels within o b.few, edge-fits l lane b.levels within o b.few) (below_ge l lane b.levels within o)
 
-    computed-is : (lane * 2 ^ (b.levels - l) % 2 ^ 64 - 1 * 2 ^ b.levels % 2 ^ 64) * s ≡ (lane - 2 ^ l) * 2 ^ (T.width - (b.first + l))
+    computed-is : (lane * 2 ^ (b.levels - l) % 2 ^ 64 - 1 * 2 ^ b.levels % 2 ^ 64) * s ≡ (lane - 2 ^ l) * 2 ^ (T.width - (b.own.k + l))
     computed-is =
-        let S' : s ≡ 2 ^ (T.width - (b.first + b.levels)) = S ∙ ap (λ (x : ℕ). 2 ^ (x - (b.first + b.levels))) (sym (task-width b.task.now)) in
+        let S' : s ≡ 2 ^ (T.width - (b.own.k + b.levels)) = S ∙ ap (λ (x : ℕ). 2 ^ (x - (b.own.k + b.levels))) (sym (task-width b.task.now)) in
         rw (below-fits l lane b.levels within o b.few, edge-fits l lane b.levels within o b.few, S')
-        (below-number l lane b.levels within o T.width b.first (omega (arith, b.inside, n≤w)))
+        (below-number l lane b.levels within o T.width b.own.k (omega (arith, b.inside, n≤w)))
 
-    pub case-number : b.number + (lane * 2 ^ (b.levels - l) % 2 ^ 64 - 1 * 2 ^ b.levels % 2 ^ 64) * s ≡ (case_at b l lane).number
-    case-number = ap (λ (x : ℕ). b.number + x) computed-is
+    pub case-number : b.own.number + (lane * 2 ^ (b.levels - l) % 2 ^ 64 - 1 * 2 ^ b.levels % 2 ^ 64) * s ≡ (case_at b l lane).number
+    case-number = ap (λ (x : ℕ). b.own.number + x) computed-is
 
     case-small : (case_at b l lane).number < 2 ^ 64
-    case-small = omega (arith, room-at l lane within o, pow_pos (T.width - (b.first + l)), pow_mono {i = T.width} {j = 64} most)
+    case-small = omega (arith, room-at l lane within o, pow_pos (T.width - (b.own.k + l)), pow_mono {i = T.width} {j = 64} most)
 
-    pub sum-fits : b.number + (lane * 2 ^ (b.levels - l) % 2 ^ 64 - 1 * 2 ^ b.levels % 2 ^ 64) * s < 2 ^ 64
+    pub sum-fits : b.own.number + (lane * 2 ^ (b.levels - l) % 2 ^ 64 - 1 * 2 ^ b.levels % 2 ^ 64) * s < 2 ^ 64
     sum-fits = rw case-number case-small
 
     pub product-fits : (lane * 2 ^ (b.levels - l) % 2 ^ 64 - 1 * 2 ^ b.levels % 2 ^ 64) * s < 2 ^ 64
@@ -233,9 +234,9 @@ module _ (b : block.Block) where
         part : (x y : ℕ) → x + y < 2 ^ 64 → y < 2 ^ 64
         part x y h = omega arith
 
-    pub case-is : (e : ℕ) → OnLevel lane e → (case : Case) → case ≡ record { k = b.first + l; number = b.number + (lane * 2 ^ (b.levels - l) % 2 ^ 64 - 1 * 2 ^ b.levels % 2 ^ 64) * s } → case ≡ case_at b e lane
+    pub case-is : (e : ℕ) → OnLevel lane e → (case : Case) → case ≡ record { k = b.own.k + l; number = b.own.number + (lane * 2 ^ (b.levels - l) % 2 ^ 64 - 1 * 2 ^ b.levels % 2 ^ 64) * s } → case ≡ case_at b e lane
     case-is e p case c =
-        c ∙ ap (λ (x : ℕ). record { k = b.first + l; number = x }) case-number ∙ ap (λ (x : ℕ). case_at b x lane) (one-level lane l e o p)
+        c ∙ ap (λ (x : ℕ). record { k = b.own.k + l; number = x }) case-number ∙ ap (λ (x : ℕ). case_at b x lane) (one-level lane l e o p)
 
 -- ---- a lane's walk, by what the code answers of it
 
@@ -258,7 +259,7 @@ module _ {L : Type 0} (puts : L → List Line → L → Type 0) (b : block.Block
           is = rw (c, one some) (lane-closed b e lane within on _ (sym i));
         }
 
-    pub lane_fails : look_in b lane ≡ opened → 0 < g → b.first + e ≡ b.task.now.problem.now.facts → puts old [] old → (case : Case) → case ≡ case_at b e lane → Here (Err (Failed case.number (g - 1))) old
+    pub lane_fails : look_in b lane ≡ opened → 0 < g → b.own.k + e ≡ b.task.now.problem.now.facts → puts old [] old → (case : Case) → case ≡ case_at b e lane → Here (Err (Failed case.number (g - 1))) old
     lane_fails i some z p case c = record { closed = []; put = p; counted = omega arith; is = rw (c, one some) (lane-fails b e lane within on i z) }
 
   -- ---- through the lanes
@@ -426,11 +427,6 @@ does-split r i t = i.0 t
 
 -- ---- a look, and a case in a table
 
-pub looks-same :
-    (T : model-case.Task) (case case' : ℕ → List Kleene) (r : Looks) → ((j : ℕ) → j < 64 → case j ≡ case' j) → LooksAt T case r → LooksAt T case' r
-looks-same T case case' r e L j l =
-    L j l ∙ ap (λ (x : List Kleene). look_of (eval three x T.initial) (run three T.facts T.goal T.plan 0 x)) (e j l)
-
 -- a look leaves the tables where they stand
 pub looked-first : (t d : Tables) (facts : ℕ) → d.case ≡ t.case → AtFirst t facts → AtFirst d facts
 looked-first t d facts e A =
@@ -445,18 +441,18 @@ in-table b n x c f same e =
 -- ---- a block below, and the first one
 
 -- the walk from the block's own case
-pub root-walk : (b : block.Block) → walk_at b 0 1 ≡ walk_of (task_of b) (b.task.now.problem.now.facts - b.first) b.first b.number
+pub root-walk : (b : block.Block) → walk_at b 0 1 ≡ walk_of (task_of b) (b.task.now.problem.now.facts - b.own.k) b.own.k b.own.number
 root-walk b =
-    let z : b.first + 0 ≡ b.first = omega arith in
+    let z : b.own.k + 0 ≡ b.own.k = omega arith in
     same-walk (task_of b) _ _ _ _ _ _ (ap (λ (x : ℕ). b.task.now.problem.now.facts - x) z) z (omega arith)
 
-pub own-fits : (b : block.Block) (own : Case) → own ≡ record { k = b.first; number = b.number } → own.number < 2 ^ (limits_of b).width
-own-fits b own o =
-    rw (o, ← task-width b.task.now) (omega (arith, b.numbers, pow_pos ((task_of b).width - b.first)))
+pub own-fits : (b : block.Block) → b.own.number < 2 ^ (limits_of b).width
+own-fits b =
+    rw (← task-width b.task.now) (omega (arith, b.numbers, pow_pos ((task_of b).width - b.own.k)))
 
 -- an open case at a block's edge begins a block of its own
 module _ (b : block.Block) (lane : ℕ) (on : OnLevel lane b.levels) (case : Case) (c : case ≡ case_at b b.levels lane) where
-  pub edge-k : case.k ≡ b.first + b.levels
+  pub edge-k : case.k ≡ b.own.k + b.levels
   edge-k = ap (λ (x : Case). x.k) c
 
   edge-number : case.number ≡ (case_at b b.levels lane).number
@@ -488,40 +484,34 @@ module _ (b : block.Block) (lane : ℕ) (on : OnLevel lane b.levels) (case : Cas
   pub here-fits : case.number < 2 ^ (limits_of b).width
   here-fits = rw (← task-width b.task.now) (omega (arith, edge-numbers, pow_pos ((task_of b).width - case.k)))
 
-  module _ (own : Case) (o : own ≡ record { k = b.first; number = b.number }) (above here : table.Case) (f : above.fixed ≡ own.k)
-      (r : above.word ≡ raised (limits_of b).width own.number) (same : SameCase (limits_of b).width own.number above.word) (f' : here.fixed ≡ case.k)
+  module _ (above here : table.Case) (f : above.fixed ≡ b.own.k)
+      (r : above.word ≡ raised (limits_of b).width b.own.number) (same : SameCase (limits_of b).width b.own.number above.word) (f' : here.fixed ≡ case.k)
       (r' : here.word ≡ raised (limits_of b).width case.number) (same' : SameCase (limits_of b).width case.number here.word) where
     abbrev w : ℕ
     w = (task_of b).width
 
-    first-is : above.fixed ≡ b.first
-    first-is = f ∙ ap (λ (x : Case). x.k) o
-
-    own-number : own.number ≡ b.number
-    own-number = ap (λ (x : Case). x.number) o
-
     -- both fix the block's first facts alike
-    alike : (f : ℕ) → f < b.first → model-case.bit 64 above.word f ≡ model-case.bit 64 here.word f
+    alike : (f : ℕ) → f < b.own.k → model-case.bit 64 above.word f ≡ model-case.bit 64 here.word f
     alike f l =
         let within : f < w = omega (arith, b.inside, n≤w b) in
-        rw (r, r', own-number, ← task-width b.task.now)
-        (raised-bit w (most b) b.number f within ∙
+        rw (r, r', ← task-width b.task.now)
+        (raised-bit w (most b) b.own.number f within ∙
         sym
-        (agree w b.first b.number case.number f (omega (arith, b.inside, n≤w b)) (block-of-mod w b.first b.number b.begins) (omega (arith, edge-number))
+        (agree w b.own.k b.own.number case.number f (omega (arith, b.inside, n≤w b)) (block-of-mod w b.own.k b.own.number b.begins) (omega (arith, edge-number))
         (rw edge-number (within-block b b.levels lane (omega arith) on)) l) ∙
         sym (raised-bit w (most b) case.number f within))
 
-    pub going-down : Common above here b.first
-    going-down = record { first = omega (arith, first-is); second = omega (arith, f', edge-k); alike = alike }
+    pub going-down : Common above here b.own.k
+    going-down = record { first = omega (arith, f); second = omega (arith, f', edge-k); alike = alike }
 
-    pub coming-back : Common here above b.first
-    coming-back = record { first = omega (arith, f', edge-k); second = omega (arith, first-is); alike = λ g l. sym (alike g l) }
+    pub coming-back : Common here above b.own.k
+    coming-back = record { first = omega (arith, f', edge-k); second = omega (arith, f); alike = λ g l. sym (alike g l) }
 
     abbrev here-case : List Kleene
     here-case = model-case.case_of w b.task.now.problem.now.facts case.k case.number
 
-    above-is : (n : ℕ) → n ≡ b.task.now.problem.now.facts → values_of n above ≡ model-case.case_of w b.task.now.problem.now.facts b.first b.number
-    above-is n e = in-table b n above own f same e ∙ ap (λ (x : Case). model-case.case_of w b.task.now.problem.now.facts x.k x.number) o
+    above-is : (n : ℕ) → n ≡ b.task.now.problem.now.facts → values_of n above ≡ model-case.case_of w b.task.now.problem.now.facts b.own.k b.own.number
+    above-is n e = in-table b n above b.own f same e
 
     pub stands-below : (t d : Tables) → At t b → facts_of d ≡ facts_of t → (StandsAt t (values_of (facts_of t) above) → StandsAt d (values_of (facts_of t) here)) → StandsAt d here-case
     stands-below t d A e go = λ j l. go (λ j l. A.stands j l ∙ sym (above-is (facts_of t) A.facts)) j l ∙ in-table b (facts_of t) here case f' same' A.facts
@@ -563,7 +553,7 @@ module _ (t : blocks.Task) where
     first-looked levels looks e L =
         looks-same (values.task t) _ _ looks (λ j l. rw e (ap (λ (x : List Kleene). block_case x 0 (first_levels t.problem.now.facts) j) (stands-first j l))) L
 
-  module _ (tables : Tables) (b : block.Block) (f : b.first ≡ 0) (v : b.number ≡ 0) (i : b.task.now ≡ t) where
+  module _ (tables : Tables) (b : block.Block) (f : b.own.k ≡ 0) (v : b.own.number ≡ 0) (i : b.task.now ≡ t) where
     pub at-first : AtFirst tables t.problem.now.facts → At tables b
     at-first A = record { facts = rw i A.count; stands = rw (i, f, v) (stands-first tables A) }
 

@@ -26,8 +26,8 @@ look_in b lane = look_bits (lane_bit lane b.looks.empty) (lane_bit lane b.looks.
 abbrev pub case_at : Block → ℕ → ℕ → Case
 case_at b e lane =
     record {
-      k = b.first + e;
-      number = b.number + (lane - 2 ^ e) * 2 ^ ((task_of b).width - (b.first + e));
+      k = b.own.k + e;
+      number = b.own.number + (lane - 2 ^ e) * 2 ^ ((task_of b).width - (b.own.k + e));
     }
 
 -- the walk from (k, v), with d facts still open
@@ -41,4 +41,4 @@ walk_at b e lane = let case = case_at b e lane in walk_of (task_of b) (b.task.no
 -- the tables stand at the block's own case
 pub record At (t : Tables) (b : Block) : Type 0 where
   pub facts : facts_of t ≡ b.task.now.problem.now.facts
-  pub stands : StandsAt t (model.case_of (task_of b).width b.task.now.problem.now.facts b.first b.number)
+  pub stands : StandsAt t (model.case_of (task_of b).width b.task.now.problem.now.facts b.own.k b.own.number)

@@ -1,34 +1,29 @@
 // Blocks of cases that were looked at.
 ghost use Rattle.std.proofs.Props.{props};
-ghost use Rattle.std.specs.Prelude.{◌≡◌, ◌+◌, ◌-◌, ◌%◌, ◌^◌, ◌≤◌, ◌<◌, replicate};
-ghost use Rattle.model.specs.Limits.{max_facts};
-ghost use Rattle.model.specs.Kleene.{Unknown};
+ghost use Rattle.std.specs.Prelude.{◌≡◌, ◌+◌, ◌-◌, ◌%◌, ◌^◌, ◌≤◌, ◌<◌};
 ghost use Rattle.blocks.specs.Values.{task as task_of};
-ghost use Rattle.cases.specs.Cases.{case_of};
 ghost use Rattle.runs.specs.Looks.{LooksAt};
-ghost use Rattle.walk.specs.Lanes.{IsBlock, IsAfter, LevelsOf, first_levels, block_of};
+ghost use Rattle.walk.specs.Lanes.{IsAfter, LevelsOf, first_levels, block_of};
 
 use crate::case::Case;
 use blocks::Task;
-use cases::Cases;
 use numbers::span;
 use runs::Looks;
 
-// A block: its own case, which fixes `first` facts to the top bits of `number`, in lane 1, and below it the cases of the next facts, so many
-// levels of them; and what a visit finds of each. The parts of lane i are the lanes 2i and 2i + 1.
+// A block: its own case, in lane 1, and below it the cases of the next facts, so many levels of them; and what a visit finds of each. The parts
+// of lane i are the lanes 2i and 2i + 1.
 #[derive(Clone, Copy)]
 pub struct Block<'a> {
     pub task: &'a Task<'a>,
-    pub first: usize,
-    pub number: u64,
+    pub own: Case,
     pub levels: usize,
     pub looks: Looks,
     pub ghost some: { 0 < levels },
     pub ghost few: { levels ≤ 5 },
-    pub ghost inside: { first + levels ≤ task.now.problem.now.facts },
-    pub ghost begins: { number % 2 ^ ((task_of task.now).width - first) ≡ 0 },
-    pub ghost numbers: { number + 2 ^ ((task_of task.now).width - first) ≤ 2 ^ (task_of task.now).width },
-    pub ghost looked: { LooksAt (task_of task.now) (block_of (task_of task.now).width task.now.problem.now.facts first number levels) looks } by { Prim.hlevel props },
+    pub ghost inside: { own.k + levels ≤ task.now.problem.now.facts },
+    pub ghost begins: { own.number % 2 ^ ((task_of task.now).width - own.k) ≡ 0 },
+    pub ghost numbers: { own.number + 2 ^ ((task_of task.now).width - own.k) ≤ 2 ^ (task_of task.now).width },
+    pub ghost looked: { LooksAt (task_of task.now) (block_of (task_of task.now).width task.now.problem.now.facts own.k own.number levels) looks } by { Prim.hlevel props },
 }
 
 impl<'a> Block<'a> {
@@ -40,16 +35,15 @@ impl<'a> Block<'a> {
     // The block that the walk of a task begins with, of which a visit finds so much: the walk of its own case is the whole walk.
     pub fn first(task: &'a Task<'a>, looks: Looks) -> Block<'a>
         requires { let facts = task.now.problem.now.facts in LooksAt (task_of task.now) (block_of (task_of task.now).width facts 0 0 (first_levels facts)) looks }
-        ensures first { result.first ≡ 0 }
-        ensures number { result.number ≡ 0 }
+        ensures first { result.own.k ≡ 0 }
+        ensures number { result.own.number ≡ 0 }
         ensures task { result.task.now ≡ task.entry.now }
         ensures limits { limits_of result ≡ task.entry.now.problem.now.limits }
         ensures walk { walk_at result 0 1 ≡ walked (task_of task.entry.now) }
     {
         Block {
             task,
-            first: 0,
-            number: 0,
+            own: Case { k: 0, number: 0 },
             levels: first_levels(task.problem.facts),
             looks,
         }
@@ -64,17 +58,6 @@ impl<'a> Block<'a> {
         self.looks.kind(lane).is_none() && lane < 1usize << self.levels
     }
 
-    // Its own case.
-    #[inline(always)]
-    pub fn own_case(&self) -> Case
-        ensures { result ≡ record { k = self.now.first; number = self.now.number } }
-    {
-        Case {
-            k: self.first,
-            number: self.number,
-        }
-    }
-
     // The case of a lane. The lanes of the last level go by their numbers, and the first of those below a lane has the lane's number.
     #[inline(always)]
     pub fn case(&self, lane: usize) -> Case
@@ -83,11 +66,11 @@ impl<'a> Block<'a> {
         ensures { (e : ℕ) → OnLevel lane e → result ≡ case_at self.now e lane }
     {
         let level = lane.ilog2() as usize;
-        let last = self.first + self.levels;
+        let last = self.own.k + self.levels;
         let below = (lane << (self.levels - level)) - (1usize << self.levels);
         Case {
-            k: self.first + level,
-            number: self.number
+            k: self.own.k + level,
+            number: self.own.number
                 + below as u64 * span(self.task.problem.limits.width as usize, last),
         }
     }
@@ -104,20 +87,8 @@ pub fn lane_after(lane: usize) -> usize
     next >> next.trailing_zeros()
 }
 
-// The lanes of that block, over so many facts.
-pub fn first_lanes(facts: u8) -> Cases
-    requires some { 1 ≤ facts }
-    requires few { facts ≤ max_facts }
-    ensures facts { result.facts ≡ facts }
-    ensures lanes { IsBlock (case_of result) (replicate facts Unknown) 0 (first_levels facts) }
-{
-    let mut cases = Cases::first_case(facts);
-    cases.fix_levels(0, first_levels(facts));
-    cases
-}
-
 // The levels of the first block: the odd ones, so that all blocks below it are full.
-pub(crate) fn first_levels(facts: u8) -> usize
+pub fn first_levels(facts: u8) -> usize
     requires { 1 ≤ facts }
     ensures is { result ≡ first_levels facts }
     ensures levels { LevelsOf facts result }

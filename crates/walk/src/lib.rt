@@ -7,7 +7,7 @@ pub mod page;
 pub mod tables;
 pub mod visits;
 
-pub use block::{Block, first_lanes};
+pub use block::{Block, first_levels};
 pub use case::{Case, Lines, Unkept};
 pub use page::Page;
 pub use tables::Tables;

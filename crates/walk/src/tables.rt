@@ -58,6 +58,6 @@ impl Tables {
         ensures facts { facts_of self.new ≡ facts_of self.old }
         ensures stands { StandsAt self.old (values_of (facts_of self.old) from) → StandsAt self.new (values_of (facts_of self.old) to) }
     {
-        self.case.set_case_past(common, from, to);
+        self.case.set_case(common, from, to);
     }
 }

@@ -85,7 +85,7 @@ fn walk_lane<L: Lines>(
             left: left - 1,
         });
     }
-    if block.first + block.levels == block.task.problem.facts as usize {
+    if block.own.k + block.levels == block.task.problem.facts as usize {
         return Err(Stopped::Failed {
             state: block.case(lane).number,
             left: left - 1,
@@ -104,27 +104,26 @@ fn walk_below<L: Lines>(
     tables: &mut Tables,
 ) -> Result<Closed, Stopped>
     requires edge { OnLevel lane block.now.levels }
-    requires some { block.now.first + block.now.levels < block.now.task.now.problem.now.facts }
+    requires some { block.now.own.k + block.now.levels < block.now.task.now.problem.now.facts }
     requires stands { At tables.old block.now }
     ensures stands { At tables.new block.now }
     ensures walks { Walks (L.gives (limits_of block.now)) (walk_at block.now block.now.levels lane) left lines.old result lines.new }
 {
     let problem = block.task.problem;
-    let case = block.case(lane);
-    let above = block.own_case().in_table(problem.limits.width);
-    let here = case.in_table(problem.limits.width);
-    tables.go(block.first, above, here);
-    let levels = (problem.facts as usize - case.k).min(5);
-    let looks = tables.look(block.task, case.k, levels);
+    let own = block.case(lane);
+    let above = block.own.in_table(problem.limits.width);
+    let here = own.in_table(problem.limits.width);
+    tables.go(block.own.k, above, here);
+    let levels = (problem.facts as usize - own.k).min(5);
+    let looks = tables.look(block.task, own.k, levels);
     let below = Block {
         task: block.task,
-        first: case.k,
-        number: case.number,
+        own,
         levels,
         looks,
     };
     let walked = walk_block(&below, left, lines, tables);
-    tables.go(block.first, here, above);
+    tables.go(block.own.k, here, above);
     walked
 }
 

@@ -1,9 +1,7 @@
-use Rattle.std.proofs.Common.{◌∙◌, sym, ap}
-use Rattle.model.specs.Answers.{run_answer}
-use Rattle.judge.proofs.Verdicts.{state-run}
+use Rattle.std.proofs.Common.{◌∙◌}
+use Rattle.blocks.specs.Values.{task}
+use Rattle.runs.proofs.States.{state-run}
 use Rattle.judge.proofs.operation.outcome_of.Goals as goal
 
-pub unreachable-requires : goal.unreachable-requires
-unreachable-requires c =
-    let h = sym (ap run_answer c.in-Err.is) ∙ c.run_task.ensures ∙ state-run _ _ c.requires in
-    cc
+pub returns : goal.returns
+returns c = c.run_of_case.ensures ∙ state-run (task c.args.task.now) _ c.cases_of_state-cases.result c.cases_of_state-cases.ensures.state

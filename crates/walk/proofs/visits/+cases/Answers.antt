@@ -1,5 +1,5 @@
 -- The loop through a block's lanes, a lane that does not split there, and a block below.
-use Rattle.std.proofs.Common.{◌≡◌, ◌∙◌, sym, refl, arith}
+use Rattle.std.proofs.Common.{◌∙◌, sym, refl, arith}
 use Rattle.std.proofs.lemmas.Result.{err_from_is_err_and}
 use Rattle.walk.proofs.Lanes.{some-level, lane-some, lane-inside, level-within, lane-small}
 use Rattle.walk.proofs.Walking.{lane_closes, lane_fails, going-begins, going-small, going-splits, going-out, going-stops, going-on, going-done, closed-fewer, edge-k, edge-begins, edge-numbers, below-walks, own-fits, here-fits, going-down, coming-back, stands-below, stands-again, below-looked, not-split, does-split, few-facts, edge-level, at-level}
@@ -116,34 +116,34 @@ walk_lane-returns g t c =
 -- ---- walk_below
 
 pub walk_below-in_table-above-requires-clause-fits : goal.walk_below-in_table-above-requires-clause-fits
-walk_below-in_table-above-requires-clause-fits g t c = own-fits c.args.block.now _ c.own_case.ensures
+walk_below-in_table-above-requires-clause-fits g t c = own-fits c.args.block.now
 
 pub walk_below-in_table-here-requires-clause-fits : goal.walk_below-in_table-here-requires-clause-fits
-walk_below-in_table-here-requires-clause-fits g t c = here-fits c.args.block.now _ c.requires.edge _ (c.case-case.ensures _ c.requires.edge)
+walk_below-in_table-here-requires-clause-fits g t c = here-fits c.args.block.now _ c.requires.edge _ (c.case-own.ensures _ c.requires.edge)
 
 pub walk_below-go-requires-clause-common : goal.walk_below-go-requires-clause-common
-walk_below-go-requires-clause-common g t c = going-down c.args.block.now _ c.requires.edge _ (c.case-case.ensures _ c.requires.edge) _ c.own_case.ensures _ _ c.in_table-above.ensures.fixed c.in_table-above.ensures.raised c.in_table-above.ensures.same c.in_table-here.ensures.fixed c.in_table-here.ensures.raised c.in_table-here.ensures.same
+walk_below-go-requires-clause-common g t c = going-down c.args.block.now _ c.requires.edge _ (c.case-own.ensures _ c.requires.edge) _ _ c.in_table-above.ensures.fixed c.in_table-above.ensures.raised c.in_table-above.ensures.same c.in_table-here.ensures.fixed c.in_table-here.ensures.raised c.in_table-here.ensures.same
 
 pub walk_below-go-requires-2-clause-common : goal.walk_below-go-requires-2-clause-common
-walk_below-go-requires-2-clause-common g t c = coming-back c.args.block.now _ c.requires.edge _ (c.case-case.ensures _ c.requires.edge) _ c.own_case.ensures _ _ c.in_table-above.ensures.fixed c.in_table-above.ensures.raised c.in_table-above.ensures.same c.in_table-here.ensures.fixed c.in_table-here.ensures.raised c.in_table-here.ensures.same
+walk_below-go-requires-2-clause-common g t c = coming-back c.args.block.now _ c.requires.edge _ (c.case-own.ensures _ c.requires.edge) _ _ c.in_table-above.ensures.fixed c.in_table-above.ensures.raised c.in_table-above.ensures.same c.in_table-here.ensures.fixed c.in_table-here.ensures.raised c.in_table-here.ensures.same
 
 pub walk_below-invariant_of-below : goal.walk_below-invariant_of-below
 walk_below-invariant_of-below g t c =
-    let k = edge-k c.args.block.now _ c.requires.edge _ (c.case-case.ensures _ c.requires.edge) in
+    let k = edge-k c.args.block.now _ c.requires.edge _ (c.case-own.ensures _ c.requires.edge) in
     record {
       some = omega (arith, k, c.requires.some, c.min-levels.ensures);
       few = omega (arith, c.min-levels.ensures);
       inside = omega (arith, c.min-levels.ensures, k, c.requires.some);
-      begins = edge-begins c.args.block.now _ c.requires.edge _ (c.case-case.ensures _ c.requires.edge);
-      numbers = edge-numbers c.args.block.now _ c.requires.edge _ (c.case-case.ensures _ c.requires.edge);
+      begins = edge-begins c.args.block.now _ c.requires.edge _ (c.case-own.ensures _ c.requires.edge);
+      numbers = edge-numbers c.args.block.now _ c.requires.edge _ (c.case-own.ensures _ c.requires.edge);
       looked =
-          below-looked c.args.block.now _ c.requires.edge _ (c.case-case.ensures _ c.requires.edge) _ c.own_case.ensures _ _ c.in_table-above.ensures.fixed c.in_table-above.ensures.raised c.in_table-above.ensures.same c.in_table-here.ensures.fixed c.in_table-here.ensures.raised c.in_table-here.ensures.same c.go.new.self _ _ (stands-below c.args.block.now _ c.requires.edge _ (c.case-case.ensures _ c.requires.edge) _ c.own_case.ensures _ _ c.in_table-above.ensures.fixed c.in_table-above.ensures.raised c.in_table-above.ensures.same c.in_table-here.ensures.fixed c.in_table-here.ensures.raised c.in_table-here.ensures.same c.args.tables.now c.go.new.self c.requires.stands c.go.ensures.facts c.go.ensures.stands) c.look-looks.ensures.looks;
+          below-looked c.args.block.now _ c.requires.edge _ (c.case-own.ensures _ c.requires.edge) _ _ c.in_table-above.ensures.fixed c.in_table-above.ensures.raised c.in_table-above.ensures.same c.in_table-here.ensures.fixed c.in_table-here.ensures.raised c.in_table-here.ensures.same c.go.new.self _ _ (stands-below c.args.block.now _ c.requires.edge _ (c.case-own.ensures _ c.requires.edge) _ _ c.in_table-above.ensures.fixed c.in_table-above.ensures.raised c.in_table-above.ensures.same c.in_table-here.ensures.fixed c.in_table-here.ensures.raised c.in_table-here.ensures.same c.args.tables.now c.go.new.self c.requires.stands c.go.ensures.facts c.go.ensures.stands) c.look-looks.ensures.looks;
     }
 
 pub walk_below-walk_block-walked-requires : goal.walk_below-walk_block-walked-requires
 walk_below-walk_block-walked-requires g t c κs within =
-    let k = edge-k c.args.block.now _ c.requires.edge _ (c.case-case.ensures _ c.requires.edge) in
-    let below = stands-below c.args.block.now _ c.requires.edge _ (c.case-case.ensures _ c.requires.edge) _ c.own_case.ensures _ _ c.in_table-above.ensures.fixed c.in_table-above.ensures.raised c.in_table-above.ensures.same c.in_table-here.ensures.fixed c.in_table-here.ensures.raised c.in_table-here.ensures.same c.args.tables.now c.go.new.self c.requires.stands c.go.ensures.facts c.go.ensures.stands in (
+    let k = edge-k c.args.block.now _ c.requires.edge _ (c.case-own.ensures _ c.requires.edge) in
+    let below = stands-below c.args.block.now _ c.requires.edge _ (c.case-own.ensures _ c.requires.edge) _ _ c.in_table-above.ensures.fixed c.in_table-above.ensures.raised c.in_table-above.ensures.same c.in_table-here.ensures.fixed c.in_table-here.ensures.raised c.in_table-here.ensures.same c.args.tables.now c.go.new.self c.requires.stands c.go.ensures.facts c.go.ensures.stands in (
       omega (arith, k, c.requires.some, c.args.block.now.some),
       (
         within,
@@ -157,8 +157,8 @@ walk_below-walk_block-walked-requires g t c κs within =
 pub walk_below-returns-clause-stands : goal.walk_below-returns-clause-stands
 walk_below-returns-clause-stands g t c =
     let E = c.walk_block-walked.ensures.stands in
-    stands-again c.args.block.now _ c.requires.edge _ (c.case-case.ensures _ c.requires.edge) _ c.own_case.ensures _ _ c.in_table-above.ensures.fixed c.in_table-above.ensures.raised c.in_table-above.ensures.same c.in_table-here.ensures.fixed c.in_table-here.ensures.raised c.in_table-here.ensures.same c.walk_block-walked.new.tables c.go-2.new.self E.facts E.stands c.go-2.ensures.facts c.go-2.ensures.stands
+    stands-again c.args.block.now _ c.requires.edge _ (c.case-own.ensures _ c.requires.edge) _ _ c.in_table-above.ensures.fixed c.in_table-above.ensures.raised c.in_table-above.ensures.same c.in_table-here.ensures.fixed c.in_table-here.ensures.raised c.in_table-here.ensures.same c.walk_block-walked.new.tables c.go-2.new.self E.facts E.stands c.go-2.ensures.facts c.go-2.ensures.stands
 
 pub walk_below-returns-clause-walks : goal.walk_below-returns-clause-walks
 walk_below-returns-clause-walks g t c =
-    below-walks c.args.block.now _ c.requires.edge _ (c.case-case.ensures _ c.requires.edge) _ c.args.block.now.task.now c.args.block.now.task.now.problem.now.facts c.case-case.result.k c.case-case.result.number refl refl refl refl _ _ _ _ c.walk_block-walked.ensures.walks
+    below-walks c.args.block.now _ c.requires.edge _ (c.case-own.ensures _ c.requires.edge) _ c.args.block.now.task.now c.args.block.now.task.now.problem.now.facts c.case-own.result.k c.case-own.result.number refl refl refl refl _ _ _ _ c.walk_block-walked.ensures.walks

@@ -1,6 +1,3 @@
-use Rattle.std.proofs.Common.{◌∙◌, ap, refl}
-use Rattle.walk.specs.declared.tables.Tables.{Tables}
-use Rattle.walk.specs.Tables.{AtFirst}
 use Rattle.walk.proofs.Walking.{first-looked, at-first, looked-first}
 use Rattle.walk.proofs.visits.walk_task.Goals as goal
 

@@ -35,16 +35,13 @@ returns-then-ne-clause-line c =
     let begins = sym (c.ends_at.ensures.0 c.if-not-ends_at.false) in
     let moved = c.set_case.ensures.cases 0 (omega arith) (c.args.self.now.lanes 0 (omega arith)) in
     let case = case-of-line (task t) _ _ w n few c.in_ok-line.line.k c.in_ok-line.line.value _ c.word_of.ensures.same _ moved in
-    let claim = claim-not_so (task t) c.set_case.new.self _ c.look_beside-looks.ensures.looks _ _ case c.kind.result c.kind.ensures c.in_ok-line.line.kind (λ e. search rules) in
+    let claim = claim-not_so (task t) c.set_case.new.self _ c.look-looks.ensures.looks _ _ case c.kind.result c.kind.ensures c.in_ok-line.line.kind (λ e. search rules) in
     rw c.at-then-ne.ensures (line-denied (task t) _ _ w n _ _ _ _ c.in_ok-line.ensures.line begins claim)
 
 pub with-self-requires-clause-within : goal.with-self-requires-clause-within
 with-self-requires-clause-within c =
     let t = c.args.self.now.task.now in
     omega (arith, c.in_ok-line.ensures.within, c.args.self.now.facts, t.problem.now.few_facts, t.problem.now.sensible.width, ap (λ (F : Limits). F.width) c.requires.limits)
-
-pub invariant_of-self-2-clause-lanes : goal.invariant_of-self-2-clause-lanes
-invariant_of-self-2-clause-lanes c = moved-lanes c.set_case.new.self _ _ c.set_case.ensures.facts (λ j l. c.set_case.ensures.cases j l (c.args.self.now.lanes j l))
 
 pub returns-clause-line : goal.returns-clause-line
 returns-clause-line c =
@@ -57,5 +54,5 @@ returns-clause-line c =
     let begins = sym (c.ends_at.ensures.0 c.if-not-ends_at.false) in
     let moved = c.set_case.ensures.cases 0 (omega arith) (c.args.self.now.lanes 0 (omega arith)) in
     let case = case-of-line (task t) _ _ w n few c.in_ok-line.line.k c.in_ok-line.line.value _ c.word_of.ensures.same _ moved in
-    let claim = claim-so (task t) c.set_case.new.self _ c.look_beside-looks.ensures.looks _ _ case _ c.kind.ensures _ (search rules) in
-    line-holds (task t) _ _ w n _ _ _ _ c.in_ok-line.ensures.line begins claim _ c.with-self.ensures
+    let claim = claim-so (task t) c.set_case.new.self _ c.look-looks.ensures.looks _ _ case _ c.kind.ensures _ (search rules) in
+    line-holds (task t) _ _ w n _ _ _ _ c.in_ok-line.ensures.line begins claim _ (rw c.look-looks.ensures.covered at c.with-self.ensures)

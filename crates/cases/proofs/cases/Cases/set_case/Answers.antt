@@ -1,7 +1,7 @@
 use Rattle.std.proofs.Common.{◌∙◌, ap}
 use Rattle.cases.specs.Facts.{with_facts, bits_of, unfixed}
 use Rattle.cases.proofs.Facts.{case-changed}
-use Rattle.cases.proofs.cases.Cases.set_case_past.Goals as goal
+use Rattle.cases.proofs.cases.Cases.set_case.Goals as goal
 
 pub returns-clause-cases : goal.returns-clause-cases
 returns-clause-cases c =
