@@ -3,7 +3,5 @@ pub mod States
 pub mod AnswerText
 pub mod Words
 pub mod Status
-pub mod Json
-pub mod Objects
 pub mod Units
 pub mod Reasons

@@ -1,9 +1,8 @@
-// What the commands of the shell's program answer: as text in names or numbers, in words, as JSON, and by the exit status.
+// What the commands of the shell's program answer: as text in names or numbers, in words, and by the exit status.
 #![tactic(auto)]
 
 pub mod answers;
 pub mod faults;
-pub mod json;
 pub mod reasons;
 pub mod states;
 pub mod status;

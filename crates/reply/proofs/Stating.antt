@@ -39,14 +39,7 @@ module _ (N : Names) (F : Limits) (n : ℕ) where
 
 -- ---- the rows that are left
 
--- the first is there
-pub row-fits : (n i count room : ℕ) → i < count → n * (count - i) ≤ room → n ≤ room
-row-fits n i count room h fits =
-    let e : count - i ≡ suc (count - suc i) = omega (arith, h) in
-    let k : n * suc (count - suc i) ≤ room = rw (← e) fits in
-    omega (arith, k)
-
--- and the others are there after it
+-- after the first are the others
 pub rows-fit : (n i count room : ℕ) → i < count → n * (count - i) ≤ room → n * (count - (i + 1)) ≤ room - n
 rows-fit n i count room h fits =
     let e : count - i ≡ suc (count - suc i) = omega (arith, h) in

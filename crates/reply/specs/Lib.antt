@@ -3,6 +3,8 @@ pub mod StateMarks
 pub mod StateLines
 pub mod Texts
 pub mod Unanswered
+pub mod Roles
+pub mod Failures
 pub mod Spoken
 pub mod Views
 pub mod Said

@@ -1,9 +1,10 @@
 -- What is replied where blocks are made of a text.
-use Rattle.std.specs.Prelude.{◌≡◌, Bool, cond, ◌&&◌, List, ◌++◌, ℕ, ◌+◌, ◌-◌, length, take, codes, decimal, Option, None, Some, is_none, option_map, Result, Ok, Err}
+use Rattle.std.specs.Prelude.{◌≡◌, Bool, cond, ◌&&◌, List, ℕ, ◌+◌, ◌-◌, length, take, Option, None, Some, is_none, option_map, Result, Ok, Err}
 use Rattle.model.specs.ProblemBytes.{encode_problem, encode_plan}
 use Rattle.answers.specs.declared.status.Status.TheVariants.{Yes}
 use Rattle.make.specs.Parsed.{Parsed, bad, got}
 use Rattle.make.specs.SourceText.{Source, source}
+use Rattle.objects.specs.Json.{made_json}
 use Rattle.reply.specs.Texts.{line_feeds, made_line}
 use Rattle.reply.specs.Said.{Said, said}
 use Rattle.reply.specs.Replies.{printed}
@@ -28,7 +29,7 @@ GivesMade x (Err e) = Err e ≡ x
 module _ (json : Bool) where
   -- as in "made 57 bytes", or `{"answer":"made","length":57}`
   abbrev pub made_text : ℕ → List ℕ
-  made_text bytes = printed json (made_line bytes) (codes "{\"answer\":\"made\",\"length\":" ++ decimal bytes ++ codes "}")
+  made_text bytes = printed json (made_line bytes) (made_json bytes)
 
   module _ (wanted : Bool) where
     -- what is replied with these blocks: where a plan is wanted, there has to be one

@@ -1,13 +1,12 @@
 -- What is replied to each command, from the bytes of its files and the words and numbers of its command line.
 use Rattle.std.specs.Prelude.{Bool, cond, List, [], ◌∷◌, ◌++◌, ℕ, Option, None, Some, Result, Ok, Err}
-use Rattle.serde_json.specs.Written.{compact_text}
 use Rattle.model.specs.declared.Refusal.{Refusal}
 use Rattle.answers.specs.AnswerText.{refused_line, told}
-use Rattle.answers.specs.Json.{json_text}
+use Rattle.objects.specs.Json.{json_text}
 use Rattle.answers.specs.Status.{status_of}
 use Rattle.answers.specs.declared.answers.Answer.{Answer}
 use Rattle.answers.specs.declared.status.Status.{Status}
-use Rattle.reply.specs.Texts.{text_object}
+use Rattle.objects.specs.Text.{text_json}
 use Rattle.reply.specs.StateLines.{states_text}
 use Rattle.reply.specs.Spoken.{Spoken}
 use Rattle.reply.specs.Said.{Said}
@@ -30,7 +29,7 @@ module _ (json : Bool) where
   printed text object = cond json (object ++ (10 ∷ [])) text
 
   abbrev pub printed_text : List ℕ → List ℕ
-  printed_text t = printed t (compact_text (text_object t))
+  printed_text t = printed t (text_json t)
 
   abbrev pub text_reply : List ℕ → Status → Said
   text_reply t status = record { text = printed_text t; status = status; refusal = None; file = None }

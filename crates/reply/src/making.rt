@@ -5,10 +5,11 @@ ghost use Rattle.reply.specs.Making.{made_text, made_reply, GivesMade, made_of};
 
 use crate::replies::Reply;
 use crate::telling::Telling;
-use crate::texts::{MadeLine, json_made, line_of};
+use crate::texts::{MadeLine, line_of};
 use crate::unanswered::Unanswered;
 use answers::Status;
 use make::{Blocks, MakeError};
+use objects::texts::json_made;
 use std::alloc::AllocError;
 
 // The reply, whose file is the block of the problem, and the block of the plan, if the text has one.

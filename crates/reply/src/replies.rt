@@ -1,18 +1,18 @@
 // What a command replies.
 ghost use Rattle.std.specs.Prelude.{◌≡◌, ◌≤◌, ◌*◌, ◌++◌, ◌∷◌, [], length, cond, option_map, IfOk, Ok, Some, None};
 ghost use Rattle.std.specs.String.{string_bytes};
-ghost use Rattle.answers.specs.Json.{json_text as json_of};
+ghost use Rattle.objects.specs.Json.{json_text as json_of};
 ghost use Rattle.reply.specs.Views.{spoken as spoken_of};
 ghost use Rattle.reply.specs.Said.{said, Gives, Is};
 ghost use Rattle.reply.specs.Replies.{printed_text, text_reply, refused_reply, answered_reply, unspoken_reply, rest_reply, with_file};
 
 use crate::state_lines::push_states;
 use crate::telling::{Spoken, Telling, Unspoken};
-use crate::texts::json_text;
 use crate::unanswered::Unanswered;
-use answers::json::json;
 use answers::{Answer, RefusalLine, Status, Told};
 use model::Refusal;
+use objects::json::json;
+use objects::texts::json_text;
 use std::alloc::{AllocError, Global};
 
 // What is printed, the status that the program exits with, the refusal whose words are told too, and the bytes of a file that is written,

@@ -1,11 +1,7 @@
-// Texts: where something stands in them, and what is told of them, also as JSON.
-ghost use Rattle.std.specs.Prelude.{◌≡◌, ◌≤◌, ◌++◌, ◌-◌, ◌+◌, length, take, Some, codes, decimal, IfOk};
-ghost use Rattle.std.specs.String.{string_bytes};
-ghost use Rattle.serde_json.specs.Written.{compact_text};
-ghost use Rattle.reply.specs.Texts.{line_feeds, text_object};
+// Texts: where something stands in them, and what is told of them.
+ghost use Rattle.std.specs.Prelude.{◌≡◌, ◌≤◌, ◌-◌, ◌+◌, length, take, Some};
+ghost use Rattle.reply.specs.Texts.{line_feeds};
 
-use serde_json::json;
-use std::alloc::{AllocError, Global};
 use std::fmt;
 
 // How many line feeds a text has.
@@ -44,18 +40,4 @@ pub fn line_of(text: &[u8], left: usize) -> u64
     ensures { result ≡ line_feeds (take (length text.now - left) text.now) + 1 }
 {
     line_feeds(&text[..text.len().saturating_sub(left)]) as u64 + 1
-}
-
-// A text as a JSON object.
-pub fn json_text(alloc: Global, text: &str) -> Result<String, AllocError>
-    ensures { IfOk result (λ s. string_bytes s ≡ compact_text (text_object text.now)) }
-{
-    json!(in alloc; {"text": text})?.to_string(alloc)
-}
-
-// That a problem was made, with the length of its block.
-pub fn json_made(alloc: Global, length: u64) -> Result<String, AllocError>
-    ensures { IfOk result (λ s. string_bytes s ≡ codes "{\"answer\":\"made\",\"length\":" ++ decimal length ++ codes "}") }
-{
-    json!(in alloc; {"answer": "made", "length": length})?.to_string(alloc)
 }

@@ -2,17 +2,15 @@
 // words on standard error.
 #![tactic(auto)]
 
-mod command;
-mod failure;
-mod grammar;
 mod inputs;
 mod output;
 mod session;
 
 use answers::Status;
-use command::Request;
-use failure::Failure;
-use inputs::{Role, read_whole};
+use commands::Request;
+use grammar::command_line;
+use inputs::read_whole;
+use reply::{Failure, Role};
 use session::Session;
 use std::env::Env;
 use std::process::ExitCode;
@@ -37,8 +35,11 @@ fn run<R: Env + Files + Print + Eprint + AllocGlobal>(rt: &R) -> Result<Status, 
         return Err(Failure::WordNoText);
     };
     let words: Vec<String> = words.collect(alloc)?;
-    match grammar::grammar(alloc)?.try_get_matches_from(words.as_slice()) {
-        Ok(matches) => answer(rt, Request::of(&matches)?),
+    match command_line(alloc)?.try_get_matches_from(words.as_slice()) {
+        Ok(matches) => match Request::of(&matches) {
+            Some(request) => answer(rt, request),
+            None => Err(Failure::NoCommand),
+        },
         Err(error) => output::show_usage(rt, &error),
     }
 }

@@ -2,9 +2,9 @@
 ghost use Rattle.std.specs.Prelude.{IfSome, OnOk};
 ghost use Rattle.std.specs.Io.KnownBytes.{Appends};
 
-use crate::failure::Failure;
 use answers::Status;
 use clap::error::ErrorKind;
+use reply::Failure;
 use std::io::{BufWriter, Write};
 use std::{fmt, io};
 

@@ -1,12 +1,11 @@
 // The commands: each reads its files, and prints what is replied to them.
-use crate::command::{Command, TaskPaths};
-use crate::failure::Failure;
-use crate::inputs::{Role, read_whole, whole_text};
+use crate::inputs::{read_whole, whole_text};
 use crate::output::print;
 use answers::{RefusalWords, Status};
 use ask::Blocks;
+use commands::{Command, TaskPaths};
 use files::save;
-use reply::{Reply, Telling};
+use reply::{Failure, Reply, Role, Telling};
 use std::rt::Files;
 
 // Where the answers to a command are told, in which names, if a text gives any, and whether as JSON.

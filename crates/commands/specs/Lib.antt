@@ -1,0 +1,2 @@
+-- What a command line asks for, by what clap found on it.
+pub mod Asked

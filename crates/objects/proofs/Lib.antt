@@ -1,0 +1,2 @@
+-- What is written of the objects.
+pub mod Writing

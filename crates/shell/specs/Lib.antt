@@ -1,3 +1,0 @@
--- What the program says, and the status that it exits with.
-pub mod Roles
-pub mod Failures
