@@ -38,6 +38,10 @@ impl Failure {
 }
 
 impl fmt::Display for Failure {
+    ghost use Rattle.reply.specs.Failures.{failure_words};
+
+    ghost output = { failure_words };
+
     fn fmt<W: fmt::Write>(&self, f: &mut fmt::Formatter<W>) -> fmt::Result {
         match *self {
             Failure::WordNoText => f.write_str("a word of the command line is no UTF-8 text"),
