@@ -17,8 +17,8 @@ fn main() {
     println!("cargo:rerun-if-changed={}", archive.display());
     let Ok(archive) = archive.canonicalize() else {
         eprintln!(
-            "no archive at {}: build it with `rt lib` in crates/larkhammock, \
-             or name its folder, as an absolute path, in LARKHAMMOCK_LIB",
+            "no archive at {}: build it with `tools/prove larkhammock`, or name its \
+             folder, as an absolute path, in LARKHAMMOCK_LIB",
             archive.display()
         );
         exit(1);

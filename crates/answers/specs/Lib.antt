@@ -1,6 +1,5 @@
--- What the commands of the shell's program say, and the status that each exits with.
-pub mod States
-pub mod AnswerText
+-- What is said of refusals, and the status that a command exits with.
+pub mod Subject
 pub mod Words
 pub mod Status
 pub mod Units

@@ -2,7 +2,7 @@
 use Rattle.std.specs.Prelude.{List, [], ◌++◌, ℕ, codes, decimal, Option, None, Some}
 use Rattle.model.specs.declared.Refusal.{Refusal}
 use Rattle.model.specs.Faults.{fault_number}
-use Rattle.answers.specs.AnswerText.{subject}
+use Rattle.answers.specs.Subject.{subject}
 use Rattle.answers.specs.Words.{fault_words}
 use Rattle.answers.specs.Units.{unit_of}
 

@@ -6,8 +6,8 @@ use Rattle.model.specs.Answers.{outcome, verdict, search_end}
 use Rattle.model.specs.Run.{Outcome, reached, missed, blocked}
 use Rattle.model.specs.Walk.{Verdict, right, wrong, undecided}
 use Rattle.model.specs.Search.{Search, first_right, none_right, undecided_at}
-use Rattle.answers.specs.declared.answers.Answer.{Answer}
-use Rattle.answers.specs.declared.answers.Answer.TheVariants.{Judged, Written, Followed, Ran, Rests, Searched}
+use Rattle.answers.specs.declared.answer.Answer.{Answer}
+use Rattle.answers.specs.declared.answer.Answer.TheVariants.{Judged, Written, Followed, Ran, Rests, Searched}
 use Rattle.answers.specs.declared.status.Status.{Status}
 use Rattle.answers.specs.declared.status.Status.TheVariants.{Yes, No, Undecided, Malformed, Unwritten, Usage}
 

@@ -1,14 +1,12 @@
-// What the commands of the shell's program answer: as text in names or numbers, in words, and by the exit status.
+// What the commands answer: an operation's answer or refusal, its words, and the exit status.
 #![tactic(auto)]
 
-pub mod answers;
+pub mod answer;
 pub mod faults;
 pub mod reasons;
-pub mod states;
 pub mod status;
 
-pub use answers::{Answer, RefusalLine, Told};
+pub use answer::{Answer, subject_of};
 pub use faults::fault_words;
 pub use reasons::RefusalWords;
-pub use states::StateText;
 pub use status::Status;

@@ -3,7 +3,7 @@ ghost use Rattle.std.specs.Prelude.{◌≡◌, Some, option_map};
 ghost use Rattle.model.specs.Faults.{fault_number};
 ghost use Rattle.answers.specs.Units.{unit_of};
 
-use crate::answers::subject_of;
+use crate::answer::subject_of;
 use crate::faults::fault_words;
 use model::Refusal;
 use std::fmt;

@@ -3,7 +3,7 @@ ghost use Rattle.std.specs.Prelude.{◌≡◌};
 ghost use Rattle.std.specs.Process.{exit_status};
 ghost use Rattle.model.specs.Faults.{fault_number};
 
-use crate::answers::Answer;
+use crate::answer::Answer;
 use model::{Fault, Outcome, Refusal, Search, Verdict};
 use std::process::ExitCode;
 

@@ -1,0 +1,2 @@
+-- Laws of the definitions, for the functions' proofs.
+pub mod Failing

@@ -5,8 +5,8 @@ use Rattle.model.specs.declared.Outcome.{Outcome}
 use Rattle.model.specs.declared.Verdict.{Verdict}
 use Rattle.model.specs.declared.Search.{Search}
 use Rattle.model.specs.Calls.{RunCall, JudgeCall, WriteCall, FollowCall, RelevantCall, SearchCall}
-use Rattle.answers.specs.declared.answers.Answer.{Answer}
-use Rattle.answers.specs.declared.answers.Answer.TheVariants.{Judged, Written, Followed, Ran, Rests, Searched}
+use Rattle.answers.specs.declared.answer.Answer.{Answer}
+use Rattle.answers.specs.declared.answer.Answer.TheVariants.{Judged, Written, Followed, Ran, Rests, Searched}
 use Rattle.ask.specs.declared.question.Question.{Question}
 use Rattle.ask.specs.declared.question.Question.TheVariants.{Judge, Write, Follow, Run, Rest, Search as Searches}
 

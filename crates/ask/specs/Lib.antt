@@ -1,2 +1,3 @@
--- What a command asks, and what its operation answers.
+-- What a command asks, what its operation answers, and what is replied.
 pub mod Asked
+pub mod Commands

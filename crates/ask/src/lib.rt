@@ -1,6 +1,7 @@
-// What a command asks of an operation, and the operation's answer.
+// The commands that ask a question: what each asks of an operation, the operation's answer, and the reply.
 #![tactic(auto)]
 
+pub mod commands;
 pub mod question;
 
 pub use question::{Blocks, Question};

@@ -1,2 +1,3 @@
--- What a command line asks for, by what clap found on it.
+-- What a command line asks for, by what clap found on it, and which files that reads and writes.
 pub mod Asked
+pub mod FilePaths

@@ -5,13 +5,14 @@
 
 ghost use Rattle.std.specs.Prelude.{◌≡◌, ◌≤◌, [], length, take, IfOk, IfErr};
 
+mod judging;
 mod lacks;
 
 use answers::{Answer, RefusalWords, Status};
 use files::{ErrorWords, read_path};
+use judging::write_page;
 use lacks::{Lack, Lacks};
 use model::{Plan, Problem, Refusal, Verdict};
-use page::write_page;
 use std::env::{Env, FillError};
 use std::io::{BufWriter, ErrorKind, Write};
 use std::process::ExitCode;

@@ -9,7 +9,7 @@ use Rattle.model.specs.Case.{state_of}
 use Rattle.model.specs.ProblemBytes.{Problem, action_at}
 use Rattle.names.specs.Names.{Names}
 use Rattle.names.specs.Texts.{fact_name, action_name, formula_text}
-use Rattle.answers.specs.States.{state_text}
+use Rattle.told.specs.States.{state_text}
 use Rattle.explain.specs.Rows.{rows}
 
 module _ (N : Names) where

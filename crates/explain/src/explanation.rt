@@ -5,13 +5,13 @@ ghost use Rattle.explain.specs.declared.explanation.ExplainError.TheVariants.{Re
 ghost use Rattle.explain.specs.Tells.{Explains};
 
 use crate::telling::Telling;
-use answers::StateText;
 use blocks::Task;
 use model::Refusal;
 use names::Names;
-use page::marks::Facts;
+use page::Facts;
 use runs::state_cases;
 use std::alloc::AllocError;
+use told::StateText;
 
 // Why nothing, or not all, is told.
 #[derive(Clone, Copy, Debug)]

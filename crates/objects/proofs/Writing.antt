@@ -8,8 +8,8 @@ use Rattle.model.specs.{declared.Refusal.Refusal, Answers.verdict, Answers.outco
 use Rattle.model.specs.Run.{Part, at_member, at_fact, Outcome, reached, missed, blocked}
 use Rattle.model.specs.Walk.{Verdict, right, wrong, undecided}
 use Rattle.model.specs.Search.{Search, first_right, none_right, undecided_at}
-use Rattle.answers.specs.declared.answers.Answer.{Answer}
-use Rattle.answers.specs.declared.answers.Answer.TheVariants.{Judged, Written, Followed, Ran, Rests, Searched}
+use Rattle.answers.specs.declared.answer.Answer.{Answer}
+use Rattle.answers.specs.declared.answer.Answer.TheVariants.{Judged, Written, Followed, Ran, Rests, Searched}
 use Rattle.objects.specs.Json.{outcome_json, wrong_json, verdict_json, later_steps, search_json, answer_json, json_text, stopped_json}
 use Rattle.objects.specs.Objects.{step_numbers, outcome_object, stopped_object, wrong_object, verdict_object, search_object, answer_object, told_object}
 

@@ -6,8 +6,8 @@ use Rattle.model.specs.Answers.{outcome, verdict, search_end}
 use Rattle.model.specs.Run.{Part, at_member, at_fact, Stop, Outcome, reached, missed, blocked}
 use Rattle.model.specs.Walk.{Verdict, right, wrong, undecided}
 use Rattle.model.specs.Search.{Search, first_right, none_right, undecided_at}
-use Rattle.answers.specs.declared.answers.Answer.{Answer}
-use Rattle.answers.specs.declared.answers.Answer.TheVariants.{Judged, Written, Followed, Ran, Rests, Searched}
+use Rattle.answers.specs.declared.answer.Answer.{Answer}
+use Rattle.answers.specs.declared.answer.Answer.TheVariants.{Judged, Written, Followed, Ran, Rests, Searched}
 
 -- as in `{"answer":"refused","number":12,"place":0}`
 abbrev pub refused_json : ℕ → ℕ → List ℕ

@@ -8,8 +8,8 @@ use Rattle.model.specs.Answers.{outcome, verdict, search_end}
 use Rattle.model.specs.Run.{Part, Outcome, reached, missed, blocked}
 use Rattle.model.specs.Walk.{Verdict, right, wrong, undecided}
 use Rattle.model.specs.Search.{Search, first_right, none_right, undecided_at}
-use Rattle.answers.specs.declared.answers.Answer.{Answer}
-use Rattle.answers.specs.declared.answers.Answer.TheVariants.{Judged, Written, Followed, Ran, Rests, Searched}
+use Rattle.answers.specs.declared.answer.Answer.{Answer}
+use Rattle.answers.specs.declared.answer.Answer.TheVariants.{Judged, Written, Followed, Ran, Rests, Searched}
 use Rattle.objects.specs.Json.{part_kind, part_number}
 
 -- an object that answers so, and its other members

@@ -1,4 +1,3 @@
 pub mod Cutting
 pub mod Listing
 pub mod Marking
-pub mod Paging

@@ -8,4 +8,6 @@ pub mod marks;
 pub mod number;
 pub mod page;
 
-pub use page::write_page;
+pub use answers::FirstLine;
+pub use marks::{Facts, Marks};
+pub use page::Page;

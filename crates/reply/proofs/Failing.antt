@@ -1,5 +1,5 @@
--- What is told of the state at which a plan is wrong, and of a plan beside its problem.
-use Rattle.std.proofs.Common.{◌≡◌, refl, sym, ap, ◌∙◌, subst, Bool, List, [], ◌++◌, ℕ, Option, None, Some, option_map, Result, Ok, Err}
+-- What is told of a run that fails, and of a plan beside its problem.
+use Rattle.std.proofs.Common.{◌≡◌, refl, ap, ◌∙◌, Bool, List, [], ◌++◌, ℕ, Option, None, Some, option_map, Ok, Err}
 use Rattle.std.specs.Borrow.{Bor}
 use Rattle.model.specs.declared.Refusal.{Refusal}
 use Rattle.model.specs.declared.fault.Fault.TheVariants.{StateNumber}
@@ -9,7 +9,6 @@ use Rattle.names.specs.Views.{names}
 use Rattle.blocks.specs.Values.{problem}
 use Rattle.blocks.specs.declared.problem.Problem as blocks
 use Rattle.blocks.specs.declared.task.Task.{Task}
-use Rattle.answers.specs.declared.answers.Answer.{Answer}
 use Rattle.answers.specs.declared.status.Status.TheVariants.{Yes, No}
 use Rattle.explain.specs.Told.{explanation}
 use Rattle.explain.specs.Tells.{Explains}
@@ -18,9 +17,8 @@ use Rattle.reply.specs.declared.telling.Spoken as code
 use Rattle.reply.specs.Spoken.{Spoken}
 use Rattle.reply.specs.Views.{spoken}
 use Rattle.reply.specs.Said.{Said}
-use Rattle.reply.specs.Replies.{Replied, text_reply, refused_reply, answered_reply}
-use Rattle.reply.specs.Commands as commands
-use Rattle.reply.specs.Commands.{failing_state, WithPlan, explained_reply, Shown, shown_text, shown_reply}
+use Rattle.reply.specs.Replies.{Replied, text_reply, refused_reply}
+use Rattle.reply.specs.About.{WithPlan, explained_reply, Shown, shown_reply}
 
 module _ (json : Bool) where
   -- ---- a run, of the task that the code has of a problem that is spoken of
@@ -47,15 +45,6 @@ module _ (json : Bool) where
     run-refused N before after y r same (is, which, left) e =
         let own : refused_reply json (refusal_at StateNumber 0) ≡ own_reply = rw is refl in
         e ∙ ap (refused_reply json) which ∙ own ∙ own-spoken same
-
-  -- ---- whether a plan is wrong
-
-  module _ (s : Spoken) (plan : List ℕ) (r : Result Answer Refusal) (o : Option ℕ) (x : Replied) (e : o ≡ failing_state r) where
-    pub wrong-explained : (n : ℕ) → o ≡ Some n → WithPlan json s plan (explained_reply json s n) x → commands.Explains json s plan r (failing_state r) x
-    wrong-explained n is k = let P : Option ℕ → Type 0 = λ v. commands.Explains json s plan r v x in subst P (sym is ∙ e) k
-
-    pub others-answered : o ≡ None → x ≡ Ok (answered_reply json s r) → commands.Explains json s plan r (failing_state r) x
-    others-answered is k = let P : Option ℕ → Type 0 = λ v. commands.Explains json s plan r v x in subst P (sym is ∙ e) k
 
   -- ---- whether there is a plan
 

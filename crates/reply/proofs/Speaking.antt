@@ -22,7 +22,7 @@ use Rattle.reply.specs.Views.{spoken, Speaks}
 use Rattle.reply.specs.Said.{Gives, Is}
 use Rattle.reply.specs.Replies.{Replied, unspoken_reply}
 use Rattle.reply.specs.StateMarks.{marked_state}
-use Rattle.reply.specs.Commands.{AtState, FromState, InNames, About}
+use Rattle.reply.specs.About.{AtState, FromState, InNames, About}
 
 -- what is replied where memory suffices
 pub gives-weaker : {P Q : Replied → Type 0} → ((x : Replied) → P x → Q x) → (r : Result Reply Unanswered) → Gives P r → Gives Q r

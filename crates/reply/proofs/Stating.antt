@@ -2,7 +2,7 @@
 use Rattle.std.proofs.Common.{◌≡◌, refl, List, [], ◌∷◌, ◌++◌, map, ℕ, suc, ◌+◌, ◌-◌, ◌*◌, ◌≤◌, ◌<◌, arith, take, drop, eqb, codes, decimal, add-one}
 use Rattle.model.specs.{declared.Limits.Limits, Relevance.number_of}
 use Rattle.names.specs.Names.{Names}
-use Rattle.answers.specs.States.{state_text}
+use Rattle.told.specs.States.{state_text}
 use Rattle.show.proofs.Pieces.{after-five}
 use Rattle.reply.specs.StateLines.{states_text}
 

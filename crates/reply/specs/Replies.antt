@@ -1,10 +1,10 @@
 -- What is replied to each command, from the bytes of its files and the words and numbers of its command line.
 use Rattle.std.specs.Prelude.{Bool, cond, List, [], ◌∷◌, ◌++◌, ℕ, Option, None, Some, Result, Ok, Err}
 use Rattle.model.specs.declared.Refusal.{Refusal}
-use Rattle.answers.specs.AnswerText.{refused_line, told}
+use Rattle.told.specs.AnswerText.{refused_line, told}
 use Rattle.objects.specs.Json.{json_text}
 use Rattle.answers.specs.Status.{status_of}
-use Rattle.answers.specs.declared.answers.Answer.{Answer}
+use Rattle.answers.specs.declared.answer.Answer.{Answer}
 use Rattle.answers.specs.declared.status.Status.{Status}
 use Rattle.objects.specs.Text.{text_json}
 use Rattle.reply.specs.StateLines.{states_text}

@@ -3,7 +3,7 @@ use Rattle.std.specs.Prelude.{List, [], ◌∷◌, ◌++◌, map, ℕ, zero, suc
 use Rattle.model.specs.declared.Limits.{Limits}
 use Rattle.model.specs.Relevance.{number_of}
 use Rattle.names.specs.Names.{Names}
-use Rattle.answers.specs.States.{state_text}
+use Rattle.told.specs.States.{state_text}
 
 module _ (N : Names) (F : Limits) (n : ℕ) where
   -- the states number i, i + 1, .., so many, of which each has a row of n bytes: 1 where its fact is true

@@ -1,39 +1,17 @@
-// The commands that tell a text: how a plan fails, and a problem with a plan for it.
-ghost use Rattle.std.specs.Prelude.{◌≡◌, option_map};
-ghost use Rattle.blocks.specs.Values.{problem as problem_of};
+// What tells a text: how a plan fails at a state, and a problem with a plan for it.
+ghost use Rattle.std.specs.Prelude.{option_map};
 ghost use Rattle.reply.specs.Views.{given, spoken as spoken_of, ReadsPlan};
 ghost use Rattle.reply.specs.Said.{Gives};
-ghost use Rattle.reply.specs.Commands.{wrong_at, failing_state, WithPlan, explained_reply, Shown, ExplainReply, ShowReply, shown_reply};
+ghost use Rattle.reply.specs.About.{WithPlan, explained_reply, ShowReply, shown_reply};
 
 use crate::replies::Reply;
 use crate::telling::{Spoken, Telling};
 use crate::unanswered::Unanswered;
-use answers::{Answer, Status};
-use ask::{Blocks, Question};
+use answers::Status;
 use blocks::{Problem, Task};
 use explain::{ExplainError, push_explanation};
-use model::{Limits, Refusal, Verdict};
+use model::{Limits, Refusal};
 use show::{push_plan, push_problem};
-
-// The state at which a plan is wrong, if it is.
-fn wrong_at(verdict: &Verdict) -> Option<u64>
-    ensures { result ≡ wrong_at verdict.now }
-{
-    match verdict {
-        Verdict::Wrong { state, .. } => Some(*state),
-        _ => None,
-    }
-}
-
-// The same, of an answer.
-fn failing_state(answer: &Result<Answer, Refusal>) -> Option<u64>
-    ensures { result ≡ failing_state answer.now }
-{
-    match answer {
-        Ok(Answer::Judged(verdict)) => wrong_at(verdict),
-        _ => None,
-    }
-}
 
 // The task that the plan in a block makes of a problem.
 fn task_of<'a>(problem: &'a Problem<'a>, plan: &'a [u8]) -> Result<Task<'a>, Refusal>
@@ -50,7 +28,12 @@ fn task_of<'a>(problem: &'a Problem<'a>, plan: &'a [u8]) -> Result<Task<'a>, Ref
 
 impl Telling<'_> {
     // How a plan fails at a state.
-    fn explain_state(&self, spoken: &Spoken, plan: &[u8], state: u64) -> Result<Reply, Unanswered>
+    pub fn explain_state(
+        &self,
+        spoken: &Spoken,
+        plan: &[u8],
+        state: u64,
+    ) -> Result<Reply, Unanswered>
         ensures { Gives (WithPlan self.now.json (spoken_of spoken.now) plan.now (explained_reply self.now.json (spoken_of spoken.now) state)) result }
     {
         let task = match task_of(&spoken.problem, plan) {
@@ -62,22 +45,6 @@ impl Telling<'_> {
             Ok(()) => Ok(self.tell(text, Status::No)?),
             Err(ExplainError::Refused(refusal)) => Ok(self.refuse(refusal)?),
             Err(ExplainError::OutOfMemory) => Err(Unanswered::OutOfMemory),
-        }
-    }
-
-    // A wrong plan's failing run, step by step; of any other plan what the judge answers.
-    pub fn explain(&self, blocks: Blocks, grant: u64) -> Result<Reply, Unanswered>
-        ensures { Gives (ExplainReply self.now.json (given self.now) blocks.entry grant) result }
-    {
-        match self.spoken(blocks.problem) {
-            Ok(spoken) => {
-                let answer = Question::Judge(blocks, grant).ask(&mut []);
-                match failing_state(&answer) {
-                    Some(state) => self.explain_state(&spoken, blocks.plan, state),
-                    None => Ok(self.answer(&spoken, &answer)?),
-                }
-            }
-            Err(why) => self.unspoken(why),
         }
     }
 

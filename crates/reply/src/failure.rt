@@ -2,10 +2,9 @@
 ghost use Rattle.std.specs.Prelude.{◌≡◌};
 ghost use Rattle.reply.specs.declared.failure.Failure.TheVariants.{OutOfMemory, NoReply};
 
-use crate::role::Role;
 use crate::unanswered::Unanswered;
 use answers::Status;
-use files::ErrorWords;
+use files::{ErrorWords, Role};
 use std::alloc::{AllocError, AllocFailed};
 use std::fmt;
 use std::io::ErrorKind;
@@ -18,6 +17,8 @@ pub enum Failure {
     File(Role, ErrorKind),
     Output(ErrorKind),
     LongText(Role),
+    // A file that is to be written is one that is read, or the other one.
+    OneFile(Role, Role),
     NoReply(Unanswered),
     OutOfMemory,
 }
@@ -29,7 +30,7 @@ impl Failure {
         ensures { result ≡ failure_status self }
     {
         match self {
-            Failure::WordNoText | Failure::NoCommand => Status::Usage,
+            Failure::WordNoText | Failure::NoCommand | Failure::OneFile(_, _) => Status::Usage,
             Failure::File(_, _) | Failure::Output(_) | Failure::OutOfMemory => Status::Unwritten,
             Failure::LongText(_) => Status::Malformed,
             Failure::NoReply(why) => why.status(),
@@ -52,6 +53,12 @@ impl fmt::Display for Failure {
                 f,
                 "{}: it is longer than such a text may be",
                 role.name()
+            ),
+            Failure::OneFile(written, other) => write!(
+                f,
+                "{}: it would be written over the {}",
+                written.name(),
+                other.name()
             ),
             Failure::NoReply(why) => write!(f, "{why}"),
             Failure::OutOfMemory => f.write_str("out of memory"),

@@ -9,11 +9,12 @@ ghost use Rattle.reply.specs.Replies.{printed_text, text_reply, refused_reply, a
 use crate::state_lines::push_states;
 use crate::telling::{Spoken, Telling, Unspoken};
 use crate::unanswered::Unanswered;
-use answers::{Answer, RefusalLine, Status, Told};
+use answers::{Answer, Status};
 use model::Refusal;
 use objects::json::json;
 use objects::texts::json_text;
 use std::alloc::{AllocError, Global};
+use told::{RefusalLine, Told};
 
 // What is printed, the status that the program exits with, the refusal whose words are told too, and the bytes of a file that is written,
 // if one is.

@@ -5,10 +5,10 @@ ghost use Rattle.names.specs.Views.{names as names_of};
 ghost use Rattle.reply.specs.StateLines.{states_text};
 
 use crate::marks::state_number;
-use answers::StateText;
 use names::Names;
-use page::marks::Facts;
+use page::Facts;
 use std::alloc::AllocError;
+use told::StateText;
 
 // Tells of so many states, a line each: a row has a byte for each fact, which is 1 where it is true.
 pub fn push_states(

@@ -9,7 +9,7 @@ use crate::unanswered::Unanswered;
 use blocks::Problem;
 use model::Refusal;
 use names::{NameList, Names};
-use page::marks::Facts;
+use page::Facts;
 use std::alloc::Global;
 
 // How answers are told: in which names, if any were given, and whether as JSON.

@@ -9,9 +9,8 @@ mod session;
 use answers::Status;
 use commands::Request;
 use grammar::command_line;
-use inputs::read_whole;
-use reply::{Failure, Role};
-use session::Session;
+use reply::Failure;
+use session::answer;
 use std::env::Env;
 use std::process::ExitCode;
 use std::rt::Files;
@@ -37,22 +36,9 @@ fn run<R: Env + Files + Print + Eprint + AllocGlobal>(rt: &R) -> Result<Status, 
     let words: Vec<String> = words.collect(alloc)?;
     match command_line(alloc)?.try_get_matches_from(words.as_slice()) {
         Ok(matches) => match Request::of(&matches) {
-            Some(request) => answer(rt, request),
+            Some(request) => answer(rt, &request),
             None => Err(Failure::NoCommand),
         },
         Err(error) => output::show_usage(rt, &error),
     }
-}
-
-// Answers a command, in the names that it asks for.
-fn answer<R: Files + Print + Eprint + AllocGlobal>(
-    rt: &R,
-    request: Request,
-) -> Result<Status, Failure> {
-    let names = match request.names {
-        None => None,
-        Some(path) => Some(read_whole(rt, Role::Names, path)?),
-    };
-    let json = request.json;
-    Session { rt, names, json }.answer(request.command)
 }

@@ -1,169 +1,97 @@
-// The commands: each reads its files, and prints what is replied to them.
-use crate::inputs::{read_whole, whole_text};
+// A command: its files are read, what is replied to them is written to files, and then printed.
+use crate::inputs::Inputs;
 use crate::output::print;
 use answers::{RefusalWords, Status};
-use ask::Blocks;
-use commands::{Command, TaskPaths};
-use files::save;
-use reply::{Failure, Reply, Role, Telling};
+use ask::commands::{explain, facts, follow, judge, run, search, write};
+use commands::{Command, FilePath, Request};
+use files::{Role, lead_to_one_file, save};
+use reply::{Failure, Made, Reply, Telling};
+use std::alloc::Global;
 use std::rt::Files;
 
-// Where the answers to a command are told, in which names, if a text gives any, and whether as JSON.
-#[derive(Drop)]
-pub struct Session<'r, R> {
-    pub rt: &'r R,
-    pub names: Option<Vec<u8>>,
-    pub json: bool,
+// Answers a command.
+pub fn answer<R: Files + Print + Eprint + AllocGlobal>(
+    rt: &R,
+    request: &Request,
+) -> Result<Status, Failure> {
+    let inputs = Inputs::read(rt, request)?;
+    keep_files(rt, request)?;
+    let made = reply_to(rt.alloc(), request, &inputs)?;
+    let [plan, file] = request.outputs();
+    save_file(rt, plan, &made.plan)?;
+    save_file(rt, file, &made.reply.file)?;
+    tell(rt, made.reply)
 }
 
-// The files of a problem and of a plan.
-#[derive(Drop)]
-struct TaskFiles {
-    problem: Vec<u8>,
-    plan: Vec<u8>,
+// Nothing is written over what is read, nor over what else is written.
+fn keep_files<R: Files>(rt: &R, request: &Request) -> Result<(), Failure> {
+    let [first, second] = request.outputs();
+    for input in request.inputs() {
+        keep_file(rt, first, input)?;
+        keep_file(rt, second, input)?;
+    }
+    keep_file(rt, second, first)
 }
 
-impl TaskFiles {
-    fn blocks(&self) -> Blocks<'_> {
-        Blocks {
-            problem: &self.problem,
-            plan: &self.plan,
+fn keep_file<R: Files>(
+    rt: &R,
+    written: Option<FilePath>,
+    kept: Option<FilePath>,
+) -> Result<(), Failure> {
+    match (written, kept) {
+        (Some(written), Some(kept)) if lead_to_one_file(rt, written.path, kept.path) => {
+            Err(Failure::OneFile(written.role, kept.role))
         }
+        _ => Ok(()),
     }
 }
 
-impl<R: Files + Print + Eprint + AllocGlobal> Session<'_, R> {
-    // Answers a command.
-    pub fn answer(&self, command: Command) -> Result<Status, Failure> {
-        match command {
-            Command::Judge { task, grant } => self.judge(task, grant),
-            Command::Write { task, list, grant } => self.write(task, list, grant),
-            Command::Follow { task, list } => self.follow(task, list),
-            Command::Run { task, state } => self.run(task, state),
-            Command::Facts { task, state } => self.facts(task, state),
-            Command::Search {
-                problem,
-                longest,
-                grant,
-                plan,
-            } => self.search(problem, longest, grant, plan),
-            Command::Explain { task, grant } => self.explain(task, grant),
-            Command::Show { problem, plan } => self.show(problem, plan),
-            Command::Make {
-                text,
-                problem,
-                plan,
-            } => self.make(text, problem, plan),
+// What is replied to a command, and the block of a plan that goes with it.
+fn reply_to(alloc: Global, request: &Request, inputs: &Inputs) -> Result<Made, Failure> {
+    let telling = Telling::read(alloc, inputs.text(Role::Names)?, request.json)?;
+    let blocks = inputs.blocks();
+    let reply = match request.command {
+        Command::Judge { grant, .. } => judge(&telling, blocks, grant),
+        Command::Write { grant, .. } => write(&telling, blocks, grant),
+        Command::Follow { .. } => follow(&telling, blocks, inputs.get(Role::List).unwrap_or(&[])),
+        Command::Run { state, .. } => run(&telling, blocks, state.as_bytes()),
+        Command::Facts { state, .. } => facts(&telling, blocks, state.as_bytes()),
+        Command::Search { longest, grant, .. } => search(&telling, blocks.problem, longest, grant),
+        Command::Explain { grant, .. } => explain(&telling, blocks, grant),
+        Command::Show { .. } => telling.show(blocks.problem, inputs.get(Role::Plan)),
+        Command::Make { plan, .. } => {
+            let text = inputs.text(Role::Text)?.unwrap_or(&[]);
+            return Ok(telling.make(text, plan.is_some())?);
         }
-    }
+    };
+    Ok(Made {
+        reply: reply?,
+        plan: None,
+    })
+}
 
-    // A command reads its files first: that one cannot be read goes before what is wrong in another, be it the names.
-    fn telling(&self) -> Result<Telling<'_>, Failure> {
-        let names = match &self.names {
-            None => None,
-            Some(text) => Some(whole_text(Role::Names, text)?),
-        };
-        Ok(Telling::read(self.rt.alloc(), names, self.json)?)
+// Writes a file whole, or leaves it as it was; where there is nothing to write, or no path for it, nothing is done.
+fn save_file<R: Files + AllocGlobal>(
+    rt: &R,
+    to: Option<FilePath>,
+    bytes: &Option<Vec<u8>>,
+) -> Result<(), Failure> {
+    let (Some(to), Some(bytes)) = (to, bytes) else {
+        return Ok(());
+    };
+    match save(rt, to.path, bytes) {
+        Ok(()) => Ok(()),
+        Err(error) => Err(Failure::File(to.role, error.kind())),
     }
+}
 
-    fn judge(&self, task: TaskPaths, grant: u64) -> Result<Status, Failure> {
-        let files = self.read(task)?;
-        self.tell(self.telling()?.judge(files.blocks(), grant)?)
+// Prints a reply; a refusal on standard error too, in words.
+fn tell<R: Print + Eprint + AllocGlobal>(rt: &R, reply: Reply) -> Result<Status, Failure> {
+    print(rt, reply.text.as_str())?;
+    if let Some(refusal) = reply.refusal {
+        let words = RefusalWords(refusal);
+        // What standard error cannot say, the status does.
+        let _ = eprintln!(rt; "larkhammock: {words}");
     }
-
-    fn write(&self, task: TaskPaths, list: &str, grant: u64) -> Result<Status, Failure> {
-        let files = self.read(task)?;
-        let reply = self.telling()?.write(files.blocks(), grant)?;
-        self.save_and_tell(Role::List, Some(list), reply)
-    }
-
-    fn follow(&self, task: TaskPaths, list: &str) -> Result<Status, Failure> {
-        let files = self.read(task)?;
-        let list = read_whole(self.rt, Role::List, list)?;
-        self.tell(self.telling()?.follow(files.blocks(), &list)?)
-    }
-
-    fn run(&self, task: TaskPaths, marks: &str) -> Result<Status, Failure> {
-        let files = self.read(task)?;
-        self.tell(self.telling()?.run(files.blocks(), marks.as_bytes())?)
-    }
-
-    fn facts(&self, task: TaskPaths, marks: &str) -> Result<Status, Failure> {
-        let files = self.read(task)?;
-        self.tell(self.telling()?.facts(files.blocks(), marks.as_bytes())?)
-    }
-
-    fn search(
-        &self,
-        problem: &str,
-        longest: u64,
-        grant: u64,
-        plan: Option<&str>,
-    ) -> Result<Status, Failure> {
-        let problem = read_whole(self.rt, Role::Problem, problem)?;
-        let reply = self.telling()?.search(&problem, longest, grant)?;
-        self.save_and_tell(Role::Plan, plan, reply)
-    }
-
-    fn explain(&self, task: TaskPaths, grant: u64) -> Result<Status, Failure> {
-        let files = self.read(task)?;
-        self.tell(self.telling()?.explain(files.blocks(), grant)?)
-    }
-
-    fn show(&self, problem: &str, plan: Option<&str>) -> Result<Status, Failure> {
-        let problem = read_whole(self.rt, Role::Problem, problem)?;
-        let plan = match plan {
-            None => None,
-            Some(path) => Some(read_whole(self.rt, Role::Plan, path)?),
-        };
-        self.tell(self.telling()?.show(&problem, plan.as_deref())?)
-    }
-
-    fn make(&self, text: &str, problem: &str, plan: Option<&str>) -> Result<Status, Failure> {
-        let text = read_whole(self.rt, Role::Text, text)?;
-        let text = whole_text(Role::Text, &text)?;
-        let made = self.telling()?.make(text, plan.is_some())?;
-        if let (Some(path), Some(block)) = (plan, &made.plan) {
-            self.save(Role::Plan, path, block)?;
-        }
-        self.save_and_tell(Role::Problem, Some(problem), made.reply)
-    }
-
-    fn read(&self, task: TaskPaths) -> Result<TaskFiles, Failure> {
-        let problem = read_whole(self.rt, Role::Problem, task.problem)?;
-        let plan = read_whole(self.rt, Role::Plan, task.plan)?;
-        Ok(TaskFiles { problem, plan })
-    }
-
-    // Writes a file whole, or leaves it as it was.
-    fn save(&self, role: Role, path: &str, bytes: &[u8]) -> Result<(), Failure> {
-        match save(self.rt, path, bytes) {
-            Ok(()) => Ok(()),
-            Err(error) => Err(Failure::File(role, error.kind())),
-        }
-    }
-
-    // Writes the file that goes with a reply, if one does and a path is given for it, and then prints the reply.
-    fn save_and_tell(
-        &self,
-        role: Role,
-        path: Option<&str>,
-        reply: Reply,
-    ) -> Result<Status, Failure> {
-        if let (Some(path), Some(file)) = (path, &reply.file) {
-            self.save(role, path, file)?;
-        }
-        self.tell(reply)
-    }
-
-    // Prints a reply; a refusal on standard error too, in words.
-    fn tell(&self, reply: Reply) -> Result<Status, Failure> {
-        print(self.rt, reply.text.as_str())?;
-        if let Some(refusal) = reply.refusal {
-            let words = RefusalWords(refusal);
-            // What standard error cannot say, the status does.
-            let _ = eprintln!(self.rt; "larkhammock: {words}");
-        }
-        Ok(reply.status)
-    }
+    Ok(reply.status)
 }

@@ -17,7 +17,7 @@ use bench::sat::{self, Cnf, Lit};
 use conformance::answer::{words, Answer};
 use conformance::encode;
 use conformance::families::idle;
-use conformance::gen::{damaged_case, even_cover, sound_case, Rng};
+use conformance::gen::{damaged_plan_case, even_cover, sound_plan_case, with_search, Rng};
 use conformance::harness::Case;
 use conformance::oracle;
 use conformance::version::{Version, VERSIONS};
@@ -66,8 +66,8 @@ fn plain_judges_judge_and_refuse_alike(version: &Version) {
     let mut parts = BTreeSet::new();
     for round in 0..20_000 {
         let case = match round % 2 {
-            0 => sound_case(&mut rng, version),
-            _ => damaged_case(&mut rng, version),
+            0 => sound_plan_case(&mut rng, version),
+            _ => damaged_plan_case(&mut rng, version),
         };
         for grant in [case.grant.min(2_000), 2_000] {
             let what = format!("round {round}");
@@ -90,7 +90,7 @@ fn plain_reading_reads_and_refuses_alike(version: &Version) {
     let mut rng = Rng::new(0xbe81);
     let mut met = BTreeSet::new();
     for round in 0..20_000 {
-        let problem = damaged_case(&mut rng, version).problem;
+        let problem = damaged_plan_case(&mut rng, version).problem;
         let told = raw::read_problem(&problem).word;
         let answer = match plain::read::read_problem(&problem) {
             Ok((facts, actions)) => words(&[1, facts.into(), actions.into()]),
@@ -107,8 +107,8 @@ fn plain_reading_reads_and_refuses_alike(version: &Version) {
 /// Three sound cases, and a damaged one.
 fn mostly_sound_case(rng: &mut Rng, version: &Version, round: usize) -> Case {
     match round % 4 {
-        0 => damaged_case(rng, version),
-        _ => sound_case(rng, version),
+        0 => damaged_plan_case(rng, version),
+        _ => sound_plan_case(rng, version),
     }
 }
 
@@ -158,7 +158,7 @@ fn plain_searches_find_and_refuse_alike(version: &Version) {
     let mut rng = Rng::new(0xbe7e);
     let mut met = BTreeMap::new();
     for round in 0..20_000 {
-        let case = mostly_sound_case(&mut rng, version, round);
+        let case = with_search(mostly_sound_case(&mut rng, version, round));
         let Case {
             problem, longest, ..
         } = &case;
@@ -230,7 +230,7 @@ fn satisfying_assignments_are_counterexamples(version: &Version) {
     let mut rng = Rng::new(0x5a7);
     let (mut some, mut none, mut conflicts) = (0, 0, 0);
     for _ in 0..300 {
-        let case = sound_case(&mut rng, version);
+        let case = sound_plan_case(&mut rng, version);
         let problem = oracle::read_problem(&case.problem).expect("the case is sound");
         let steps = &case.plan[5..];
         let named = larkhammock::Version::of_byte(version.byte).expect("it is known");

@@ -6,6 +6,9 @@ mod support;
 mod versions;
 
 use std::collections::BTreeSet;
+use std::num::NonZero;
+use std::sync::atomic::{AtomicUsize, Ordering};
+use std::thread;
 
 use conformance::answer::Answer;
 use conformance::gen::{arbitrary_case, case_of_round, damaged_case, sound_case, wide_case, Rng};
@@ -82,6 +85,12 @@ impl Blocks {
         self.unmet_with_conflict += u32::from(!met && facts > 0);
     }
 
+    fn join(&mut self, other: Blocks) {
+        self.parts.extend(other.parts);
+        self.of_several_facts += other.of_several_facts;
+        self.unmet_with_conflict += other.unmet_with_conflict;
+    }
+
     fn are_of_every_kind(&self, operation: &str) {
         for part in [0, 1] {
             for number in 0..NUMBERS {
@@ -102,41 +111,105 @@ of_each_version! {
     the_safe_crate_says_the_same,
 }
 
-fn every_operation_answers_as_the_oracle_and_every_refusal_is_met(version: &Version) {
-    let mut refusals = BTreeSet::new();
-    let mut tags = BTreeSet::new();
-    let (mut runs, mut judges) = (Blocks::default(), Blocks::default());
-    for (seed, count, make) in SWEEPS {
-        let mut rng = Rng::new(seed);
-        for round in 0..count {
-            let case = make(&mut rng, version);
-            let answers = match check_all(&Library, &case) {
-                Ok(answers) => answers,
-                Err(difference) => panic!("seed {seed:x}, round {round}: {difference:?}"),
+/// The sweeps in parts of at most so many cases, each from a seed of its own, so that they can
+/// be gone through side by side.
+const PART: usize = 2_500;
+
+fn parts() -> Vec<(u64, usize, Maker)> {
+    let parts_of = |(seed, count, make): (u64, usize, Maker)| {
+        let seeds = (0..).map(move |part: u64| seed | part << 16);
+        let starts = (0..count).step_by(PART).zip(seeds);
+        starts.map(move |(start, seed)| (seed, PART.min(count - start), make))
+    };
+    SWEEPS.into_iter().flat_map(parts_of).collect()
+}
+
+/// What was met in cases.
+#[derive(Default)]
+struct Met {
+    refusals: BTreeSet<u64>,
+    /// Operation, tag, and of a wrong plan the outcome.
+    tags: BTreeSet<(u8, u64, u64)>,
+    runs: Blocks,
+    judges: Blocks,
+}
+
+impl Met {
+    fn meet(&mut self, operation: Operation, case: &Case, answer: &Answer) {
+        if let Some(block) = block(operation, case, answer) {
+            let blocks = match operation {
+                Operation::Run => &mut self.runs,
+                _ => &mut self.judges,
             };
-            for (operation, answer) in Operation::ALL.into_iter().zip(answers) {
-                if let Some(block) = block(operation, &case, &answer) {
-                    let blocks = match operation {
-                        Operation::Run => &mut runs,
-                        _ => &mut judges,
-                    };
-                    blocks.meet(&case, &block);
-                }
-                match answer {
-                    [0, number, ..] => {
-                        refusals.insert(number);
-                    }
-                    // A wrong plan's outcome is part of what is met.
-                    [2, _, _, outcome, ..] => {
-                        tags.insert((operation as u8, 2, outcome));
-                    }
-                    [tag, ..] => {
-                        tags.insert((operation as u8, tag, 0));
-                    }
-                }
+            blocks.meet(case, &block);
+        }
+        match *answer {
+            [0, number, ..] => {
+                self.refusals.insert(number);
+            }
+            // A wrong plan's outcome is part of what is met.
+            [2, _, _, outcome, ..] => {
+                self.tags.insert((operation as u8, 2, outcome));
+            }
+            [tag, ..] => {
+                self.tags.insert((operation as u8, tag, 0));
             }
         }
     }
+
+    fn join(&mut self, other: Met) {
+        self.refusals.extend(other.refusals);
+        self.tags.extend(other.tags);
+        self.runs.join(other.runs);
+        self.judges.join(other.judges);
+    }
+}
+
+/// Goes through the cases of a part.
+fn met_in((seed, count, make): (u64, usize, Maker), version: &Version) -> Met {
+    let mut met = Met::default();
+    let mut rng = Rng::new(seed);
+    for round in 0..count {
+        let case = make(&mut rng, version);
+        let answers = match check_all(&Library, &case) {
+            Ok(answers) => answers,
+            Err(difference) => panic!("seed {seed:x}, round {round}: {difference:?}"),
+        };
+        for (operation, answer) in Operation::ALL.into_iter().zip(answers) {
+            met.meet(operation, &case, &answer);
+        }
+    }
+    met
+}
+
+/// Goes through all parts, with as many threads as there are processors.
+fn met_in_all(version: &Version) -> Met {
+    let (parts, next) = (parts(), AtomicUsize::new(0));
+    let take = || {
+        let mut met = Met::default();
+        while let Some(part) = parts.get(next.fetch_add(1, Ordering::Relaxed)) {
+            met.join(met_in(*part, version));
+        }
+        met
+    };
+    let threads = thread::available_parallelism().map_or(1, NonZero::get);
+    thread::scope(|scope| {
+        let started: Vec<_> = (0..threads).map(|_| scope.spawn(take)).collect();
+        let mut all = Met::default();
+        for thread in started {
+            all.join(thread.join().expect("every answer is the oracle's"));
+        }
+        all
+    })
+}
+
+fn every_operation_answers_as_the_oracle_and_every_refusal_is_met(version: &Version) {
+    let Met {
+        refusals,
+        tags,
+        runs,
+        judges,
+    } = met_in_all(version);
     assert_eq!(refusals, every_refusal());
     let (run, judge) = (Operation::Run as u8, Operation::Judge as u8);
     let search = Operation::SearchPlans as u8;

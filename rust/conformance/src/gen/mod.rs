@@ -15,7 +15,7 @@ use crate::encode;
 use crate::families::idle;
 use crate::harness::Case;
 use crate::model::Line;
-use crate::oracle::{merge, read_problem, search_plans, walk, End, Search, Task};
+use crate::oracle::{merge, read_problem, search_plans, walk, End, Search, Task, Walk};
 use crate::version::{Version, MOST_PLAN_BYTES, MOST_PROBLEM_BYTES, PLAN_VERSION, VERSION_1};
 
 use damage::{arbitrary, damaged, scribbled, unsound};
@@ -38,26 +38,44 @@ const SEARCH_PATIENCE: u64 = 100;
 
 /// Arguments for all ten operations, all of them sound.
 pub fn sound_case(rng: &mut Rng, version: &Version) -> Case {
-    let task = if rng.chance(1, 2) {
+    settled(sound_plan_case(rng, version))
+}
+
+/// The same without what only searches, merges and small work areas take: most tests of one
+/// operation need no more, and these are dear to choose.
+pub fn sound_plan_case(rng: &mut Rng, version: &Version) -> Case {
+    let task = task_of_case(rng, version);
+    let (mut case, walk) = case_of(rng, &task);
+    settle_by(rng, &mut case, &task, &walk, PATIENCE);
+    case
+}
+
+fn task_of_case(rng: &mut Rng, version: &Version) -> Task {
+    if rng.chance(1, 2) {
         right_task(rng, version)
     } else {
         task(rng, version)
-    };
-    case_of(rng, &task)
+    }
 }
 
 /// A sound case whose plan is right with so many lines that no block holds
 /// them, or nearly.
 pub fn wide_case(rng: &mut Rng, version: &Version) -> Case {
     let task = wide_task(rng, version);
-    let mut case = case_of(rng, &task);
+    let (mut case, _) = case_of(rng, &task);
     settle(rng, &mut case, 40_000);
-    case
+    settled(case)
 }
 
 /// A case of which one or more blocks are damaged.
 pub fn damaged_case(rng: &mut Rng, version: &Version) -> Case {
-    let mut case = sound_case(rng, version);
+    settled(damaged_plan_case(rng, version))
+}
+
+/// The same without what only searches, merges and small work areas take.
+pub fn damaged_plan_case(rng: &mut Rng, version: &Version) -> Case {
+    let task_of_case = task_of_case(rng, version);
+    let (mut case, _) = case_of(rng, &task_of_case);
     match rng.below(8) {
         0 | 1 => {
             let mut task = task(rng, version);
@@ -86,7 +104,8 @@ pub fn case_of_round(rng: &mut Rng, version: &Version, round: usize) -> Case {
 
 /// A case of which some blocks are arbitrary bytes.
 pub fn arbitrary_case(rng: &mut Rng, version: &Version) -> Case {
-    let mut case = sound_case(rng, version);
+    let task = task_of_case(rng, version);
+    let (mut case, _) = case_of(rng, &task);
     match rng.below(4) {
         0 => case.problem = arbitrary(rng, version),
         1 => case.problem = scribbled(rng, version),
@@ -98,14 +117,15 @@ pub fn arbitrary_case(rng: &mut Rng, version: &Version) -> Case {
     }
     case.state = rng.word();
     settle(rng, &mut case, PATIENCE);
-    case
+    settled(case)
 }
 
-/// A sound case for this problem and plan, its list sometimes altered.
-fn case_of(rng: &mut Rng, task: &Task) -> Case {
+/// A sound case for this problem and plan, its list sometimes altered, and their walk: grants and
+/// buffers are still to be chosen.
+fn case_of(rng: &mut Rng, task: &Task) -> (Case, Walk) {
     let version = &task.problem.version;
     let walk = walk(task, PATIENCE);
-    let mut lines = walk.lines;
+    let mut lines = walk.lines.clone();
     if rng.chance(1, 2) {
         lines = refined(rng, task, &lines);
     }
@@ -120,15 +140,14 @@ fn case_of(rng: &mut Rng, task: &Task) -> Case {
     } else {
         0
     };
-    let mut case = Case {
+    let case = Case {
         problem: encode::problem(&task.problem),
         plan: encode::plan(&task.plan),
         list: list_beside(rng, version, &lines),
         state: version.number(&values) | stray,
         ..Case::default()
     };
-    settle(rng, &mut case, PATIENCE);
-    case
+    (case, walk)
 }
 
 /// The list of these lines, now and then of another version than its problem.
@@ -142,23 +161,39 @@ fn list_beside(rng: &mut Rng, version: &Version, lines: &[Line]) -> Vec<u8> {
 /// Chooses a grant and buffers that suit the blocks: near the edges, and never
 /// so large a grant that the walk takes long.
 fn settle(rng: &mut Rng, case: &mut Case, patience: u64) {
-    settle_search(case);
-    settle_sparse(case);
-    settle_merge(case);
     case.grant = rng.word();
     case.room = rng.below(64);
     case.work = rng.below(64);
-    let Ok(task) = Task::parse(&case.problem, &case.plan) else {
-        return;
-    };
+    if let Ok(task) = Task::parse(&case.problem, &case.plan) {
+        let walk = walk(&task, patience);
+        settle_by(rng, case, &task, &walk, patience);
+    }
+}
+
+/// The same by the walk of a sound problem and plan.
+fn settle_by(rng: &mut Rng, case: &mut Case, task: &Task, walk: &Walk, patience: u64) {
+    case.room = rng.below(64);
     case.work = near(rng, task.work_bytes());
-    let walk = walk(&task, patience);
     if let End::Spent = walk.end {
         case.grant = rng.word() % patience;
         return;
     }
     case.grant = grant_near(rng, walk.visits);
     case.room = near(rng, task.problem.version.list_bytes(walk.lines.len()));
+}
+
+/// With what searches take, by the blocks.
+pub fn with_search(mut case: Case) -> Case {
+    settle_search(&mut case);
+    case
+}
+
+/// The same, and what merges and small work areas take.
+fn settled(case: Case) -> Case {
+    let mut case = with_search(case);
+    settle_sparse(&mut case);
+    settle_merge(&mut case);
+    case
 }
 
 /// Numbers that go by the case itself, so that a seed gives the same cases for the rest.

@@ -17,7 +17,8 @@ use crate::version::{
 pub fn second(rng: &mut Rng, first: &Problem) -> Vec<u8> {
     let version = &rng.pick(&VERSIONS);
     match rng.below(200) {
-        0 => {
+        // As long as a block may be, and so dear to make, to merge and to compare: a few of them do.
+        0 if rng.chance(1, 8) => {
             let size = MOST_PROBLEM_BYTES - rng.below(200);
             encode::problem(&problem_of_size(*version, size))
         }

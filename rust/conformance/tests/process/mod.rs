@@ -17,9 +17,8 @@ pub fn program(name: &str) -> PathBuf {
     let program = folder.join("out").join(name);
     assert!(
         program.is_file(),
-        "no program at {}: build it with `rt run` in {}",
-        program.display(),
-        folder.display()
+        "no program at {}: build it with `tools/prove {name}`",
+        program.display()
     );
     program
 }

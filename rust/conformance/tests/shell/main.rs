@@ -13,6 +13,7 @@ mod files;
 mod generated;
 mod naming;
 mod outputs;
+mod proving;
 mod texts;
 mod usage;
 mod wrapper;

@@ -8,7 +8,7 @@ use std::process::{Command, Stdio};
 use conformance::encode;
 use conformance::families::of_lines;
 use conformance::oracle;
-use conformance::shell::status::{NO, UNDECIDED, UNWRITTEN, YES};
+use conformance::shell::status::{NO, UNDECIDED, UNWRITTEN, USAGE, YES};
 use conformance::shell::GRANT;
 use conformance::version::Version;
 
@@ -56,6 +56,9 @@ of_each_version! {
     links_are_followed_and_permissions_stay,
     files_beside_it_stay_as_they_are,
     a_list_of_the_most_lines,
+    nothing_is_written_over_what_is_read,
+    not_by_another_path_either,
+    what_is_no_file_may_be_both,
 }
 
 /// A folder with files for all commands.
@@ -284,4 +287,113 @@ fn a_list_of_the_most_lines(version: &Version) {
         }
     }
     assert!(!desk.files().contains("written"));
+}
+
+/// Refused as a command line, with what each file is; and every file is as it was.
+#[track_caller]
+fn is_kept(desk: &Desk, line: &str, written: &str, other: &str) {
+    let before: Vec<_> = desk.files().into_iter().collect();
+    let bytes = |names: &[String]| -> Vec<_> {
+        let read = |name: &String| fs::read(desk.folder.join(name)).ok();
+        names.iter().map(read).collect()
+    };
+    let held = bytes(&before);
+    let error = desk.fails(line, USAGE, written);
+    let words = format!("larkhammock: {written}: it would be written over the {other}\n");
+    assert_eq!(error, words, "{line}");
+    let after: Vec<_> = desk.files().into_iter().collect();
+    assert_eq!(after, before, "{line}");
+    assert_eq!(bytes(&after), held, "{line}");
+}
+
+/// Each command that writes, and each file that it reads or writes beside.
+const CLASHES: [(&str, &str, &str); 9] = [
+    ("write problem plan -o problem", "list", "problem"),
+    ("write problem plan -o plan", "list", "plan"),
+    ("write problem plan -o names --names names", "list", "names"),
+    ("search problem 2 -o problem", "plan", "problem"),
+    ("search problem 2 -o names --names names", "plan", "names"),
+    ("make text -o text", "problem", "text"),
+    ("make text -o made --plan text", "plan", "text"),
+    ("make text -o made --plan made", "problem", "plan"),
+    ("make text -o plan --plan plan", "problem", "plan"),
+];
+
+fn with_names(test: &str, version: &Version) -> Desk {
+    let desk = desk(test, version);
+    desk.put("names", b"fact a\nfact b\nfact c\naction one\naction two\n");
+    desk
+}
+
+fn nothing_is_written_over_what_is_read(version: &Version) {
+    let desk = with_names("kept", version);
+    for (line, written, other) in CLASHES {
+        is_kept(&desk, line, written, other);
+    }
+}
+
+/// Through links of both kinds, by other words for the same path, and by a link that leads to
+/// nothing yet.
+fn not_by_another_path_either(version: &Version) {
+    let desk = with_names("paths", version);
+    let at = |name: &str| desk.folder.join(name);
+    symlink("plan", at("soft")).expect("a link can be made");
+    symlink(desk.folder.join("soft"), at("softer")).expect("a link can be made");
+    fs::hard_link(at("plan"), at("hard")).expect("a link can be made");
+    symlink(".", at("here")).expect("a link can be made");
+    symlink("nowhere", at("dangling")).expect("a link can be made");
+    let folder = desk.folder.to_str().expect("a path is text");
+    for path in [
+        "soft",
+        "softer",
+        "hard",
+        "./plan",
+        "here/plan",
+        "here/here/hard",
+        &format!("{folder}/plan"),
+    ] {
+        is_kept(
+            &desk,
+            &format!("write problem plan -o {path}"),
+            "list",
+            "plan",
+        );
+        is_kept(
+            &desk,
+            &format!("write problem {path} -o plan"),
+            "list",
+            "plan",
+        );
+    }
+    for (one, other) in [
+        ("made", "./made"),
+        ("here/made", "made"),
+        (&format!("{folder}/made"), "made"),
+        ("soft", "hard"),
+        ("dangling", "nowhere"),
+        ("nowhere", "dangling"),
+    ] {
+        let line = format!("make text -o {one} --plan {other}");
+        is_kept(&desk, &line, "problem", "plan");
+    }
+}
+
+/// A device loses nothing, and other files beside are no clash.
+fn what_is_no_file_may_be_both(version: &Version) {
+    let desk = with_names("devices", version);
+    for folder in ["one", "another"] {
+        fs::create_dir(desk.folder.join(folder)).expect("a folder can be made");
+    }
+    for line in [
+        "make text -o /dev/null --plan /dev/null",
+        "make text -o made --plan other",
+        "make text -o other --plan made",
+        "write problem plan -o list",
+        "make text -o one/made --plan another/made",
+        "make text -o another/new --plan one/new",
+    ] {
+        assert_eq!(desk.says(line).status, YES, "{line}");
+    }
+    assert_eq!(desk.get("other"), desk.get("problem"));
+    assert_eq!(desk.get("made"), desk.get("plan"));
 }

@@ -1,5 +1,5 @@
 //! The script `larkhammock`, in a project of its own: the real programs, and in the
-//! place of `rt` a script that notes what it is asked to build.
+//! place of `tools/prove` a script that notes what it is asked to build.
 
 use std::env;
 use std::ffi::{OsStr, OsString};
@@ -10,7 +10,7 @@ use std::process::{self, Command};
 use std::time::{Duration, SystemTime};
 
 use conformance::encode;
-use conformance::shell::status::UNWRITTEN;
+use conformance::shell::status::{UNWRITTEN, USAGE, YES};
 use conformance::shell::{Said, GRANT};
 use conformance::trial;
 use conformance::version::VERSION_1;
@@ -18,13 +18,13 @@ use conformance::version::VERSION_1;
 use crate::desk::{of_project, said, PLAINLY};
 use crate::process::{file, program, ran};
 
-/// Builds the program of the crate in whose folder it is called, unless it is told to
+/// In the place of `tools/prove`: builds the program that is named, unless it is told to
 /// fail.
-const RT: &str = "#!/bin/sh
-echo \"$(basename \"$PWD\")\" >> \"$NOTES\"
+const PROVE: &str = "#!/bin/sh
+echo \"$1\" >> \"$NOTES\"
 [ -z \"$FAILS\" ] || { echo 'the goal is open' >&2; exit 1; }
-name=$(basename \"$PWD\")
-mkdir -p out && cp \"$BUILT/$name\" \"out/$name\"
+cd \"$(dirname \"$0\")/../crates/$1\"
+mkdir -p out && cp \"$BUILT/$1\" \"out/$1\"
 ";
 
 const PROGRAMS: [&str; 2] = ["desk", "shell"];
@@ -62,6 +62,15 @@ impl Project {
         }
         set_age(&file(&root, "crates.txt", b"desk:\nshell:\n"), 3_600);
         fs::copy(of_project("larkhammock"), root.join("larkhammock")).expect("it is there");
+        let tools = root.join("tools");
+        fs::create_dir(&tools).expect("a folder can be made");
+        fs::copy(of_project("tools/help.txt"), tools.join("help.txt")).expect("it is there");
+        runs(&file(&tools, "prove", PROVE.as_bytes()));
+        let grammar = root.join("crates/grammar/src");
+        fs::create_dir_all(&grammar).expect("a folder can be made");
+        let grammar = grammar.join("lib.rt");
+        fs::copy(of_project("crates/grammar/src/lib.rt"), &grammar).expect("it is there");
+        set_age(&grammar, 3_600);
         project.put_rt();
         let desk = project.folder.join("desk");
         fs::create_dir(&desk).expect("a folder can be made");
@@ -85,8 +94,7 @@ impl Project {
     fn put_rt(&self) {
         let bin = self.folder.join("bin");
         fs::create_dir(&bin).expect("a folder can be made");
-        let rt = file(&bin, "rt", RT.as_bytes());
-        fs::set_permissions(&rt, Permissions::from_mode(0o755)).expect("it can be made to run");
+        runs(&file(&bin, "rt", b"#!/bin/sh\n"));
     }
 
     /// The wrapper by this name, run in the folder with the files.
@@ -116,6 +124,11 @@ impl Project {
         let notes = fs::read_to_string(self.folder.join("notes")).unwrap_or_default();
         notes.lines().map(String::from).collect()
     }
+}
+
+/// A file that can be run.
+fn runs(path: &Path) {
+    fs::set_permissions(path, Permissions::from_mode(0o755)).expect("it can be made to run");
 }
 
 /// This many seconds ago.
@@ -166,6 +179,12 @@ fn from_other_folders() {
         Path::new("./larkhammock"),
         &["judge", "../desk/problem", "../desk/wrong"],
     );
+    assert_eq!(
+        said(ran(command.current_dir(project.root()))),
+        verdict(&[0])
+    );
+    let words = ["larkhammock", "judge", "../desk/problem", "../desk/wrong"];
+    let mut command = project.command(Path::new("sh"), &words);
     assert_eq!(
         said(ran(command.current_dir(project.root()))),
         verdict(&[0])
@@ -229,23 +248,67 @@ fn each_command_goes_to_the_shells_program() {
     assert_eq!(project.built(), [""; 0]);
 }
 
-/// All else is for the desk program: a problem whose name is no command's, and no name.
+/// A file that is there is a problem, also where its name is like a command's.
 #[test]
-fn all_else_goes_to_the_desk_program() {
+fn files_go_to_the_desk_program() {
     let project = Project::new("desk");
     let root = program("desk");
     for words in [
-        &[][..],
-        &["problem"],
+        &["problem"][..],
         &["problem", "plan"],
         &["problem", "wrong"],
         &["problem", "judge"],
-        &["nowhere", "plan"],
-        &["judges", "plan"],
-        &["./judge", "plan"],
+        &["problem", "nowhere"],
+        &["./problem", "plan"],
+        &[".", "plan"],
     ] {
         let direct = said(ran(&mut project.command(&root, words)));
         assert_eq!(project.says(words), direct, "{words:?}");
+    }
+    assert_eq!(project.built(), [""; 0]);
+}
+
+/// No word is a question for help, and a word that is neither a command nor a file is told
+/// with the command that is like it.
+#[test]
+fn words_that_ask_nothing() {
+    let project = Project::new("nothing");
+    let help = said(ran(&mut project.command(&program("shell"), &["--help"])));
+    assert_eq!(project.says(&[]), help);
+    for (words, similar) in [
+        (&["judges", "plan"][..], "judge"),
+        (&["folow"], "follow"),
+        (&["nowhere", "plan"], "help"),
+        (&["", "plan"], "help"),
+    ] {
+        let said = project.says(words);
+        assert_eq!((said.status, &said.output[..]), (USAGE, ""), "{words:?}");
+        assert!(said.error.contains(similar), "{words:?}: {}", said.error);
+    }
+    assert_eq!(project.built(), [""; 0]);
+}
+
+/// The same where nothing is built: no proof is begun for such words.
+#[test]
+fn words_that_ask_nothing_begin_no_proof() {
+    let project = Project::new("unbuilt");
+    for name in PROGRAMS {
+        fs::remove_file(project.program(name)).expect("a program can be removed");
+    }
+    let shell = program("shell");
+    let help = said(ran(&mut project.command(&shell, &["--help"])));
+    for words in [&[][..], &["help"], &["--help"], &["-h"]] {
+        let said = project.says(words);
+        assert_eq!((said.status, said.output), (YES, help.output.clone()));
+        assert!(said.error.contains("not built"), "{}", said.error);
+    }
+    let version = said(ran(&mut project.command(&shell, &["--version"])));
+    assert_eq!(project.says(&["--version"]), version);
+    assert_eq!(project.says(&["-V"]), version);
+    for words in [&["judges", "plan"][..], &["nowhere"], &["--nothing"], &[""]] {
+        let said = project.says(words);
+        assert_eq!((said.status, &said.output[..]), (USAGE, ""), "{words:?}");
+        assert!(said.error.contains("help"), "{words:?}: {}", said.error);
     }
     assert_eq!(project.built(), [""; 0]);
 }
@@ -338,11 +401,5 @@ fn where_the_build_fails() {
         let said = said(ran(command.env("FAILS", OsStr::new("yes"))));
         assert_eq!((said.status, &said.output[..]), (UNWRITTEN, ""), "{said:?}");
         assert!(said.error.contains("the goal is open"), "{}", said.error);
-        let last = said.error.lines().last().unwrap_or_default();
-        assert!(
-            last.starts_with("larkhammock: the build failed"),
-            "{}",
-            said.error
-        );
     }
 }

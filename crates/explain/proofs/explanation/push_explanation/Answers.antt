@@ -5,7 +5,7 @@ use Rattle.model.specs.Operations.{task_of}
 use Rattle.blocks.specs.Values.{problem, task}
 use Rattle.runs.proofs.States.{case-known}
 use Rattle.names.specs.Views.{names}
-use Rattle.answers.specs.States.{state_text}
+use Rattle.told.specs.States.{state_text}
 use Rattle.explain.specs.Told.{explanation}
 use Rattle.explain.specs.Tells.{told_from}
 use Rattle.explain.proofs.Known.{has-state}

@@ -1,6 +1,6 @@
 use Rattle.std.proofs.Common.{Ok, Err, ap}
 use Rattle.names.specs.Views.{names}
-use Rattle.reply.specs.Commands.{WithPlan}
+use Rattle.reply.specs.About.{WithPlan}
 use Rattle.reply.proofs.Failing.{run-explained, run-refused}
 use Rattle.reply.proofs.telling.Telling.explain_state.Goals as goal
 

@@ -1,6 +1,6 @@
 use Rattle.std.proofs.Common.{ap, Ok, option_map}
 use Rattle.reply.specs.Views.{given, spoken}
-use Rattle.reply.specs.Commands.{Shown}
+use Rattle.reply.specs.About.{Shown}
 use Rattle.reply.proofs.Speaking.{about-spoken, not-spoken, gives-weaker}
 use Rattle.reply.proofs.Failing.{shown-alone, shown-both, text-shown}
 use Rattle.reply.proofs.telling.Telling.show.Goals as goal

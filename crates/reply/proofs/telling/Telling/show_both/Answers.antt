@@ -1,5 +1,5 @@
 use Rattle.std.proofs.Common.{Ok, Err, ap}
-use Rattle.reply.specs.Commands.{WithPlan}
+use Rattle.reply.specs.About.{WithPlan}
 use Rattle.reply.proofs.Failing.{texts-shown}
 use Rattle.reply.proofs.telling.Telling.show_both.Goals as goal
 

@@ -1,0 +1,2 @@
+-- What a file is to a command.
+pub mod Roles

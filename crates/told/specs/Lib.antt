@@ -1,0 +1,3 @@
+-- The line that an answer is told as.
+pub mod States
+pub mod AnswerText
