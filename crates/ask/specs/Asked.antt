@@ -4,6 +4,9 @@ use Rattle.model.specs.declared.Refusal.{Refusal}
 use Rattle.model.specs.declared.Outcome.{Outcome}
 use Rattle.model.specs.declared.Verdict.{Verdict}
 use Rattle.model.specs.declared.Search.{Search}
+use Rattle.model.specs.Limits.{limits_of}
+use Rattle.model.specs.Relevance.{every_row}
+use Rattle.model.specs.Operations.{read_both}
 use Rattle.model.specs.Calls.{RunCall, JudgeCall, WriteCall, FollowCall, RelevantCall, SearchCall}
 use Rattle.answers.specs.declared.answer.Answer.{Answer}
 use Rattle.answers.specs.declared.answer.Answer.TheVariants.{Judged, Written, Followed, Ran, Rests, Searched}
@@ -18,14 +21,14 @@ as_answer answer (Err r) = Err r
 -- answers of commands: a question is answered as the call of its operation is, and the lent buffer is left as that leaves it
 abbrev pub Asked : Question → List ℕ → Result Answer Refusal → List ℕ → Type 0
 Asked (Judge t grant) before r after =
-    (v : Result Verdict Refusal) × JudgeCall t.problem.now t.plan.now grant v × (r ≡ as_answer Judged v) × (after ≡ before)
+    (v : Result Verdict Refusal) × JudgeCall (read_both t.problem.now t.plan.now) grant v × (r ≡ as_answer Judged v) × (after ≡ before)
 Asked (Write t grant) before r after =
-    (n : Result ℕ Refusal) × WriteCall t.problem.now t.plan.now grant before n after × (r ≡ as_answer Written n)
+    (n : Result ℕ Refusal) × WriteCall (read_both t.problem.now t.plan.now) (limits_of t.problem.now) grant before n after × (r ≡ as_answer Written n)
 Asked (Follow t list) before r after =
-    (n : Result ℕ Refusal) × FollowCall t.problem.now t.plan.now list.now n × (r ≡ as_answer Followed n) × (after ≡ before)
+    (n : Result ℕ Refusal) × FollowCall (read_both t.problem.now t.plan.now) (limits_of t.problem.now) list.now n × (r ≡ as_answer Followed n) × (after ≡ before)
 Asked (Run t s) before r after =
-    (o : Result Outcome Refusal) × RunCall t.problem.now t.plan.now s o × (r ≡ as_answer Ran o) × (after ≡ before)
+    (o : Result Outcome Refusal) × RunCall (read_both t.problem.now t.plan.now) s o × (r ≡ as_answer Ran o) × (after ≡ before)
 Asked (Rest t s) before r after =
-    (n : Result ℕ Refusal) × RelevantCall t.problem.now t.plan.now s before n after × (r ≡ as_answer Rests n)
+    (n : Result ℕ Refusal) × RelevantCall (read_both t.problem.now t.plan.now) every_row s before n after × (r ≡ as_answer Rests n)
 Asked (Searches problem longest grant) before r after =
     (e : Result Search Refusal) × SearchCall problem.now longest grant e × (r ≡ as_answer Searched e) × (after ≡ before)

@@ -2,6 +2,7 @@
 ghost use Rattle.std.specs.Prelude.{◌≡◌, ◌+◌, ◌*◌, ◌/◌, ◌≤◌, length};
 ghost use Rattle.model.specs.Limits.{max_facts};
 ghost use Rattle.model.specs.Relevance.{stretch};
+ghost use Rattle.model.specs.Relevance as relevance;
 ghost use Rattle.blocks.specs.Values.{task as task_of};
 ghost use Rattle.backward.specs.Stretches.{part, ShowsRow, TakesPart, TracesStretches};
 
@@ -60,8 +61,8 @@ fn take_part(part: &Task, row: &[u8], rows: &mut [u8], marks: &mut [Mark])
 // The facts that matter before the run of which every 16th state stands in `kept`, if it reaches the goal. Its stretches are gone through from the
 // last to the first, whose states are left in the rows of `stretch`.
 pub fn trace_stretches(task: &Task, kept: &[u8], stretch: &mut [u8]) -> FactSet
-    requires kept { (length task.now.steps.now / 16 + 1) * task.now.problem.now.facts ≤ length kept.now }
-    requires stretch { length stretch.old ≡ 16 * task.now.problem.now.facts }
+    requires kept { (length task.now.steps.now / relevance.stretch + 1) * task.now.problem.now.facts ≤ length kept.now }
+    requires stretch { length stretch.old ≡ relevance.stretch * task.now.problem.now.facts }
     ensures { TracesStretches (task_of task.now) kept.now stretch.old stretch.new result }
 {
     let steps = task.steps.len();

@@ -1,4 +1,4 @@
-pub mod Actions
+pub mod Standing
 pub mod Problems
 pub mod Tasks
 pub mod Promise

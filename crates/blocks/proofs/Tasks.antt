@@ -46,6 +46,15 @@ module _ (F : Limits) (p : Problem) (t : List ℕ) {m : ℕ} (e : length p.actio
   unfolding plan_of answer_of ◌>>=◌
   plan-task k = rw (e, k)
 
+module _ (t : List ℕ) {n m : ℕ} (e : n ≡ m) where
+  pub plan-unread : (y : Refusal) → plan t m 0 ≡ rejected y → refusal y ≡ plan_of t n
+  unfolding plan_of answer_of
+  plan-unread y k = rw (e, k)
+
+  pub plan-steps : {steps : List ℕ} {q : ℕ} → plan t m 0 ≡ got steps q → answered steps ≡ plan_of t n
+  unfolding plan_of answer_of
+  plan-steps k = rw (e, k)
+
 -- ---- a problem alone, as an operation reads it
 
 pub read_problem-refused : (F : Limits) (s : List ℕ) (y : Refusal) → refusal y ≡ problem_of F s → refusal y ≡ read_problem F s
@@ -53,7 +62,7 @@ unfolding read_problem ◌>>=◌
 read_problem-refused F s y e = rw (← e)
 
 pub read_problem-found :
-    (F : Limits) (s : List ℕ) (p : values.Problem) → answered (problem p) ≡ problem_of F s → answered (record { facts = p.facts; actions = p.actions }) ≡ read_problem F s
+    (F : Limits) (s : List ℕ) (p : values.Problem) → answered (problem p) ≡ problem_of F s → answered (record { facts = p.facts; actions = p.actions.count }) ≡ read_problem F s
 unfolding read_problem ◌>>=◌
 read_problem-found F s p e = rw (← e, length-tabulate) refl
 
@@ -68,6 +77,10 @@ module _ (F : Limits) (s t : List ℕ) where
   pub read_task-from : {l : Limits} {p : Problem} {x : Answer cases.Task} → answered p ≡ problem_of F s → l ≡ F → x ≡ task_from l p t → read_task F s t ≡ x
   unfolding read_task ◌>>=◌
   read_task-from {l} {p} {x} e v k = rw (← e, ← v, k)
+
+-- the task of a problem that was read by a version's numbers has these
+pub of-version : (t : Task) (p : values.Problem) → t.problem.now ≡ p → {F : Limits} → p.limits ≡ F → t.problem.now.limits ≡ F
+of-version t p e f = ap (λ (x : values.Problem). x.limits) e ∙ f
 
 -- ---- the step count: a plan has as many steps as its task
 
@@ -88,7 +101,7 @@ module _ (F : Limits) (s t : List ℕ) where
 -- ---- what a problem shows
 
 -- it has as many actions as it says
-pub action-count : (p : values.Problem) → length (problem p).actions ≡ p.actions
+pub action-count : (p : values.Problem) → length (problem p).actions ≡ p.actions.count
 action-count p = length-tabulate _ _
 
 -- ---- what a task shows

@@ -2,11 +2,13 @@
 
 #![tactic(auto)]
 
+pub mod actions;
 pub mod operations;
 pub mod plan;
 pub mod problem;
 pub mod task;
 
+pub use actions::Actions;
 pub use operations::{read_plan, read_problem};
 pub use problem::Problem;
 pub use task::Task;

@@ -16,7 +16,7 @@ pub fn read_problem(s: &[u8]) -> Result<Counts, Refusal>
     let problem = Problem::read(s)?;
     Ok(Counts {
         facts: problem.facts,
-        actions: problem.actions,
+        actions: problem.actions.count,
     })
 }
 

@@ -9,6 +9,10 @@
 use Rattle.std.specs.Prelude.{cond, List, [], ◌∷◌, ◌++◌, ℕ, zero, suc, ◌+◌, ◌/◌, ◌%◌, get_or, set, eqb, ltb}
 use Rattle.model.specs.Kleene.{Kleene, Unknown, known}
 
+-- the most facts that a block splits on
+abbrev pub max_levels : ℕ
+max_levels = 5
+
 -- the values that a lane's case fixes, the block's next fact first; lane j is reached from lane j / 2 (the first number bounds the steps)
 unfoldable pub path_of : ℕ → ℕ → List Kleene
 path_of zero j = []

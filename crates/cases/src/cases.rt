@@ -3,6 +3,7 @@ ghost use Rattle.std.proofs.Props.{props};
 ghost use Rattle.std.specs.Prelude.{◌≤◌};
 ghost use Rattle.model.specs.Limits.{max_facts};
 ghost use Rattle.model.specs.Planes.{Table};
+ghost use Rattle.cases.specs.Blocks.{max_levels};
 ghost use Rattle.cases.specs.Lanes.{case_in};
 
 use crate::block::value_of_level;
@@ -159,7 +160,7 @@ impl Cases {
 
     // From a case to its block: the facts k .. k + levels - 1 get the values that they have in each lane of a block.
     pub fn fix_levels(&mut self, k: usize, levels: usize)
-        requires few { levels ≤ 5 }
+        requires few { levels ≤ max_levels }
         requires inside { k + levels ≤ self.old.facts }
         ensures facts { self.new.facts ≡ self.old.facts }
         ensures cases { (j : ℕ) → j < 64 → case_of self.new j ≡ block_case (case_of self.old j) k levels j }

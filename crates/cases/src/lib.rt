@@ -8,6 +8,7 @@ pub mod evaluator;
 pub mod value;
 mod words;
 
+pub use block::LEVELS;
 pub use case::Case;
 pub use cases::Cases;
 pub use evaluator::{evaluate, evaluate_first};

@@ -5,6 +5,7 @@ ghost use Rattle.model.specs.Planes.{lane_bit, Table};
 ghost use Rattle.cases.specs.Words.{Spread, raised, SameCase, SetsLiteral, CopiesFacts};
 
 use crate::value::Value;
+use model::Problem;
 
 // Every lane.
 pub const ONES: u64 = u64::MAX;
@@ -12,10 +13,8 @@ pub const ONES: u64 = u64::MAX;
 // The lanes of a word.
 pub const LANES: usize = 64;
 
-// The facts of a table; a fact's denial is the literal so many after it.
-const FACTS: usize = 64;
-
-const LITERALS: usize = 2 * FACTS;
+// A fact's denial is the literal so many after it as a table has facts.
+const LITERALS: usize = 2 * Problem::SLOTS;
 
 // The words of a table.
 pub const TABLE: usize = 2 * LITERALS;
@@ -56,7 +55,7 @@ pub fn set_literal(words: &mut [u64; TABLE], b: usize, value: Value)
     requires { b < 128 }
     ensures { SetsLiteral words.old b value.some value.sure words.new }
 {
-    let denial = (b + FACTS) % LITERALS;
+    let denial = (b + Problem::SLOTS) % LITERALS;
     words[2 * b] = value.some;
     words[2 * b + 1] = value.sure;
     words[2 * denial] = ONES ^ value.sure;

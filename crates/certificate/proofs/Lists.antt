@@ -1,16 +1,15 @@
 -- A whole list, and the answer of the call that writes it. Assumes nothing.
 use Rattle.std.proofs.Common.{◌≡◌, refl, sym, ap, ◌∙◌, subst, List, [], ◌++◌, ℕ, ◌+◌, ◌-◌, ◌*◌, ◌≤◌, ◌<◌, arith, length, drop, lt-ltb, le-ltb, Result, Ok, Err}
 use lib.Seq.{sets, sets-eq, length-sets}
-use Rattle.model.specs.{declared.Limits.Limits, Limits.limits_of, Answers.refusal, Answer.Answer, Answer.refused, Answer.answered}
+use Rattle.model.specs.{declared.Limits.Limits, Answers.refusal, Answer.Answer, Answer.refused, Answer.answered}
 use Rattle.model.specs.{Walk.Line, Walk.Walked, Walk.covered, Walk.failed, Walk.visits, Walk.walked, Walk.judged, Walk.found, Read.head_bytes, Read.block}
 use Rattle.model.specs.ListBytes.{lines_bytes, encode_list}
-use Rattle.model.specs.Operations.{read_task, list_bytes, lines_for, written, list_for, write_list}
+use Rattle.model.specs.Operations.{list_bytes, lines_for, lines_read, written, write_read}
 use Rattle.model.specs.{declared.Refusal.Refusal, Faults.fault_number, WellFormed.Sensible}
 use Rattle.model.specs.Answer as Answer
 use Rattle.model.specs.Case as model
 use Rattle.model.proofs.{Laws.ListCodec.length-lines, Laws.Reading.length-bytes_of, Laws.Lists.length-encode_list, Laws.Judging.judged-in, Laws.Judging.judged-out}
-use Rattle.model.proofs.{Laws.Tasks.list-for-is, Laws.Stores.sets-append}
-use Rattle.blocks.specs.declared.problem.Problem as problems
+use Rattle.model.proofs.{Laws.Tasks.lines-is, Laws.Stores.sets-append}
 use Rattle.blocks.specs.declared.task.Task as blocks
 use Rattle.blocks.specs.Values as values
 use Rattle.blocks.proofs.Tasks.{facts-fit}
@@ -54,26 +53,28 @@ writes-task F S w g body before after p q r room em at W e ls a c h b =
 -- ---- the answer
 
 -- what a call that writes answers and leaves
-abbrev pub Left : Limits → List ℕ → List ℕ → ℕ → List ℕ → Answer ℕ → List ℕ → Type 0
-Left F s t g before a after = (a ≡ (write_list F s t g before).answer) × (after ≡ (write_list F s t g before).buffer)
+abbrev pub Left : Limits → Answer model.Task → ℕ → List ℕ → Answer ℕ → List ℕ → Type 0
+Left F R g before a after = (a ≡ (write_read F R g before).answer) × (after ≡ (write_read F R g before).buffer)
 
 left-refused :
-    (F : Limits) (s t : List ℕ) (g : ℕ) (before : List ℕ) (n q : ℕ) → list_for F s t g (length before) ≡ refused n q →
-    Left F s t g before (refused n q) before
-unfolding write_list written
-left-refused F s t g before n q e = rw e (refl, refl)
+    (F : Limits) (R : Answer model.Task) (g : ℕ) (before : List ℕ) (n q : ℕ) → lines_read F R g (length before) ≡ refused n q →
+    Left F R g before (refused n q) before
+unfolding write_read written
+left-refused F R g before n q e = rw e (refl, refl)
 
+-- what the readers refused
 pub list-refused :
-    (s t : List ℕ) (r : Refusal) → read_task (limits_of s) s t ≡ refusal r → (g : ℕ) (before : List ℕ) → Left (limits_of s) s t g before (refusal r) before
-unfolding list_for Answer.◌>>=◌
-list-refused s t r h g before = left-refused (limits_of s) s t g before (fault_number r.fault) r.place (rw h)
+    (F : Limits) (R : Answer model.Task) (r : Refusal) → R ≡ refusal r → (g : ℕ) (before : List ℕ) → Left F R g before (refusal r) before
+unfolding lines_read Answer.◌>>=◌
+list-refused F R r h g before = left-refused F R g before (fault_number r.fault) r.place (rw h)
 
--- the task of a problem that was read by a version's numbers has these
-pub of-version : (t : blocks.Task) (p : problems.Problem) → t.problem.now ≡ p → {F : Limits} → p.limits ≡ F → t.problem.now.limits ≡ F
-of-version t p e f = ap (λ (x : problems.Problem). x.limits) e ∙ f
+-- what is so of the task that was read
+pub list-found :
+    (F G : Limits) (R : Answer model.Task) (T : model.Task) → R ≡ answered T → G ≡ F → (g : ℕ) (before : List ℕ) (a : Answer ℕ) (after : List ℕ) →
+    Left G (answered T) g before a after → Left F R g before a after
+list-found F G R T h limits g before a after l = rw (h, ← limits) l
 
-module _ (s t : List ℕ) (lent : blocks.Task) (limits : lent.problem.now.limits ≡ (limits_of s)) (read : read_task (limits_of s) s t ≡ answered (values.task lent))
-    (g : ℕ) (before : List ℕ) {L : Type 0} (puts : L → List Line → L → Type 0) (old new : L) where
+module _ (lent : blocks.Task) (g : ℕ) (before : List ℕ) {L : Type 0} (puts : L → List Line → L → Type 0) (old new : L) where
   abbrev F : Limits
   F = lent.problem.now.limits
 
@@ -81,53 +82,47 @@ module _ (s t : List ℕ) (lent : blocks.Task) (limits : lent.problem.now.limits
   T = values.task lent
 
   abbrev Leaves : Answer ℕ → List ℕ → Type 0
-  Leaves a after = Left (limits_of s) s t g before a after
+  Leaves a after = Left F (answered T) g before a after
 
-  -- the numbers that were found are the version's
-  leaves : (a : Answer ℕ) (after : List ℕ) → Left F s t g before a after → Leaves a after
-  leaves a after = subst (λ (G : Limits). Left G s t g before a after) limits
+  for : lines_read F (answered T) g (length before) ≡ lines_for F (length before) (judged T g)
+  for = lines-is F T g (length before)
 
-  for : list_for F s t g (length before) ≡ lines_for F (length before) (judged T g)
-  for = list-for-is F s t T (subst (λ (G : Limits). read_task G s t ≡ answered T) (sym limits) read) g (length before)
-
-  found_as : (x : Walked) → walked T ≡ x → visits (walked T) ≤ g → list_for F s t g (length before) ≡ lines_for F (length before) (found T x)
+  found_as : (x : Walked) → walked T ≡ x → visits (walked T) ≤ g → lines_read F (answered T) g (length before) ≡ lines_for F (length before) (found T x)
   found_as x e l = for ∙ ap (lines_for F (length before)) (judged-in T (facts-fit lent) g x e l)
 
   pub list-undecided : Walks puts (walked T) g old (Err OutOfVisits) new → Leaves (refused 50 g) before
   unfolding lines_for
-  list-undecided W = leaves _ _ (left-refused F s t g before 50 g (for ∙ ap (lines_for F (length before)) (judged-out T (facts-fit lent) g W.is)))
+  list-undecided W = left-refused F _ g before 50 g (for ∙ ap (lines_for F (length before)) (judged-out T (facts-fit lent) g W.is))
 
   pub list-wrong : (x left : ℕ) → Walks puts (walked T) g old (Err (Failed x left)) new → Leaves (refused 51 (g - left)) before
   unfolding lines_for
-  list-wrong x left W =
-      leaves _ _ (left-refused F s t g before 51 (g - left) (found_as (failed x (g - left)) W.is (omega (arith, ap visits W.is))))
+  list-wrong x left W = left-refused F _ g before 51 (g - left) (found_as (failed x (g - left)) W.is (omega (arith, ap visits W.is)))
 
   module _ (c : Closed) (W : Walks puts (walked T) g old (Ok c) new) where
     -- the lines of a right plan
-    right-for : list_for F s t g (length before) ≡ lines_for F (length before) (found T (covered W.closed (g - c.left)))
+    right-for : lines_read F (answered T) g (length before) ≡ lines_for F (length before) (found T (covered W.closed (g - c.left)))
     right-for = found_as (covered W.closed (g - c.left)) W.is (omega (arith, ap visits W.is))
 
     pub list_over : F.lines < c.lines → Leaves (refused 52 c.lines) before
     unfolding lines_for
     list_over k =
-        leaves _ _ (left-refused F s t g before 52 c.lines (right-for ∙ rw (W.counted.1, lt-ltb F.lines (length W.closed) (omega (arith, W.counted.1)))))
+        left-refused F _ g before 52 c.lines (right-for ∙ rw (W.counted.1, lt-ltb F.lines (length W.closed) (omega (arith, W.counted.1))))
 
     module _ (few : c.lines ≤ F.lines) where
       pub list-short : length before < head_bytes + F.line * c.lines → Leaves (refused 53 c.lines) before
       unfolding lines_for list_bytes
       list-short m =
           let u : length before < head_bytes + F.line * length W.closed = subst (λ (x : ℕ). length before < head_bytes + F.line * x) W.counted.1 m in
-          leaves _ _
-          (left-refused F s t g before 53 c.lines
-          (right-for ∙ rw (W.counted.1, le-ltb F.lines (length W.closed) (omega (arith, W.counted.1)), lt-ltb (length before) (head_bytes + F.line * length W.closed) u)))
+          left-refused F _ g before 53 c.lines
+          (right-for ∙ rw (W.counted.1, le-ltb F.lines (length W.closed) (omega (arith, W.counted.1)), lt-ltb (length before) (head_bytes + F.line * length W.closed) u))
 
       pub list_written :
           (after : List ℕ) (body : ℕ) → body ≡ F.line * c.lines → head_bytes + body ≤ length before →
           WritesTask F (walked T) g body before after → Leaves (answered (head_bytes + body)) after
-      unfolding lines_for list_bytes write_list written
+      unfolding lines_for list_bytes write_read written
       list_written after body b m P =
           let z : body ≡ F.line * length W.closed = b ∙ ap (λ (x : ℕ). F.line * x) W.counted.1 in
-          let q : list_for F s t g (length before) ≡ answered W.closed =
+          let q : lines_read F (answered T) g (length before) ≡ answered W.closed =
           right-for ∙ rw (le-ltb F.lines (length W.closed) (omega (arith, W.counted.1)), le-ltb (length before) (head_bytes + F.line * length W.closed) (omega arith))
           in
-          leaves _ _ (rw (q, z) (refl, P W.closed (g - c.left) W.is (omega arith) z ∙ rw z))
+          rw (q, z) (refl, P W.closed (g - c.left) W.is (omega arith) z ∙ rw z)

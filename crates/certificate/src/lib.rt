@@ -4,4 +4,4 @@
 pub mod theorem;
 pub mod write;
 
-pub use write::write_list;
+pub use write::{write_list, write_list_task};

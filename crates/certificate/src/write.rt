@@ -5,7 +5,8 @@ ghost use Rattle.std.proofs.lemmas.List.Edits.{sets};
 ghost use Rattle.model.specs.Limits.{limits_of};
 ghost use Rattle.model.specs.Read.{head_bytes};
 ghost use Rattle.model.specs.Walk.{walked};
-ghost use Rattle.model.specs.Operations.{write_list};
+ghost use Rattle.model.specs.Answer.{answered};
+ghost use Rattle.model.specs.Operations.{write_list, write_read, read_both};
 ghost use Rattle.model.specs.Answers.{plain_answer};
 ghost use Rattle.blocks.specs.Values.{task as task_of};
 ghost use Rattle.certificate.specs.Promise.{WritePromised};
@@ -38,16 +39,13 @@ fn write_task(task: &Task, grant: u64, body: usize, out: &mut [u8])
     let _ended = walk_task(task, grant, &mut page);
 }
 
-// Write the list with a grant: the refusals of problem and plan; 50 undecided and 51 wrong, with the visits; 52 too many lines and 53 too
-// short a buffer, with the lines; or the list block in the first bytes, and its length.
-pub fn write_list(problem: &[u8], plan: &[u8], grant: u64, out: &mut [u8]) -> Result<usize, Refusal>
-    ensures answer { plain_answer result ≡ (write_list (limits_of problem.now) problem.now plan.now grant out.old).answer }
-    ensures buffer { out.new ≡ (write_list (limits_of problem.now) problem.now plan.now grant out.old).buffer }
-    ensures promised { WritePromised problem.now plan.now grant out.old (plain_answer result) out.new }
+// Writes the list of a task that was read: 50 undecided and 51 wrong, with the visits; 52 too many lines and 53 too short a buffer, with the lines;
+// or the list block in the first bytes, and its length.
+pub fn write_list_task(task: &Task, grant: u64, out: &mut [u8]) -> Result<usize, Refusal>
+    ensures answer { plain_answer result ≡ (write_read task.now.problem.now.limits (answered (task_of task.now)) grant out.old).answer }
+    ensures buffer { out.new ≡ (write_read task.now.problem.now.limits (answered (task_of task.now)) grant out.old).buffer }
 {
-    let found = Problem::read(problem)?;
-    let task = found.plan(plan)?;
-    match walk_task(&task, grant, &mut Unkept) {
+    match walk_task(task, grant, &mut Unkept) {
         Err(Stopped::OutOfVisits) => Err(Fault::Undecided.at(grant)),
         Err(Stopped::Failed { state: _, left }) => Err(Fault::Wrong.at(grant - left)),
         Ok(closed) => {
@@ -62,8 +60,19 @@ pub fn write_list(problem: &[u8], plan: &[u8], grant: u64, out: &mut [u8]) -> Re
             if short {
                 return Err(Fault::ShortBuffer.at(lines));
             }
-            write_task(&task, grant, body, out);
+            write_task(task, grant, body, out);
             Ok(length)
         }
     }
+}
+
+// Write the list with a grant: the refusals of problem and plan, and then those of the task that they make; or its list's length.
+pub fn write_list(problem: &[u8], plan: &[u8], grant: u64, out: &mut [u8]) -> Result<usize, Refusal>
+    ensures answer { plain_answer result ≡ (write_list (limits_of problem.now) problem.now plan.now grant out.old).answer }
+    ensures buffer { out.new ≡ (write_list (limits_of problem.now) problem.now plan.now grant out.old).buffer }
+    ensures promised { WritePromised (limits_of problem.now) (read_both problem.now plan.now) grant out.old (plain_answer result) out.new }
+{
+    let found = Problem::read(problem)?;
+    let task = found.plan(plan)?;
+    write_list_task(&task, grant, out)
 }

@@ -75,12 +75,11 @@ impl Telling<'_> {
         ensures { OnOk result (string_bytes out.new ≡ string_bytes out.old ++ told_from (names_of self.entry.names) (problem_of self.entry.task.now.problem.now) self.entry.task.now.steps.now 0 (state_in start.now)) }
     {
         let names = self.names;
-        let problem = self.task.problem;
         let mut current = *start;
         let mut conditions = Conditions::new();
         for i in 0..self.task.steps.len() {
             let step = self.task.steps[i];
-            let action = problem.action(step);
+            let action = self.task.action(i);
             let head = StepHead {
                 number: i,
                 action: ActionName {

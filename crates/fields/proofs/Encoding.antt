@@ -1,5 +1,5 @@
 -- The bytes of a formula and of an action hold it. Assumes nothing.
-use Rattle.std.proofs.Common.{◌≡◌, refl, ap, ◌∙◌, ℕ, ◌+◌, ◌-◌, ◌≤◌, List, [], ◌∷◌, add-zero, length, get_or, drop, arith, true, drop-drop, get_or-drop, length-drop, le-leb, eq-eqb}
+use Rattle.std.proofs.Common.{◌≡◌, refl, sym, ap, subst, ◌∙◌, ℕ, ◌+◌, ◌-◌, ◌≤◌, List, [], ◌∷◌, add-zero, length, get_or, drop, arith, true, drop-drop, get_or-drop, length-drop, le-leb, eq-eqb}
 use Rattle.model.specs.Limits.{max_effects}
 use Rattle.model.specs.Formula.{Formula}
 use Rattle.model.specs.Action.{Effect, Action}
@@ -12,7 +12,7 @@ use Rattle.formula.specs.Readings.{forgotten}
 use Rattle.formula.proofs.Readers.{next-got}
 use Rattle.model.specs.WellFormed.{Bytes, EffectsOk}
 use Rattle.model.proofs.Laws.Spans.{Span, FormulaAt, ActionAt}
-use Rattle.model.proofs.Laws.Reading.{first, split}
+use Rattle.model.proofs.Laws.Reading.{first, split, span-length, span-end}
 use Rattle.model.proofs.Laws.FormulaCodec.{literal-ok, stated-bytes}
 use Rattle.model.proofs.Laws.Truth.{and_both}
 use Rattle.formula.specs.Decoding.{decode, head}
@@ -75,6 +75,9 @@ pub record ActionCut (F : Limits) (s : List ℕ) (facts p q : ℕ) : Type 0 wher
   pub read : action F s facts p ≡ got (action_of (drop p s)) q
   pub sound : is_action facts (drop p s) ≡ true
   pub begins : p ≤ length s
+  -- it ends where its bytes do
+  pub ends : q ≡ p + length (action_bytes (action_of (drop p s)))
+  pub inside : q ≤ length s
 
 pub action-cut :
     (F : Limits) (s : List ℕ) (facts p q : ℕ) → facts ≤ 64 → F.effects ≤ max_effects → Bytes s → got tt q ≡ forgotten (action F s facts p) → ActionCut F s facts p q
@@ -84,4 +87,5 @@ action-cut F s facts p q few most b e =
     let (k, v) = action-got F s facts few p g.value q b g.is in
     let at : ActionAt s facts p g.value q = record { precondition = k.precondition; few = omega (arith, k.count); effects = k.effects; bytes = v } in
     let (z, t) = action-stated facts few s p g.value q at in
-    record { read = rw t g.is; sound = z; begins = omega (arith, (first v).0) }
+    let begins : p ≤ length s = omega (arith, (first v).0) in
+    record { read = rw t g.is; sound = z; begins = begins; ends = subst (λ (x : Action). q ≡ p + length (action_bytes x)) (sym t) (span-length v); inside = span-end v begins }

@@ -1,11 +1,10 @@
 -- Following line by line, the running value, and the test of it. Assumes nothing.
 use Rattle.std.proofs.Common.{◌≡◌, refl, sym, ap, ap₂, ◌∙◌, Bool, true, false, cond, List, ◌∷◌, ℕ, zero, suc, ◌+◌, ◌-◌, ◌*◌, ◌%◌, ◌^◌, ◌≤◌, ◌<◌, mul-zero, mul-add, mul-le-mul_left, add-one, arith, length, take, eqb, eq-eqb, ne_eqb, min}
 use Rattle.model.specs.declared.Limits.{Limits}
-use Rattle.model.specs.Limits.{limits_of}
 use Rattle.model.specs.Answer as Answer
 use Rattle.model.specs.Answer.{Answer, refused, answered}
 use Rattle.model.specs.Read.{Read, reject, got, and_then, ◌>>◌, done, require, answer_of, head_bytes, header}
-use Rattle.model.specs.Operations.{read_task, follow_list, cover_after}
+use Rattle.model.specs.Operations.{follow_read, cover_read}
 use Rattle.model.specs.Answers.{refusal}
 use Rattle.model.specs.Guarantees.{lines_in}
 use Rattle.model.specs.declared.Refusal.{Refusal}
@@ -17,9 +16,8 @@ use Rattle.model.specs.CaseList.{refuse_at, ends, fault, follow}
 use Rattle.model.specs.Cover.{cover_end}
 use Rattle.model.specs.ListBytes.{line_at, lines_from, of_the_problem, case_list, list_of}
 use Rattle.model.proofs.Laws.ListCodec.{length-lines_from}
-use Rattle.model.proofs.Laws.Tasks.{cover-is, follow-is, task-fits}
+use Rattle.model.proofs.Laws.Tasks.{cover-is, follow-is}
 use Rattle.model.proofs.Laws.RunningEnd.{same_answers}
-use Rattle.model.proofs.Guarantees.{limits-sensible}
 use Rattle.std.proofs.lemmas.List.{take_min}
 use Rattle.fields.proofs.Readers.{header-got}
 use Rattle.blocks.specs.declared.task.Task as values
@@ -147,72 +145,64 @@ module _ (F : Limits) (list : List ℕ) where
     pub whole-lines : (length list - head_bytes) % F.line ≡ 0 → answered (lines_from F list (lines_in F list) head_bytes) ≡ list_of F list
     whole-lines h = sym (list-body q e ∙ rw (eq-eqb ((length list - head_bytes) % F.line) 0 h))
 
--- ---- the running value of a list
+-- ---- what was read
 
-pub cover-refused :
-    (problem plan list : List ℕ) (m : ℕ) (r : Refusal) → read_task (limits_of problem) problem plan ≡ refusal r → refusal r ≡ cover_after (limits_of problem) problem plan list m
-unfolding cover_after Answer.◌>>=◌
-cover-refused problem plan list m r h = rw h
+module _ (F : Limits) (R : Answer Task) (list : List ℕ) where
+  pub cover-refused : (m : ℕ) (y : Refusal) → R ≡ refusal y → refusal y ≡ cover_read F R list m
+  unfolding cover_read Answer.◌>>=◌
+  cover-refused m y h = rw h
 
-module _ (problem plan : List ℕ) (T : Task) (read : read_task (limits_of problem) problem plan ≡ answered T) (list : List ℕ) (m : ℕ) (F : Limits) (F-is : F ≡ limits_of problem) where
-  cover-by :
-      cover_after (limits_of problem) problem plan list m ≡ Answer.◌>>=◌ (list_of F list) (λ ls. end_of_lines T (take m ls))
-  cover-by = cover-is (limits_of problem) problem plan T read list m ∙ rw F-is
+  pub follow-refused : (y : Refusal) → R ≡ refusal y → refusal y ≡ follow_read F R list
+  unfolding follow_read Answer.◌>>=◌
+  follow-refused y h = rw h
 
-  pub cover-unread : (y : Refusal) → refusal y ≡ list_of F list → refusal y ≡ cover_after (limits_of problem) problem plan list m
+  -- by the numbers that were found
+  module _ (T : Task) (read : R ≡ answered T) (G : Limits) (limits : G ≡ F) where
+    pub cover-found : (m : ℕ) (u : Answer ℕ) → u ≡ cover_read G (answered T) list m → u ≡ cover_read F R list m
+    cover-found m u h = rw (read, ← limits) h
+
+    pub follow-found : (u : Answer ℕ) → u ≡ follow_read G (answered T) list → u ≡ follow_read F R list
+    follow-found u h = rw (read, ← limits) h
+
+-- ---- a list of a task
+
+module _ (F : Limits) (S : Sensible F) (T : Task) (list : List ℕ) where
+  pub cover-unread : (m : ℕ) (y : Refusal) → refusal y ≡ list_of F list → refusal y ≡ cover_read F (answered T) list m
   unfolding Answer.◌>>=◌
-  cover-unread y e = sym (cover-by ∙ rw (← e))
+  cover-unread m y e = sym (cover-is F T list m ∙ rw (← e))
 
   pub cover-lines :
-      (n : ℕ) → answered (lines_from F list n head_bytes) ≡ list_of F list → (k : ℕ) → k ≡ min m n → (u : Answer ℕ) →
-      u ≡ end_of_lines T (lines_from F list k head_bytes) → u ≡ cover_after (limits_of problem) problem plan list m
+      (m n : ℕ) → answered (lines_from F list n head_bytes) ≡ list_of F list → (k : ℕ) → k ≡ min m n → (u : Answer ℕ) →
+      u ≡ end_of_lines T (lines_from F list k head_bytes) → u ≡ cover_read F (answered T) list m
   unfolding Answer.◌>>=◌
-  cover-lines n e k k-is u h =
-      let S : Sensible F = rw F-is (limits-sensible problem) in
+  cover-lines m n e k k-is u h =
       let these : lines_from F list k head_bytes ≡ take m (lines_from F list n head_bytes) = rw k-is (least-lines F S list m n head_bytes) in
-      h ∙ ap (λ (ls : List model.Line). end_of_lines T ls) these ∙ sym (cover-by ∙ rw (← e))
+      h ∙ ap (λ (ls : List model.Line). end_of_lines T ls) these ∙ sym (cover-is F T list m ∙ rw (← e))
 
--- ---- the operation
+  pub follow-unread : (y : Refusal) → refusal y ≡ list_of F list → refusal y ≡ follow_read F (answered T) list
+  unfolding Answer.◌>>=◌
+  follow-unread y e = sym (follow-is F T list ∙ rw (← e))
 
-module _ (problem plan : List ℕ) where
-  pub follow-refused :
-      (list : List ℕ) (r : Refusal) → read_task (limits_of problem) problem plan ≡ refusal r → refusal r ≡ follow_list (limits_of problem) problem plan list
-  unfolding follow_list Answer.◌>>=◌
-  follow-refused list r h = rw h
-
-  -- F are the numbers of the problem's version
-  module _ (T : Task) (read : read_task (limits_of problem) problem plan ≡ answered T) (list : List ℕ) (F : Limits) (F-is : F ≡ limits_of problem) where
-    follow-by : follow_list (limits_of problem) problem plan list ≡ Answer.◌>>=◌ (list_of F list) (λ ls. follow T.width (look_at T) T.facts ls 0 0)
-    follow-by = follow-is (limits_of problem) problem plan T read list ∙ rw F-is
-
-    pub follow-unread : (y : Refusal) → refusal y ≡ list_of F list → refusal y ≡ follow_list (limits_of problem) problem plan list
-    unfolding Answer.◌>>=◌
-    follow-unread y e = sym (follow-by ∙ rw (← e))
-
+  module _ (width : T.width ≡ F.width) (n : ℕ) (e : answered (lines_from F list n head_bytes) ≡ list_of F list) where
     -- the running value after every line tells all
-    module _ (n : ℕ) (e : answered (lines_from F list n head_bytes) ≡ list_of F list) (x : Answer ℕ) (x-is : x ≡ end_of_lines T (lines_from F list n head_bytes)) where
-      tested : follow_list (limits_of problem) problem plan list ≡ Answer.◌>>=◌ x (λ d. ends (eqb d (2 ^ F.width)) n)
-      unfolding Answer.◌>>=◌
-      tested =
-          let S : Sensible F = rw F-is (limits-sensible problem) in
-          let count : length (lines_from F list n head_bytes) ≡ n = length-lines_from F S list n head_bytes in
-          let width : T.width ≡ F.width = (task-fits (limits_of problem) problem plan T read).width ∙ ap (λ (G : Limits). G.width) (sym F-is) in
-          let all : follow T.width (look_at T) T.facts (lines_from F list n head_bytes) 0 0 ≡ Answer.◌>>=◌ x (λ d. ends (eqb d (2 ^ F.width)) n) =
-          same_answers T.width (look_at T) T.facts (lines_from F list n head_bytes) ∙ rw (← x-is, count, width)
-          in
-          follow-by ∙ rw (← e) all
+    tested : (x : Answer ℕ) → x ≡ end_of_lines T (lines_from F list n head_bytes) → follow_read F (answered T) list ≡ Answer.◌>>=◌ x (λ d. ends (eqb d (2 ^ F.width)) n)
+    unfolding Answer.◌>>=◌
+    tested x x-is =
+        let count : length (lines_from F list n head_bytes) ≡ n = length-lines_from F S list n head_bytes in
+        let all : follow T.width (look_at T) T.facts (lines_from F list n head_bytes) 0 0 ≡ Answer.◌>>=◌ x (λ d. ends (eqb d (2 ^ F.width)) n) =
+        same_answers T.width (look_at T) T.facts (lines_from F list n head_bytes) ∙ rw (← x-is, count, width)
+        in
+        follow-is F T list ∙ rw (← e) all
 
-    module _ (n : ℕ) (e : answered (lines_from F list n head_bytes) ≡ list_of F list) where
-      pub follow-fault :
-          (y : Refusal) → refusal y ≡ end_of_lines T (lines_from F list n head_bytes) → refusal y ≡ follow_list (limits_of problem) problem plan list
-      unfolding Answer.◌>>=◌
-      follow-fault y h = sym (tested n e (refusal y) h)
+    pub follow-fault : (y : Refusal) → refusal y ≡ end_of_lines T (lines_from F list n head_bytes) → refusal y ≡ follow_read F (answered T) list
+    unfolding Answer.◌>>=◌
+    follow-fault y h = sym (tested (refusal y) h)
 
-      module _ (d : ℕ) (h : answered d ≡ end_of_lines T (lines_from F list n head_bytes)) where
-        pub follow-short : (d ≡ 2 ^ F.width → ⊥) → refused 70 n ≡ follow_list (limits_of problem) problem plan list
-        unfolding Answer.◌>>=◌ ends
-        follow-short k = sym (tested n e (answered d) h ∙ rw (ne_eqb d (2 ^ F.width) k))
+    module _ (d : ℕ) (h : answered d ≡ end_of_lines T (lines_from F list n head_bytes)) where
+      pub follow-short : (d ≡ 2 ^ F.width → ⊥) → refused 70 n ≡ follow_read F (answered T) list
+      unfolding Answer.◌>>=◌ ends
+      follow-short k = sym (tested (answered d) h ∙ rw (ne_eqb d (2 ^ F.width) k))
 
-        pub follow-passes : d ≡ 2 ^ F.width → answered n ≡ follow_list (limits_of problem) problem plan list
-        unfolding Answer.◌>>=◌ ends
-        follow-passes k = sym (tested n e (answered d) h ∙ rw (eq-eqb d (2 ^ F.width) k))
+      pub follow-passes : d ≡ 2 ^ F.width → answered n ≡ follow_read F (answered T) list
+      unfolding Answer.◌>>=◌ ends
+      follow-passes k = sym (tested (answered d) h ∙ rw (eq-eqb d (2 ^ F.width) k))

@@ -47,6 +47,17 @@ impl Covered {
         }
     }
 
+    // How many numbers it is, at most 2^64.
+    pub fn number(self) -> u128
+        ensures { result ≡ self }
+    {
+        if self.full {
+            1 << 64
+        } else {
+            self.end as u128
+        }
+    }
+
     // Whether it ends at this number, so that a line that begins there covers what comes next.
     #[inline(always)]
     pub fn ends_at(self, number: u64) -> bool

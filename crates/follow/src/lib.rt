@@ -6,4 +6,4 @@ mod follower;
 pub mod operations;
 
 pub use covered::Covered;
-pub use operations::{cover_after, follow_list};
+pub use operations::{cover_after, cover_after_task, follow_list, follow_list_task};

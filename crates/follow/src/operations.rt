@@ -4,7 +4,8 @@ ghost use Rattle.model.specs.Read.{head_bytes};
 ghost use Rattle.model.specs.Limits.{limits_of};
 ghost use Rattle.model.specs.WellFormed.{Sensible};
 ghost use Rattle.model.specs.ListBytes.{lines_from, list_of};
-ghost use Rattle.model.specs.Operations.{follow_list, cover_after};
+ghost use Rattle.model.specs.Answer.{answered};
+ghost use Rattle.model.specs.Operations.{follow_list, cover_after, follow_read, cover_read, read_both};
 ghost use Rattle.model.specs.Answers.{plain_answer};
 ghost use Rattle.blocks.specs.Values.{task as task_of};
 ghost use Rattle.follow.specs.Follows.{OfAVersion, lines_counted, end_of_lines};
@@ -65,8 +66,33 @@ fn follow_lines_by(
     Ok(follower.covered)
 }
 
-// What the first so many lines of a list cover, or all where it has fewer: the refusals of problem and plan, those of the list's block, those
-// of these lines, or how many numbers that is, which are all below where it ends.
+// What the first so many lines of a list for a task that was read cover, or all where it has fewer: the refusals of the list's block, those of these
+// lines, or how many numbers that is, which are all below where it ends.
+pub fn cover_after_task(task: &Task, list: &[u8], lines: usize) -> Result<Covered, Refusal>
+    requires { OfAVersion task.now.problem.now.limits }
+    ensures { plain_answer result ≡ cover_read task.now.problem.now.limits (answered (task_of task.now)) list.now lines }
+{
+    let limits = task.problem.limits;
+    let count = count_lines(list, limits)?;
+    follow_lines(task, list, limits, lines.min(count))
+}
+
+// Follows a list for a task that was read: 60 to 71, or the line count of a list that passes. After the last line the running value is all that is
+// asked.
+pub fn follow_list_task(task: &Task, list: &[u8]) -> Result<usize, Refusal>
+    requires { OfAVersion task.now.problem.now.limits }
+    ensures { plain_answer result ≡ follow_read task.now.problem.now.limits (answered (task_of task.now)) list.now }
+{
+    let limits = task.problem.limits;
+    let count = count_lines(list, limits)?;
+    let covered = follow_lines(task, list, limits, count)?;
+    if !covered.is_whole(limits.width) {
+        return Err(Fault::ListEnds.at(count as u64));
+    }
+    Ok(count)
+}
+
+// What the first so many lines of a list cover: the refusals of problem and plan, and then those of the task that they make; or how many numbers.
 pub fn cover_after(
     problem: &[u8],
     plan: &[u8],
@@ -74,26 +100,19 @@ pub fn cover_after(
     lines: usize,
 ) -> Result<Covered, Refusal>
     ensures answer { plain_answer result ≡ cover_after (limits_of problem.now) problem.now plan.now list.now lines }
-    ensures promised { CoverPromised problem.now plan.now list.now lines (plain_answer result) }
+    ensures promised { CoverPromised (limits_of problem.now) (read_both problem.now plan.now) list.now lines (plain_answer result) }
 {
     let found = Problem::read(problem)?;
     let task = found.plan(plan)?;
-    let count = count_lines(list, found.limits)?;
-    follow_lines(&task, list, found.limits, lines.min(count))
+    cover_after_task(&task, list, lines)
 }
 
-// Follow a list: the refusals of problem and plan, 60 to 71, or the line count of a list that passes. After the last line the running value
-// is all that is asked.
+// Follow a list: the refusals of problem and plan, and then those of the task that they make; or the line count of a list that passes.
 pub fn follow_list(problem: &[u8], plan: &[u8], list: &[u8]) -> Result<usize, Refusal>
     ensures answer { plain_answer result ≡ follow_list (limits_of problem.now) problem.now plan.now list.now }
-    ensures promised { FollowPromised problem.now plan.now list.now (plain_answer result) }
+    ensures promised { FollowPromised (limits_of problem.now) (read_both problem.now plan.now) list.now (plain_answer result) }
 {
     let found = Problem::read(problem)?;
     let task = found.plan(plan)?;
-    let count = count_lines(list, found.limits)?;
-    let covered = follow_lines(&task, list, found.limits, count)?;
-    if !covered.is_whole(found.limits.width) {
-        return Err(Fault::ListEnds.at(count as u64));
-    }
-    Ok(count)
+    follow_list_task(&task, list)
 }

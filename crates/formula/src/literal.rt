@@ -1,6 +1,8 @@
 // A literal: a fact, or the denial of one.
 ghost use Rattle.std.specs.Prelude.{◌<◌};
 
+use model::Problem;
+
 // It is known by its byte: a fact's is the fact's number, and its denial's is DENIAL more.
 #[derive(Clone, Copy)]
 pub struct Literal {
@@ -15,10 +17,10 @@ impl Literal {
     ghost use Rattle.formula.specs.Views.{literal, is_denial};
 
     // So much more is the byte of a fact's denial than the fact's.
-    pub const DENIAL: u8 = 64;
+    pub const DENIAL: u8 = Problem::MAX_FACTS_V2;
 
     // The bytes of literals are those below this one.
-    pub const COUNT: u8 = 128;
+    pub const COUNT: u8 = 2 * Literal::DENIAL;
 
     // The literal with this byte.
     #[inline(always)]

@@ -17,67 +17,70 @@ use Rattle.model.specs.Search.{first_right, none_right, undecided_at, Earlier, I
 use Rattle.model.specs.Relevance.{Layout, every_row, fewer_rows, relevant_to, run_rows, sparse_rows}
 use Rattle.model.specs.ProblemBytes.{Problem, problem_of, plan_of, action_at}
 use Rattle.model.specs.ListBytes.{list_of}
-use Rattle.model.specs.Operations.{is_state_number, state_answer, when_reached, traced_back, line_count, task_of, read_task, run_state, judge, written, lines_for, list_for, write_list, follow_list, reached_task, relevant_facts, relevant_facts_sparse, search_plans}
+use Rattle.model.specs.Operations.{is_state_number, state_answer, run_read, line_count, judge_read, when_reached, traced_back, reached_read, relevant_read, written, lines_for, lines_read, write_read, follow_read, task_of, read_task, read_both, search_plans}
 use Rattle.model.specs.Guarantees.{IsSolution, NotWritten, by_visits, by_verdict, by_lines, by_room, Searching}
-use Rattle.model.proofs.{Laws.Tasks.answer-then, Laws.Tasks.follow-is, Laws.Tasks.judge-is, Laws.Tasks.problem-fits, Guarantees.guarantees-of, Guarantees.limits-sensible}
+use Rattle.model.specs.{CaseList.follow, WellFormed.Sensible, WellFormed.ReadOk}
+use Rattle.model.proofs.{Laws.Tasks.answer-then, Laws.Tasks.follow-is, Laws.Tasks.problem-fits, Guarantees.guarantees-hold, Guarantees.guarantees-of, Guarantees.limits-sensible, Guarantees.read-sound}
 use Rattle.model.proofs.Laws.Judging.{judged-in}
 use Rattle.model.proofs.Laws.Beliefs.{solution-right}
 use Rattle.model.proofs.Laws.Lists.{n≤w}
 use Rattle.model.proofs.Laws.Searching.{answers-or-refuses}
 use Rattle.model.proofs.Laws.Tabulate.{length-tabulate}
 use Rattle.model.proofs.Laws.Verdicts.{right-closes}
-use Rattle.judge.specs.Survival.{Decided, IsRight, Settled, LargerGrant, NarrowerStart, ReadsNoToo, Narrowed, NarrowedAlike}
+use Rattle.judge.specs.Survival.{Decided, IsRight, Settled, LargerGrant, SearchedAgain, NarrowerStart, ReadsNoToo, Narrowed, NarrowedAlike}
+use Rattle.judge.proofs.Verdicts.{judge-found}
 use Rattle.judge.proofs.Narrowing.{solution-narrows, follow-becomes, walk-within}
 
 -- ---- a larger grant
 
-module _ (problem : List ℕ) (g g' : ℕ) (g≤g' : g ≤ g') where
-  judge-stays :
-      (plan : List ℕ) (x : Answer Task) → read_task (limits_of problem) problem plan ≡ x → Decided (judge (limits_of problem) problem plan g) →
-      judge (limits_of problem) problem plan g' ≡ judge (limits_of problem) problem plan g
-  unfolding judge Answer.◌>>=◌
-  judge-stays plan (refused n q) h d = rw h refl
-  judge-stays plan (answered T) h d =
-      ((guarantees-of problem).verdicts problem plan T h).larger_grant g g' g≤g' λ e. subst Decided e d
+module _ (F : Limits) (S : Sensible F) (g g' : ℕ) (g≤g' : g ≤ g') where
+  judge-stays : (R : Answer Task) → ReadOk F R → Decided (judge_read R g) → judge_read R g' ≡ judge_read R g
+  unfolding judge_read Answer.◌>>=◌
+  judge-stays (refused n q) ok d = refl
+  judge-stays (answered T) ok d = ((guarantees-hold F S).verdicts T (ok T refl)).larger_grant g g' g≤g' λ e. subst Decided e d
 
   same-verdict : (T : Task) → visits (walked T) ≤ g → judged T g' ≡ judged T g
   unfolding judged
   same-verdict T h = grind (arith, le-leb)
 
-  write-stays :
-      (plan out : List ℕ) (x : Answer Task) → read_task (limits_of problem) problem plan ≡ x →
-      (write_list (limits_of problem) problem plan g out).answer ≢ refused 50 g →
-      write_list (limits_of problem) problem plan g' out ≡ write_list (limits_of problem) problem plan g out
-  unfolding write_list list_for Answer.◌>>=◌
-  write-stays plan out (refused n q) h d = rw h refl
-  write-stays plan out (answered T) h d =
+  write-stays : (R : Answer Task) → ReadOk F R → (out : List ℕ) → (write_read F R g out).answer ≢ refused 50 g → write_read F R g' out ≡ write_read F R g out
+  unfolding write_read lines_read Answer.◌>>=◌
+  write-stays (refused n q) ok out d = refl
+  write-stays (answered T) ok out d =
       elim (dec_le (visits (walked T)) g) [
-        | yes l ↦ rw h (ap (λ v. written (limits_of problem) out (lines_for (limits_of problem) (length out) v)) (same-verdict T l))
-        | no l ↦ absurd (d (((guarantees-of problem).certificates problem plan T h).out_of_visits g out (omega arith)))
+        | yes l ↦ ap (λ v. written F out (lines_for F (length out) v)) (same-verdict T l)
+        | no l ↦ absurd (d (((guarantees-hold F S).certificates T (ok T refl)).out_of_visits g out (omega arith)))
       ]
 
-  search-stays :
-      (longest : ℕ) (x : Answer Problem) → problem_of (limits_of problem) problem ≡ x →
-      Settled (search_plans (limits_of problem) problem longest g) →
-      search_plans (limits_of problem) problem longest g' ≡ search_plans (limits_of problem) problem longest g
-  search-stays longest (refused n q) h d =
-      let first = (guarantees-of problem).all_input.problem_refuses_first problem longest in
-      first g' n q h ∙ sym (first g n q h)
-  search-stays longest (answered p) h d =
-      ((guarantees-of problem).searching problem p h).larger_grant longest g g' g≤g' λ q used e. subst Settled e d
+pub larger-grant : (F : Limits) → Sensible F → (R : Answer Task) → ReadOk F R → (g g' : ℕ) → g ≤ g' → LargerGrant F R g g'
+larger-grant F S R ok g g' l =
+    record {
+      judged = λ first second c c' d. c' ∙ judge-stays F S g g' l R ok (subst Decided c d) ∙ sym c;
+      written =
+          λ out first second after again c c' d.
+          let e = write-stays F S g g' l R ok out (λ k. d (c.0 ∙ k)) in
+          (c'.0 ∙ ap (λ w. w.answer) e ∙ sym c.0, c'.1 ∙ ap (λ w. w.buffer) e ∙ sym c.1);
+    }
 
-  pub larger-grant : LargerGrant problem g g'
-  larger-grant =
-      record {
-        judged = λ plan first second c c' d. c' ∙ judge-stays plan _ refl (subst Decided c d) ∙ sym c;
-        written =
-            λ plan out first second after again c c' d.
-            let e = write-stays plan out _ refl (λ k. d (c.0 ∙ k)) in
-            (c'.0 ∙ ap (λ w. w.answer) e ∙ sym c.0, c'.1 ∙ ap (λ w. w.buffer) e ∙ sym c.1);
-        searched = λ longest first second c c' d. c' ∙ search-stays longest _ refl (subst Settled c d) ∙ sym c;
-      }
+search-stays :
+    (problem : List ℕ) (g g' : ℕ) → g ≤ g' → (longest : ℕ) (x : Answer Problem) → problem_of (limits_of problem) problem ≡ x →
+    Settled (search_plans (limits_of problem) problem longest g) →
+    search_plans (limits_of problem) problem longest g' ≡ search_plans (limits_of problem) problem longest g
+search-stays problem g g' l longest (refused n q) h d =
+    let first = (guarantees-of problem).all_input.problem_refuses_first problem longest in
+    first g' n q h ∙ sym (first g n q h)
+search-stays problem g g' l longest (answered p) h d =
+    ((guarantees-of problem).searching problem p h).larger_grant longest g g' l λ q used e. subst Settled e d
+
+pub searched-again : (problem : List ℕ) (g g' : ℕ) → g ≤ g' → SearchedAgain problem g g'
+searched-again problem g g' l longest first second c c' d = c' ∙ search-stays problem g g' l longest _ refl (subst Settled c d) ∙ sym c
 
 -- ---- a narrower start
+
+follow-of :
+    (F : Limits) (R : Answer Task) (T : Task) → R ≡ answered T → (list : List ℕ) →
+    follow_read F R list ≡ Answer.◌>>=◌ (list_of F list) (λ ls. follow T.width (look_at T) T.facts ls 0 0)
+follow-of F R T e list = rw e (follow-is F T list)
 
 -- a task with another initial formula
 abbrev with_initial : Task → Formula → Task
@@ -94,9 +97,9 @@ module _ (problem narrower : List ℕ) (N : NarrowerStart problem narrower) wher
   -- the blocks of both are read alike
   read-both :
       (plan : List ℕ) (x : Answer (List ℕ)) → plan_of plan (length N.first.actions) ≡ x →
-      ((n q : ℕ) × (read_task (limits_of problem) problem plan ≡ refused n q) × (read_task (limits_of narrower) narrower plan ≡ refused n q)) ⊎
-      ((steps : List ℕ) × (read_task (limits_of problem) problem plan ≡ answered (task steps)) ×
-      (read_task (limits_of narrower) narrower plan ≡ answered (task' steps)))
+      ((n q : ℕ) × (read_both problem plan ≡ refused n q) × (read_both narrower plan ≡ refused n q)) ⊎
+      ((steps : List ℕ) × (read_both problem plan ≡ answered (task steps)) ×
+      (read_both narrower plan ≡ answered (task' steps)))
   unfolding read_task Answer.◌>>=◌
   read-both plan (refused n q) h = inl (n, q, rw (N.reads_first, Answer.◌>>=◌, h) refl, rw (N.reads_second, Answer.◌>>=◌, N.actions, h) refl)
   read-both plan (answered steps) h = inr (steps, rw (N.reads_first, Answer.◌>>=◌, h) refl, rw (N.reads_second, Answer.◌>>=◌, N.actions, h) refl)
@@ -125,8 +128,8 @@ module _ (problem narrower : List ℕ) (N : NarrowerStart problem narrower) wher
   right-task steps r = (solution-right (task' steps) (fits' steps)).0 (solution steps ((solution-right (task steps) (fits steps)).1 r))
 
   right-plan :
-      (plan : List ℕ) (T : Task) → read_task (limits_of problem) problem plan ≡ answered T → Right T →
-      (T' : Task) × (read_task (limits_of narrower) narrower plan ≡ answered T') × Right T'
+      (plan : List ℕ) (T : Task) → read_both problem plan ≡ answered T → Right T →
+      (T' : Task) × (read_both narrower plan ≡ answered T') × Right T'
   right-plan plan T h r =
       elim (read-both plan _ refl) [
         | inl (n, q, e, _) ↦ absurd (cc)
@@ -135,25 +138,16 @@ module _ (problem narrower : List ℕ) (N : NarrowerStart problem narrower) wher
             (task' steps, e', right-task steps (subst Right same r))
       ]
 
-  called-right :
-      (plan : List ℕ) (grant : ℕ) (x : Answer (Walk.Verdict ℕ)) → judge (limits_of problem) problem plan grant ≡ x → IsRight x →
-      (T : Task) × (read_task (limits_of problem) problem plan ≡ answered T) × Right T
-  unfolding judge
-  called-right plan grant (refused n q) h r = elim r [ ]
-  called-right plan grant (answered (wrong s o used)) h r = elim r [ ]
-  called-right plan grant (answered (undecided used)) h r = elim r [ ]
-  called-right plan grant (answered (right lines used)) h r =
-      answer-then h λ T k _. (T, k, (((guarantees-of problem).verdicts problem plan T k).judge_says grant (right lines used) h).is_right)
-
   decided-right :
-      (plan : List ℕ) (T : Task) → read_task (limits_of narrower) narrower plan ≡ answered T → Right T → (grant : ℕ) →
-      Decided (judge (limits_of narrower) narrower plan grant) → IsRight (judge (limits_of narrower) narrower plan grant)
+      (plan : List ℕ) (T : Task) → read_both narrower plan ≡ answered T → Right T → (grant : ℕ) →
+      Decided (judge_read (read_both narrower plan) grant) → IsRight (judge_read (read_both narrower plan) grant)
   decided-right plan T h r grant d =
-      let V = (guarantees-of narrower).verdicts narrower plan T h in
-      elim (dec_le (visits (walked T)) grant) [
+      let V = (guarantees-of narrower).verdicts T (read-sound narrower plan T h) in
+      rw h
+      (elim (dec_le (visits (walked T)) grant) [
         | yes l ↦ let (lines, e) = V.called_right grant l r in subst IsRight (sym e) tt
-        | no l ↦ absurd (subst Decided (V.called_undecided grant (omega arith)) d)
-      ]
+        | no l ↦ absurd (subst Decided (V.called_undecided grant (omega arith)) (rw h at d))
+      ])
 
   not-for-51 : (F : Limits) (T : Task) (grant room n q : ℕ) → NotWritten F T grant room n q → Right T → n ≡ 51 → ⊥
   not-for-51 F T grant room n q (by_visits _) r e = absurd (omega (arith, e))
@@ -191,20 +185,20 @@ module _ (problem narrower : List ℕ) (N : NarrowerStart problem narrower) wher
       by-answer S S' short r (answered (none_right used')) k s = absurd (S'.none_is_right longest other used' k p short r)
 
   pub narrowed : Narrowed problem narrower
-  unfolding follow_list
+  unfolding follow_read
   narrowed =
       record {
+        right = right-plan;
         judged =
-            λ plan grant other first second c c' r d.
-            let (T, h, ok) = called-right plan grant _ refl (subst IsRight c r) in
-            let (T', h', ok') = right-plan plan T h ok in
-            subst IsRight (sym c') (decided-right plan T' h' ok' other (subst Decided c' d));
+            λ plan T grant second h c r d.
+            let (T', h', ok) = right-plan plan T h r in
+            subst IsRight (sym c) (decided-right plan T' h' ok grant (subst Decided c d));
         written =
-            λ plan out grant other first second after c c' r used e.
-            let (T, h, ok) = called-right plan grant _ refl (subst IsRight c r) in
-            let (T', h', ok') = right-plan plan T h ok in
-            let W = (guarantees-of narrower).certificates narrower plan T' h' in
-            not-for-51 (limits_of narrower) T' other (length out) 51 used (W.refused_for other out 51 used (sym c'.0 ∙ e)) ok' refl;
+            λ plan out T grant second after h c r used e.
+            let (T', h', ok) = right-plan plan T h r in
+            let W = (guarantees-of narrower).certificates T' (read-sound narrower plan T' h') in
+            let e' : (write_read (limits_of narrower) (answered T') grant out).answer ≡ refused 51 used = rw h' at (sym c.0 ∙ e) in
+            not-for-51 (limits_of narrower) T' grant (length out) 51 used (W.refused_for grant out 51 used e') ok refl;
         searched =
             λ longest grant other first second c c' p used e d.
             let (q, used', k, l) = finds longest grant other p used (sym c ∙ e) _ refl (subst Settled c' d) in
@@ -213,7 +207,7 @@ module _ (problem narrower : List ℕ) (N : NarrowerStart problem narrower) wher
             λ plan list lines other first second c c' e d.
             let f = sym c ∙ e in
             answer-then f λ T h _.
-            let ok = (((guarantees-of problem).certificates problem plan T h).passes_only_right list lines f).0 in
+            let ok = (((guarantees-of problem).certificates T (read-sound problem plan T h)).passes_only_right list lines (rw h at f)).0 in
             let (T', h', ok') = right-plan plan T h ok in
             subst IsRight (sym c') (decided-right plan T' h' ok' other (subst Decided c' d));
       }
@@ -267,17 +261,17 @@ module _ (problem narrower : List ℕ) (N : NarrowerStart problem narrower) (ali
   -- both are read with the plan, as tasks that differ in the initial formula; or both are refused alike
   reads :
       (plan : List ℕ) →
-      ((n q : ℕ) × (read_task (limits_of problem) problem plan ≡ refused n q) × (read_task (limits_of narrower) narrower plan ≡ refused n q)) ⊎
-      ((steps : List ℕ) × (read_task (limits_of problem) problem plan ≡ answered (task problem narrower N steps)) ×
-      (read_task (limits_of narrower) narrower plan ≡ answered (with_initial (task problem narrower N steps) N.second.initial)))
+      ((n q : ℕ) × (read_both problem plan ≡ refused n q) × (read_both narrower plan ≡ refused n q)) ⊎
+      ((steps : List ℕ) × (read_both problem plan ≡ answered (task problem narrower N steps)) ×
+      (read_both narrower plan ≡ answered (with_initial (task problem narrower N steps) N.second.initial)))
   reads plan =
       elim (read-both problem narrower N plan _ refl) [
         | inl r ↦ inl r
         | inr (steps, e, e') ↦ inr (steps, e, e' ∙ ap answered (again-task steps))
       ]
 
-  run-again : (plan : List ℕ) (s : ℕ) → run_state (limits_of narrower) narrower plan s ≡ run_state (limits_of problem) problem plan s
-  unfolding run_state Answer.◌>>=◌ is_state_number run_of
+  run-again : (plan : List ℕ) (s : ℕ) → run_read (read_both narrower plan) s ≡ run_read (read_both problem plan) s
+  unfolding run_read Answer.◌>>=◌ is_state_number run_of
   run-again plan s =
       elim (reads plan) [
         | inl (n, q, e, e') ↦ rw (e, e') refl
@@ -285,8 +279,8 @@ module _ (problem narrower : List ℕ) (N : NarrowerStart problem narrower) (ali
       ]
 
   every-again :
-      (plan : List ℕ) (s : ℕ) (work : List ℕ) → relevant_facts (limits_of narrower) narrower plan s work ≡ relevant_facts (limits_of problem) problem plan s work
-  unfolding relevant_facts reached_task Answer.◌>>=◌ is_state_number run_of run_rows
+      (plan : List ℕ) (s : ℕ) (work : List ℕ) → relevant_read every_row (read_both narrower plan) s work ≡ relevant_read every_row (read_both problem plan) s work
+  unfolding relevant_read reached_read Answer.◌>>=◌ is_state_number run_of run_rows
   every-again plan s work =
       elim (reads plan) [
         | inl (n, q, e, e') ↦ rw (e, e') refl
@@ -296,8 +290,8 @@ module _ (problem narrower : List ℕ) (N : NarrowerStart problem narrower) (ali
 
   sparse-again :
       (plan : List ℕ) (s : ℕ) (work : List ℕ) →
-      relevant_facts_sparse (limits_of narrower) narrower plan s work ≡ relevant_facts_sparse (limits_of problem) problem plan s work
-  unfolding relevant_facts_sparse reached_task Answer.◌>>=◌ is_state_number run_of sparse_rows
+      relevant_read fewer_rows (read_both narrower plan) s work ≡ relevant_read fewer_rows (read_both problem plan) s work
+  unfolding relevant_read reached_read Answer.◌>>=◌ is_state_number run_of sparse_rows
   sparse-again plan s work =
       elim (reads plan) [
         | inl (n, q, e, e') ↦ rw (e, e') refl
@@ -306,15 +300,15 @@ module _ (problem narrower : List ℕ) (N : NarrowerStart problem narrower) (ali
       ]
 
   unread :
-      (plan list : List ℕ) (grant n q : ℕ) → read_task (limits_of problem) problem plan ≡ refused n q →
-      (follow_list (limits_of problem) problem plan list ≡ refused n q) × (judge (limits_of problem) problem plan grant ≡ refused n q)
-  unfolding follow_list judge Answer.◌>>=◌
+      (plan list : List ℕ) (grant n q : ℕ) → read_both problem plan ≡ refused n q →
+      (follow_read (limits_of problem) (read_both problem plan) list ≡ refused n q) × (judge_read (read_both problem plan) grant ≡ refused n q)
+  unfolding follow_read judge_read Answer.◌>>=◌
   unread plan list grant n q h = (rw h refl, rw h refl)
 
   follow-again :
-      (plan list : List ℕ) (lines : ℕ) → follow_list (limits_of problem) problem plan list ≡ answered lines →
-      (follow_list (limits_of narrower) narrower plan list ≡ answered lines) ⊎
-      ((i : ℕ) × (i < lines) × (follow_list (limits_of narrower) narrower plan list ≡ refused 69 i))
+      (plan list : List ℕ) (lines : ℕ) → follow_read (limits_of problem) (read_both problem plan) list ≡ answered lines →
+      (follow_read (limits_of narrower) (read_both narrower plan) list ≡ answered lines) ⊎
+      ((i : ℕ) × (i < lines) × (follow_read (limits_of narrower) (read_both narrower plan) list ≡ refused 69 i))
   unfolding Answer.◌>>=◌
   follow-again plan list lines f =
       elim (reads plan) [
@@ -322,8 +316,8 @@ module _ (problem narrower : List ℕ) (N : NarrowerStart problem narrower) (ali
         | inr (steps, e, e') ↦
             let T = task problem narrower N steps in
             let T' = with_initial T N.second.initial in
-            let second = follow-is (limits_of narrower) narrower plan T' e' list in
-            answer-then (sym (follow-is (limits_of problem) problem plan T e list) ∙ f) λ ls h g.
+            let second = follow-of (limits_of narrower) (read_both narrower plan) T' e' list in
+            answer-then (sym (follow-of (limits_of problem) (read_both problem plan) T e list) ∙ f) λ ls h g.
             let h' : list_of (limits_of narrower) list ≡ answered ls = rw alike h in
             let is = rw h' at second in
             elim (follow-becomes T.width T.facts (look_at T) (look_at T') ls 0 0 lines g) [
@@ -338,24 +332,24 @@ module _ (problem narrower : List ℕ) (N : NarrowerStart problem narrower) (ali
 
   within :
       ReadsNoToo N.first.initial N.second.initial → (plan : List ℕ) (grant lines used : ℕ) →
-      judge (limits_of problem) problem plan grant ≡ answered (right lines used) →
-      (lines' used' : ℕ) × (judge (limits_of narrower) narrower plan grant ≡ answered (right lines' used')) × (lines' ≤ lines) × (used' ≤ used)
+      judge_read (read_both problem plan) grant ≡ answered (right lines used) →
+      (lines' used' : ℕ) × (judge_read (read_both narrower plan) grant ≡ answered (right lines' used')) × (lines' ≤ lines) × (used' ≤ used)
   within h plan grant lines used e =
       elim (reads plan) [
         | inl (n, q, k, k') ↦ let r = (unread plan [] grant n q k).1 in absurd (cc)
         | inr (steps, k, k') ↦
             let T = task problem narrower N steps in
             let T' = with_initial T N.second.initial in
-            let says = ((guarantees-of problem).verdicts problem plan T k).judge_says grant (right lines used) e in
+            let says = ((guarantees-of problem).verdicts T (read-sound problem plan T k)).judge_says grant (right lines used) (rw k at e) in
             let (ls, a, w) = right-closes T (fits problem narrower N steps) says.is_right in
             let (ms, b, w', l, m) = closes-within T N.second.initial (rw (first-initial steps) h) ls a w in
             let first = judged-in T (fits problem narrower N steps) grant (covered ls a) w (omega (arith, says.within, says.walk_visits, ap visits w)) in
             let second = judged-in T' (fits problem narrower N steps) grant (covered ms b) w' (omega (arith, says.within, says.walk_visits, ap visits w, ap visits w', m)) in
             let is : answered (right lines used) ≡ answered (right (length ls) a) =
-            sym e ∙ judge-is (limits_of problem) problem plan T k grant ∙ ap (λ x. answered (line_count x)) first in
+            sym e ∙ sym (judge-found (read_both problem plan) T k grant) ∙ ap (λ x. answered (line_count x)) first in
             let lines-are : lines ≡ length ls = cc in
             let used-are : used ≡ a = cc in
-            let again = judge-is (limits_of narrower) narrower plan T' k' grant ∙ ap (λ x. answered (line_count x)) second in
+            let again = sym (judge-found (read_both narrower plan) T' k' grant) ∙ ap (λ x. answered (line_count x)) second in
             (length ms, b, again, omega (arith, l, lines-are), omega (arith, m, used-are))
       ]
 
@@ -369,7 +363,7 @@ module _ (problem narrower : List ℕ) (N : NarrowerStart problem narrower) (ali
 
   no-lower :
       (plan : List ℕ) (grant other : ℕ) (s t used used' : ℕ) (o o' : Outcome) →
-      judge (limits_of problem) problem plan grant ≡ answered (wrong s o used) → judge (limits_of narrower) narrower plan other ≡ answered (wrong t o' used') →
+      judge_read (read_both problem plan) grant ≡ answered (wrong s o used) → judge_read (read_both narrower plan) other ≡ answered (wrong t o' used') →
       s ≤ t
   unfolding run_of
   no-lower plan grant other s t used used' o o' e e' =
@@ -378,8 +372,8 @@ module _ (problem narrower : List ℕ) (N : NarrowerStart problem narrower) (ali
         | inr (steps, k, k') ↦
             let T = task problem narrower N steps in
             let T' = with_initial T N.second.initial in
-            let S = (((guarantees-of problem).verdicts problem plan T k).judge_says grant (wrong s o used) e).lowest in
-            let S' = (((guarantees-of narrower).verdicts narrower plan T' k').judge_says other (wrong t o' used') e').lowest in
+            let S = (((guarantees-of problem).verdicts T (read-sound problem plan T k)).judge_says grant (wrong s o used) (rw k at e)).lowest in
+            let S' = (((guarantees-of narrower).verdicts T' (read-sound narrower plan T' k')).judge_says other (wrong t o' used') (rw k' at e')).lowest in
             elim (dec_le s t) [
               | yes l ↦ l
               | no l ↦ absurd (S'.not_reached (S.before t (start-before steps t S'.start) (omega arith)))

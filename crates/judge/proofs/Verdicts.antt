@@ -1,8 +1,8 @@
 -- The judge's verdict, by the walk of a whole task. Assumes nothing.
 use Rattle.std.proofs.Common.{◌≡◌, refl, sym, ap, ◌∙◌, List, ℕ, ◌-◌, ◌≤◌, arith, Ok, Err}
-use Rattle.model.specs.{Limits.limits_of, Answer.Answer, Answer.answered, Case.Task, Case.run_of, Case.IsState}
-use Rattle.model.specs.Walk.{Line, covered, failed, visits, walked, right, wrong}
-use Rattle.model.specs.{Operations.read_task, Operations.line_count, Operations.judge, Answers.refusal, Answers.verdict, declared.Outcome.Outcome}
+use Rattle.model.specs.{Answer.Answer, Answer.answered, Case.Task, Case.run_of, Case.IsState}
+use Rattle.model.specs.Walk.{Line, covered, failed, visits, walked, right, wrong, judged}
+use Rattle.model.specs.{Operations.line_count, Operations.judge_read, Answers.refusal, Answers.verdict, declared.Outcome.Outcome}
 use Rattle.model.specs.{declared.Refusal.Refusal, declared.Verdict.TheVariants.Right, declared.Verdict.TheVariants.Wrong, declared.Verdict.TheVariants.Undecided}
 use Rattle.model.specs.Answer as Answer
 use Rattle.model.specs.Answers as Answers
@@ -39,8 +39,12 @@ module _ {L : Type 0} (puts : L → List Line → L → Type 0) (T : Task) (n≤
         let i = judged-in T n≤w g (failed x a) W.is (omega (arith, ap visits W.is)) in
         record { closed = W.closed; put = W.put; answer = ap (λ o. wrong x o a) e ∙ sym (ap line_count i); lines = rw i tt }
 
--- ---- the blocks
+-- ---- what was read
 
-pub judge-refused : (s t : List ℕ) (y : Refusal) → read_task (limits_of s) s t ≡ refusal y → (g : ℕ) → refusal y ≡ judge (limits_of s) s t g
-unfolding judge Answer.◌>>=◌
-judge-refused s t y e g = rw e
+pub judge-refused : (R : Answer Task) (y : Refusal) → R ≡ refusal y → (g : ℕ) → refusal y ≡ judge_read R g
+unfolding judge_read Answer.◌>>=◌
+judge-refused R y e g = rw e
+
+pub judge-found : (R : Answer Task) (T : Task) → R ≡ answered T → (g : ℕ) → answered (line_count (judged T g)) ≡ judge_read R g
+unfolding judge_read Answer.◌>>=◌
+judge-found R T e g = rw e

@@ -3,9 +3,13 @@
 use Rattle.std.specs.Prelude.{◌≡◌, ◌≢◌, ◌⊎◌, Bool, List, ℕ, ◌≤◌, ◌<◌, Result}
 use Rattle.model.specs.Kleene.{Kleene, No, three}
 use Rattle.model.specs.Formula.{Formula, eval}
+use Rattle.model.specs.declared.Limits.{Limits}
 use Rattle.model.specs.Limits.{limits_of}
 use Rattle.model.specs.Answer.{Answer, refused, answered}
 use Rattle.model.specs.Run as Run
+use Rattle.model.specs.Case.{Task, Right}
+use Rattle.model.specs.Relevance.{every_row, fewer_rows}
+use Rattle.model.specs.Operations.{read_both}
 use Rattle.model.specs.Belief.{initial_belief}
 use Rattle.model.specs.Walk as Walk
 use Rattle.model.specs.Walk.{right, wrong, undecided}
@@ -13,7 +17,7 @@ use Rattle.model.specs.Search as Search
 use Rattle.model.specs.Search.{first_right, none_right, undecided_at, Earlier}
 use Rattle.model.specs.ProblemBytes.{Problem, problem_of}
 use Rattle.model.specs.Answers.{plain_answer, run_answer, judge_answer, search_answer}
-use Rattle.model.specs.Calls.{RunCall, JudgeCall, WriteCall, FollowCall, RelevantCall, SparseCall, SearchCall}
+use Rattle.model.specs.Calls.{RunCall, JudgeCall, WriteCall, FollowCall, RelevantCall, SearchCall}
 use Rattle.model.specs.declared.Refusal.{Refusal}
 use Rattle.model.specs.declared.Outcome.{Outcome}
 use Rattle.model.specs.declared.Verdict.{Verdict}
@@ -42,21 +46,23 @@ Settled (answered (undecided_at p used)) = ⊥
 
 -- ---- a larger grant
 
--- what stays when a call with a problem is made again with a larger grant
-pub record LargerGrant (problem : List ℕ) (grant larger : ℕ) : Type 0 where
+-- what stays when a task, or the refusal that it was read with, is asked again with a larger grant
+pub record LargerGrant (F : Limits) (R : Answer Task) (grant larger : ℕ) : Type 0 where
   -- a right or wrong verdict, with its lines, or its state and where that fails, and its visits
   pub judged :
-      (plan : List ℕ) (first second : Result Verdict Refusal) → JudgeCall problem plan grant first → JudgeCall problem plan larger second →
+      (first second : Result Verdict Refusal) → JudgeCall R grant first → JudgeCall R larger second →
       Decided (judge_answer first) → judge_answer second ≡ judge_answer first
   -- a list that was written, and every refusal but 50, with every byte of the buffer
   pub written :
-      (plan out : List ℕ) (first second : Result ℕ Refusal) (after again : List ℕ) → WriteCall problem plan grant out first after →
-      WriteCall problem plan larger out second again → plain_answer first ≢ refused 50 grant →
+      (out : List ℕ) (first second : Result ℕ Refusal) (after again : List ℕ) → WriteCall R F grant out first after →
+      WriteCall R F larger out second again → plain_answer first ≢ refused 50 grant →
       (plain_answer second ≡ plain_answer first) × (again ≡ after)
-  -- the plan that a search found, or that none is right, with the visits
-  pub searched :
-      (longest : ℕ) (first second : Result Search Refusal) → SearchCall problem longest grant first → SearchCall problem longest larger second →
-      Settled (search_answer first) → search_answer second ≡ search_answer first
+
+-- the plan that a search found, or that none is right, with the visits
+abbrev pub SearchedAgain : List ℕ → ℕ → ℕ → Type 0
+SearchedAgain problem grant larger =
+    (longest : ℕ) (first second : Result Search Refusal) → SearchCall problem longest grant first → SearchCall problem longest larger second →
+    Settled (search_answer first) → search_answer second ≡ search_answer first
 
 -- ---- a narrower start
 
@@ -75,17 +81,20 @@ pub record NarrowerStart (problem narrower : List ℕ) : Type 0 where
 abbrev pub ReadsNoToo : Formula → Formula → Type 0
 ReadsNoToo φ ψ = (c : List Kleene) → eval three c φ ≡ No → eval three c ψ ≡ No
 
--- what the answers to the first problem say of those to the second
+-- what a plan that is right for the first problem is for the second, and what the answers to the first say of those to the second
 pub record Narrowed (problem narrower : List ℕ) : Type 0 where
-  -- a plan that is called right stays right, under any two grants, whenever that judgement is decided
+  -- it stays right
+  pub right :
+      (plan : List ℕ) (T : Task) → read_both problem plan ≡ answered T → Right T →
+      (T' : Task) × (read_both narrower plan ≡ answered T') × Right T'
+  -- and is called right, under whatever grant, whenever that judgement is decided
   pub judged :
-      (plan : List ℕ) (grant other : ℕ) (first second : Result Verdict Refusal) → JudgeCall problem plan grant first →
-      JudgeCall narrower plan other second → IsRight (judge_answer first) → Decided (judge_answer second) → IsRight (judge_answer second)
+      (plan : List ℕ) (T : Task) (grant : ℕ) (second : Result Verdict Refusal) → read_both problem plan ≡ answered T →
+      JudgeCall (read_both narrower plan) grant second → Right T → Decided (judge_answer second) → IsRight (judge_answer second)
   -- no list of it is refused since it is wrong
   pub written :
-      (plan out : List ℕ) (grant other : ℕ) (first : Result Verdict Refusal) (second : Result ℕ Refusal) (after : List ℕ) →
-      JudgeCall problem plan grant first → WriteCall narrower plan other out second after → IsRight (judge_answer first) →
-      (used : ℕ) → plain_answer second ≢ refused 51 used
+      (plan out : List ℕ) (T : Task) (grant : ℕ) (second : Result ℕ Refusal) (after : List ℕ) → read_both problem plan ≡ answered T →
+      WriteCall (read_both narrower plan) (limits_of narrower) grant out second after → Right T → (used : ℕ) → plain_answer second ≢ refused 51 used
   -- where a search finds a plan, the other, if it is decided, finds one, and none later
   pub searched :
       (longest grant other : ℕ) (first second : Result Search Refusal) → SearchCall problem longest grant first →
@@ -94,35 +103,35 @@ pub record Narrowed (problem narrower : List ℕ) : Type 0 where
       (q : List ℕ) × (used' : ℕ) × (search_answer second ≡ answered (first_right q used')) × (Earlier p q → ⊥)
   -- a list that passes shows the plan right for the second too
   pub shown :
-      (plan list : List ℕ) (lines other : ℕ) (first : Result ℕ Refusal) (second : Result Verdict Refusal) → FollowCall problem plan list first →
-      JudgeCall narrower plan other second → plain_answer first ≡ answered lines → Decided (judge_answer second) → IsRight (judge_answer second)
+      (plan list : List ℕ) (lines other : ℕ) (first : Result ℕ Refusal) (second : Result Verdict Refusal) → FollowCall (read_both problem plan) (limits_of problem) list first →
+      JudgeCall (read_both narrower plan) other second → plain_answer first ≡ answered lines → Decided (judge_answer second) → IsRight (judge_answer second)
 
 -- What further holds where the blocks of the two problems are of one version
 pub record NarrowedAlike (problem narrower : List ℕ) (N : NarrowerStart problem narrower) : Type 0 where
   -- a list that passes for the first need not pass for the second; but no fault of it is other than a claim that is not so
   pub followed :
-      (plan list : List ℕ) (lines : ℕ) (first second : Result ℕ Refusal) → FollowCall problem plan list first →
-      FollowCall narrower plan list second → plain_answer first ≡ answered lines →
+      (plan list : List ℕ) (lines : ℕ) (first second : Result ℕ Refusal) → FollowCall (read_both problem plan) (limits_of problem) list first →
+      FollowCall (read_both narrower plan) (limits_of narrower) list second → plain_answer first ≡ answered lines →
       (plain_answer second ≡ answered lines) ⊎ ((i : ℕ) × (i < lines) × (plain_answer second ≡ refused 69 i))
   -- where the second formula reads no wherever the first does, the grant that sufficed does so again, with no more lines and visits
   pub judged_within :
       ReadsNoToo N.first.initial N.second.initial → (plan : List ℕ) (grant lines used : ℕ) (first second : Result Verdict Refusal) →
-      JudgeCall problem plan grant first → JudgeCall narrower plan grant second → judge_answer first ≡ answered (right lines used) →
+      JudgeCall (read_both problem plan) grant first → JudgeCall (read_both narrower plan) grant second → judge_answer first ≡ answered (right lines used) →
       (lines' used' : ℕ) × (judge_answer second ≡ answered (right lines' used')) × (lines' ≤ lines) × (used' ≤ used)
   -- where the plan is wrong for both, the state that fails is no lower for the second
   pub fails_no_lower :
-      (plan : List ℕ) (grant other : ℕ) (first second : Result Verdict Refusal) → JudgeCall problem plan grant first →
-      JudgeCall narrower plan other second → (s t used used' : ℕ) (o o' : Run.Outcome) → judge_answer first ≡ answered (wrong s o used) →
+      (plan : List ℕ) (grant other : ℕ) (first second : Result Verdict Refusal) → JudgeCall (read_both problem plan) grant first →
+      JudgeCall (read_both narrower plan) other second → (s t used used' : ℕ) (o o' : Run.Outcome) → judge_answer first ≡ answered (wrong s o used) →
       judge_answer second ≡ answered (wrong t o' used') → s ≤ t
   -- what the run of one state gives, and the facts that it rests on, have no part in the start: the same answer, and the same bytes
   pub run_alike :
-      (plan : List ℕ) (s : ℕ) (first second : Result Outcome Refusal) → RunCall problem plan s first → RunCall narrower plan s second →
+      (plan : List ℕ) (s : ℕ) (first second : Result Outcome Refusal) → RunCall (read_both problem plan) s first → RunCall (read_both narrower plan) s second →
       run_answer second ≡ run_answer first
   pub told :
       (plan : List ℕ) (s : ℕ) (work : List ℕ) (first second : Result ℕ Refusal) (after again : List ℕ) →
-      RelevantCall problem plan s work first after → RelevantCall narrower plan s work second again →
+      RelevantCall (read_both problem plan) every_row s work first after → RelevantCall (read_both narrower plan) every_row s work second again →
       (plain_answer second ≡ plain_answer first) × (again ≡ after)
   pub told_sparsely :
       (plan : List ℕ) (s : ℕ) (work : List ℕ) (first second : Result ℕ Refusal) (after again : List ℕ) →
-      SparseCall problem plan s work first after → SparseCall narrower plan s work second again →
+      RelevantCall (read_both problem plan) fewer_rows s work first after → RelevantCall (read_both narrower plan) fewer_rows s work second again →
       (plain_answer second ≡ plain_answer first) × (again ≡ after)

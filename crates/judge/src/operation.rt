@@ -3,6 +3,7 @@ ghost use Rattle.std.specs.Prelude.{◌≡◌};
 ghost use Rattle.model.specs.Limits.{limits_of};
 ghost use Rattle.model.specs.Case.{run_of, IsState};
 ghost use Rattle.model.specs.Operations as operations;
+ghost use Rattle.model.specs.Operations.{read_both};
 ghost use Rattle.model.specs.Answers.{outcome, judge_answer};
 ghost use Rattle.blocks.specs.Values.{task as task_of};
 ghost use Rattle.judge.specs.Verdicts.{JudgesTask};
@@ -45,7 +46,7 @@ pub fn judge_task<L: Lines>(task: &Task, grant: u64, lines: &mut L) -> Verdict
 // outcome and visits; or undecided with visits equal to the grant. The lines are counted, and none is kept.
 pub fn judge(problem: &[u8], plan: &[u8], grant: u64) -> Result<Verdict, Refusal>
     ensures answer { judge_answer result ≡ operations.judge (limits_of problem.now) problem.now plan.now grant }
-    ensures promised { JudgePromised problem.now plan.now grant (judge_answer result) }
+    ensures promised { JudgePromised (read_both problem.now plan.now) grant (judge_answer result) }
 {
     let found = Problem::read(problem)?;
     let task = found.plan(plan)?;

@@ -333,9 +333,6 @@ moved-actions-length n (a ∷ as') =
     let y = length-append (action_bytes (moved_action n a)) (actions_bytes (map (moved_action n) as')) in
     omega (arith, x, y, moved-action-length n a, moved-actions-length n as')
 
-pub all-actions : (p : View) → length (problem p).actions ≡ p.actions
-all-actions p = length-tabulate p.actions (λ i. action_of (drop (slice_index p.at i) p.block.now))
-
 -- the actions that are left begin with number i
 pub next-action :
     (n : ℕ) (as' : List Action) (i : ℕ) (a : Action) → i < length as' → a ≡ action_at as' i →

@@ -62,7 +62,7 @@ impl<'a> Halls<'a> {
     pub fn actions(&self) -> u8
         ensures { result ≡ length (halls_of self.now).actions }
     {
-        self.first.actions + self.second.actions
+        self.first.actions.count + self.second.actions.count
     }
 
     // How many bytes their problem takes.

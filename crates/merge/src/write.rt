@@ -101,8 +101,8 @@ pub fn put_actions(out: &mut [u8], problem: &Problem, shift: u8) -> usize
     ensures { Puts (actions_bytes (map (moved_action shift) (problem_of problem.now).actions)) out.old result out.new }
 {
     let mut at = 0;
-    for step in 0..problem.actions {
-        at += put_action(&mut out[at..], problem.action(step), shift);
+    for step in 0..problem.actions.count {
+        at += put_action(&mut out[at..], problem.actions.get(step), shift);
     }
     at
 }

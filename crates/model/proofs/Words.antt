@@ -29,8 +29,8 @@ pub use Rattle.model.specs.Guarantees.{AllInput, Guarantees, lines_in, Says, Ver
 pub use Rattle.model.specs.Kleene.{Kleene, No, Unknown, Yes, both, either, denied, is_yes, known, Logic, two, three}
 pub use Rattle.model.specs.Limits.{version1, version2, limits_of, max_formula_bytes, max_depth, max_actions, max_steps, max_problem_bytes, max_length, max_plans, max_effects}
 unfoldable pub use Rattle.model.specs.ListBytes.{encode_list, list_of, line_at, lines_from, of_the_problem, case_list, line_bytes, lines_bytes}
-pub use Rattle.model.specs.Operations.{line_count, when_few, plans_in, Written, when_reached, traced_back}
-unfoldable pub use Rattle.model.specs.Operations.{read_task, list_for, write_list, follow_list, cover_after, list_bytes, lines_for, written, read_plan, task_of, judge, search_plans, is_state_number, run_state, reached_task, relevant_facts}
+pub use Rattle.model.specs.Operations.{line_count, when_few, plans_in, Written, when_reached, traced_back, judge, write_list, read_both}
+unfoldable pub use Rattle.model.specs.Operations.{is_state_number, run_read, judge_read, reached_read, relevant_read, list_bytes, lines_for, lines_read, written, write_read, follow_read, cover_read, read_plan, task_of, read_task, search_plans}
 pub use Rattle.model.specs.Planes.{InLane, InLanes, Table}
 unfoldable pub use Rattle.model.specs.Planes.{lane_bit}
 pub use Rattle.model.specs.ProblemBytes.{Problem}
@@ -45,10 +45,10 @@ pub use Rattle.model.specs.Search.{IsShort, LowerSteps, Earlier, Sorted, Enumera
 unfoldable pub use Rattle.model.specs.Search.{each_step, plans_of, plans_from, plans_up_to, plan_count, search, visits_of}
 pub use Rattle.model.specs.Soundness.{KleeneSound}
 pub use Rattle.model.specs.Theorems.{Theorems, TrialsHold}
-pub use Rattle.model.specs.Trials.{P_no_start, DeskGrant}
+pub use Rattle.model.specs.Trials.{P_no_start, P2_no_start, DeskGrant}
 unfoldable pub use Rattle.model.specs.Trials.{reply}
 pub use Rattle.model.specs.Walk.{Kind, empty, Look, closed, opened, Line, Walked, covered, failed, line, join, visits, Verdict, right, wrong, undecided, look_of, initial_at, run_at, found}
 unfoldable pub use Rattle.model.specs.Walk.{walk_from, walk, look_at, walked, judged}
-pub use Rattle.model.specs.WellFormed.{Sensible, Each, LineHolds, Joined, Bytes, Declared, FormulaOk, LineOk, ListOk, EffectsOk, ActionOk, ProblemOk, PlanOk}
+pub use Rattle.model.specs.WellFormed.{Sensible, Each, LineHolds, Joined, TaskOk, ReadOk, Bytes, Declared, FormulaOk, LineOk, ListOk, EffectsOk, ActionOk, ProblemOk, PlanOk}
 unfoldable pub use Rattle.model.specs.WellFormed.{Formed, FormedAll}
 pub use Rattle.model.specs.declared.Limits.{Limits}

@@ -2,8 +2,11 @@
 -- operation, for statements about several calls.
 use Rattle.std.specs.Prelude.{◌≡◌, List, ℕ, ◌+◌, length, Result}
 use Rattle.model.specs.Limits.{limits_of}
-use Rattle.model.specs.Answer.{answered}
-use Rattle.model.specs.Operations.{Written, run_state, judge, write_list, follow_list, relevant_facts, relevant_facts_sparse, search_plans}
+use Rattle.model.specs.declared.Limits.{Limits}
+use Rattle.model.specs.Answer.{Answer, answered}
+use Rattle.model.specs.Case.{Task}
+use Rattle.model.specs.Relevance.{Layout}
+use Rattle.model.specs.Operations.{Written, run_read, judge_read, relevant_read, write_read, follow_read, search_plans}
 use Rattle.model.specs.ProblemBytes.{Problem, problem_of}
 use Rattle.model.specs.Merging.{IsOrder, merge}
 use Rattle.model.specs.Answers.{plain_answer, run_answer, judge_answer, search_answer}
@@ -17,27 +20,27 @@ use Rattle.model.specs.declared.Search.{Search}
 abbrev pub Leaves : Written → Result ℕ Refusal → List ℕ → Type 0
 Leaves w r after = (plain_answer r ≡ w.answer) × (after ≡ w.buffer)
 
-module _ (problem : List ℕ) where
-  abbrev pub RunCall : List ℕ → ℕ → Result Outcome Refusal → Type 0
-  RunCall plan s r = run_answer r ≡ run_state (limits_of problem) problem plan s
+-- asked of what was read
+module _ (R : Answer Task) where
+  abbrev pub RunCall : ℕ → Result Outcome Refusal → Type 0
+  RunCall s r = run_answer r ≡ run_read R s
 
-  abbrev pub JudgeCall : List ℕ → ℕ → Result Verdict Refusal → Type 0
-  JudgeCall plan grant r = judge_answer r ≡ judge (limits_of problem) problem plan grant
+  abbrev pub JudgeCall : ℕ → Result Verdict Refusal → Type 0
+  JudgeCall grant r = judge_answer r ≡ judge_read R grant
 
-  abbrev pub WriteCall : List ℕ → ℕ → List ℕ → Result ℕ Refusal → List ℕ → Type 0
-  WriteCall plan grant out r after = Leaves (write_list (limits_of problem) problem plan grant out) r after
+  abbrev pub RelevantCall : Layout → ℕ → List ℕ → Result ℕ Refusal → List ℕ → Type 0
+  RelevantCall L s work r after = Leaves (relevant_read L R s work) r after
 
-  abbrev pub FollowCall : List ℕ → List ℕ → Result ℕ Refusal → Type 0
-  FollowCall plan list r = plain_answer r ≡ follow_list (limits_of problem) problem plan list
+  module _ (F : Limits) where
+    abbrev pub WriteCall : ℕ → List ℕ → Result ℕ Refusal → List ℕ → Type 0
+    WriteCall grant out r after = Leaves (write_read F R grant out) r after
 
-  abbrev pub RelevantCall : List ℕ → ℕ → List ℕ → Result ℕ Refusal → List ℕ → Type 0
-  RelevantCall plan s work r after = Leaves (relevant_facts (limits_of problem) problem plan s work) r after
+    abbrev pub FollowCall : List ℕ → Result ℕ Refusal → Type 0
+    FollowCall list r = plain_answer r ≡ follow_read F R list
 
-  abbrev pub SparseCall : List ℕ → ℕ → List ℕ → Result ℕ Refusal → List ℕ → Type 0
-  SparseCall plan s work r after = Leaves (relevant_facts_sparse (limits_of problem) problem plan s work) r after
-
-  abbrev pub SearchCall : ℕ → ℕ → Result Search Refusal → Type 0
-  SearchCall longest grant r = search_answer r ≡ search_plans (limits_of problem) problem longest grant
+-- asked of a problem's block
+abbrev pub SearchCall : List ℕ → ℕ → ℕ → Result Search Refusal → Type 0
+SearchCall problem longest grant r = search_answer r ≡ search_plans (limits_of problem) problem longest grant
 
 -- an order of the actions of both problems, where they are read
 abbrev pub Orders : List ℕ → List ℕ → List ℕ → Type 0

@@ -69,3 +69,8 @@ module _ (w : ℕ) (look : ℕ → ℕ → Look) (n : ℕ) where
     pub same_answers : (ls : List Line) → follow w look n ls 0 0 ≡ cover_end ls 0 0 >>= λ e. ends (eqb e (2 ^ w)) (length ls)
     -- so a list that passes covers every number of the width, each once
     pub passes_whole : (ls : List Line) (m : ℕ) → follow w look n ls 0 0 ≡ answered m → CoversTo w ls (2 ^ w)
+    -- and a line after lines that cover all of them is at fault, whatever it claims: by its kind, by the facts that it fixes, by a bit past them, or
+    -- by where it begins
+    pub past_the_whole :
+        (l : Line) → l.value < 2 ^ w →
+        (fault w look n l (2 ^ w) ≡ 65) ⊎ ((fault w look n l (2 ^ w) ≡ 66) ⊎ ((fault w look n l (2 ^ w) ≡ 67) ⊎ (fault w look n l (2 ^ w) ≡ 68)))

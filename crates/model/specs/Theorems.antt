@@ -10,7 +10,7 @@ use Rattle.model.specs.Cover.{RunningEnd}
 use Rattle.model.specs.ProblemBytes.{Problem, encode_problem}
 use Rattle.model.specs.WellFormed.{Sensible}
 use Rattle.model.specs.Guarantees.{Guarantees}
-use Rattle.model.specs.Trials.{Hold, starred, NoStart, edges, DeskGrant, unmet_members, conflicts, running_ends, relevances, sparse_relevances, searches, versions, merge_rows}
+use Rattle.model.specs.Trials.{Hold, starred, P_no_start, P2_no_start, NoStart, one_line, one_line2, edges, DeskGrant, unmet_members, conflicts, running_ends, relevances, sparse_relevances, searches, versions, merge_rows}
 
 pub record Theorems : Type 0 where
   -- all input, verdicts, certificates, relevant facts and search, of every version whose numbers are sensible
@@ -33,12 +33,12 @@ pub record Theorems : Type 0 where
   pub free_in_states : OrderFree two
   pub free_in_cases : OrderFree three
 
--- the tables of Trials, and the two statements that no row can make
+-- the tables of Trials, and the two statements that no row can make, of both versions
 pub record TrialsHold : Type 0 where
   pub starred : Hold starred
-  pub no_start : NoStart
+  pub no_start : NoStart version1 P_no_start one_line × NoStart version2 P2_no_start one_line2
   pub edges : Hold edges
-  pub desk_grant : DeskGrant
+  pub desk_grant : DeskGrant version1 × DeskGrant version2
   pub members : Hold unmet_members
   pub conflicts : Hold conflicts
   pub running_ends : Hold running_ends

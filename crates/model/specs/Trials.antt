@@ -21,9 +21,9 @@ use Rattle.model.specs.ProblemBytes.{effect, effects, effect_list, action, actio
 use Rattle.model.specs.Merging.{Merge, moved, depth, is_over, old_of, sized, roomy, merged_for, laid_out, merge}
 use Rattle.model.specs.ListBytes.{line_at, lines_from, of_the_problem, case_list, list_of, line_bytes, lines_bytes, encode_list}
 use Rattle.model.specs.Text.{hex}
-use Rattle.model.specs.DeskText.{marks, verdict_line, lines_text, list_text, verdict_rest, answer_line, answer_rest, first_line, later_lines, desk_text}
+use Rattle.model.specs.DeskText.{desk_grant, marks, verdict_line, lines_text, list_text, verdict_rest, answer_line, answer_rest, first_line, later_lines, desk_text}
 use Rattle.model.specs.declared.Counts.{Counts}
-use Rattle.model.specs.Operations.{Written, is_state_number, line_count, read_problem, read_plan, task_of, read_task, run_state, judge, list_bytes, lines_for, written, list_for, write_list, follow_list, cover_after, reached_task, relevant_facts, relevant_facts_sparse, search_plans}
+use Rattle.model.specs.Operations.{Written, is_state_number, line_count, run_read, judge_read, reached_read, relevant_read, list_bytes, lines_for, lines_read, written, write_read, follow_read, cover_read, read_problem, read_plan, task_of, read_task, run_state, judge, write_list, follow_list, cover_after, relevant_facts, relevant_facts_sparse, search_plans}
 
 pub data Call : Type 0 where
   read-problem : List ℕ → Call
@@ -51,7 +51,7 @@ pub data Reply : Type 0 where
 
 -- what the definitions give; a proof that unfolds this computes with all of them
 unfoldable pub reply : Call → Reply
-unfolding eval condition_in every exclusive applicable next step first_false unmet lowest_false part_of goes_on run bit state_of case_of run_of walk_from walk look_at walked judged Answer.◌>>=◌ first refuse_at ends fault follow cover_end and_then ◌>>=◌ ◌>>◌ done position require answer_of big_endian_from bytes_of block byte counted of_version header count is_literal literal_of group_head head_from head members whole item stated formula effect effects effect_list action actions ending parts body problem problem_of steps plan plan_of action_at line_at lines_from of_the_problem case_list list_of line_bytes lines_bytes encode_list is_state_number read_problem read_plan task_of read_task run_state judge list_bytes lines_for written list_for write_list follow_list cover_after names some has_entry matters_before relevant states number_of rows relevant_to run_rows sparse_rows reached_task relevant_facts relevant_facts_sparse each_step plans_of plans_from plans_up_to plan_count search search_plans formula_bytes encode_formula effects_bytes action_bytes actions_bytes encode_problem moved depth is_over old_of sized roomy merged_for laid_out merge hex digits marks lines_text list_text verdict_rest answer_line answer_rest first_line later_lines desk_text
+unfolding eval condition_in every exclusive applicable next step first_false unmet lowest_false part_of goes_on run bit state_of case_of run_of walk_from walk look_at walked judged Answer.◌>>=◌ first refuse_at ends fault follow cover_end and_then ◌>>=◌ ◌>>◌ done position require answer_of big_endian_from bytes_of block byte counted of_version header count is_literal literal_of group_head head_from head members whole item stated formula effect effects effect_list action actions ending parts body problem problem_of steps plan plan_of action_at line_at lines_from of_the_problem case_list list_of line_bytes lines_bytes encode_list is_state_number read_problem read_plan task_of read_task run_read judge_read list_bytes lines_for written lines_read write_read follow_read cover_read names some has_entry matters_before relevant states number_of rows relevant_to run_rows sparse_rows reached_read relevant_read each_step plans_of plans_from plans_up_to plan_count search search_plans formula_bytes encode_formula effects_bytes action_bytes actions_bytes encode_problem moved depth is_over old_of sized roomy merged_for laid_out merge hex digits marks lines_text list_text verdict_rest answer_line answer_rest first_line later_lines desk_text
 reply (read-problem p) = counts (read_problem (limits_of p) p)
 reply (read-plan p q) = number (read_plan (limits_of p) p q)
 reply (run-state p q s) = outcome (run_state (limits_of p) p q s)
@@ -123,7 +123,7 @@ abbrev other_kind : List ℕ
 other_kind = hex "01 00000018 01 02 000000000000 01 02 400000000000 01 01 800000000000"
 
 abbrev pub grant : ℕ
-grant = 1000000
+grant = desk_grant
 
 abbrev pub wrote : ℕ → List ℕ → Reply
 wrote n bytes = writes (record { answer = answered n; buffer = bytes })
@@ -151,14 +151,20 @@ starred =
     ∷ (follow-list P both_steps other_kind ⇒ number (refused 69 0))
     ∷ []
 
--- without a start state any plan is right, with one line of kind 0 and one visit: every plan block that is read, every grant of 1 or more,
--- and every buffer that the list fits
-abbrev pub NoStart : Type 0
-NoStart =
-    (plan : List ℕ) (m : ℕ) → read_plan version1 P_no_start plan ≡ answered m → (g : ℕ) → 1 ≤ g →
-    (judge version1 P_no_start plan g ≡ answered (right 1 1)) ×
-    ((out : List ℕ) → 13 ≤ length out →
-    write_list version1 P_no_start plan g out ≡ record { answer = answered 13; buffer = hex "01 00000008 00 00 000000000000" ++ drop 13 out })
+-- without a start state any plan is right, with one line of kind 0 and one visit, of which this is the list: every plan block that is read, every grant
+-- of 1 or more, and every buffer that the list fits
+abbrev pub NoStart : Limits → List ℕ → List ℕ → Type 0
+NoStart F problem list =
+    (plan : List ℕ) (m : ℕ) → read_plan F problem plan ≡ answered m → (g : ℕ) → 1 ≤ g →
+    (judge F problem plan g ≡ answered (right 1 1)) ×
+    ((out : List ℕ) → length list ≤ length out →
+    write_list F problem plan g out ≡ record { answer = answered (length list); buffer = list ++ drop (length list) out })
+
+abbrev pub one_line : List ℕ
+one_line = hex "01 00000008 00 00 000000000000"
+
+abbrev pub one_line2 : List ℕ
+one_line2 = hex "02 0000000a 00 00 0000000000000000"
 
 -- a block with this body
 abbrev pub block1 : List ℕ → List ℕ
@@ -331,7 +337,7 @@ P2_goal =
     hex
     "02 00000021 03 02 0007 80 02 81 02 00 01 42 0002 80 00 0002 80 00 01 02 0001 00 0002 80 00 01 02 0001 01"
 
-abbrev P2_no_start : List ℕ
+abbrev pub P2_no_start : List ℕ
 P2_no_start =
     hex
     "02 0000001b 03 02 0002 81 00 0001 02 0002 80 00 01 02 0001 00 0002 80 00 01 02 0001 01"
@@ -411,13 +417,13 @@ versions =
     ∷ []
 
 -- what the program shows where a million visits do not suffice: of every problem and plan that are read
-abbrev pub DeskGrant : Type 0
-DeskGrant =
-    (problem plan : List ℕ) (T : Task) → read_task version1 problem plan ≡ answered T →
-    (1000000 < visits (walked T) → desk_text version1 problem plan ≡ codes "undecided visited 1000000\n") ×
+abbrev pub DeskGrant : Limits → Type 0
+DeskGrant F =
+    (problem plan : List ℕ) (T : Task) → read_task F problem plan ≡ answered T →
+    (1000000 < visits (walked T) → desk_text F problem plan ≡ codes "undecided visited 1000000\n") ×
     (visits (walked T) ≤ 1000000 →
     let v = found T (walked T) in
-    desk_text version1 problem plan ≡ verdict_line version1 T.facts (line_count v) ++ verdict_rest version1 T.facts v)
+    desk_text F problem plan ≡ verdict_line F T.facts (line_count v) ++ verdict_rest F T.facts v)
 
 -- four facts, and actions whose preconditions are: all of 0, 1, 2; any of 0, 1; fact 3; the empty "any"; all of 0, any of 1, 2, and 3;
 -- and none, of the action that sets fact 0

@@ -5,6 +5,8 @@ use Rattle.model.specs.declared.Limits.{Limits}
 use Rattle.model.specs.Limits.{is_version, max_facts, max_effects, max_actions, max_steps, max_problem_bytes, max_formula_bytes, max_depth}
 use Rattle.model.specs.Formula.{Literal, fact, denial, Formula, Formulas, lit, all, any, none, more}
 use Rattle.model.specs.Action.{Effect, Action}
+use Rattle.model.specs.Answer.{Answer, answered}
+use Rattle.model.specs.Case.{Task}
 use Rattle.model.specs.Walk.{Look, Line}
 use Rattle.model.specs.CaseList.{claims}
 use Rattle.model.specs.FormulaBytes.{literal_byte, member_count, formula_bytes}
@@ -69,6 +71,15 @@ module _ (F : Limits) where
     pub goal : FormulaOk p.facts p.goal
     pub actions : Each (ActionOk p.facts) p.actions
     pub short : length (encode_problem F p) ≤ max_problem_bytes
+
+  -- a task of the version, as every reader gives it
+  pub record TaskOk (T : Task) : Type 0 where
+    pub facts : T.facts ≤ F.facts
+    pub width : T.width ≡ F.width
+
+  -- what was read is one, if it is a task
+  abbrev pub ReadOk : Answer Task → Type 0
+  ReadOk R = (T : Task) → R ≡ answered T → TaskOk T
 
   -- a line's parts fit their bytes
   pub record LineOk (l : Line) : Type 0 where

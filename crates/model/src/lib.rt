@@ -41,7 +41,7 @@ impl Problem {
 
     pub const MAX_DEPTH: u8 = 8;
     // Values that the code holds: a denial's byte is its fact's and 64 more, so no version has more facts.
-    pub const SLOTS: usize = 64;
+    pub const SLOTS: usize = Problem::MAX_FACTS_V2 as usize;
 }
 
 // A plan block's limits: its steps stand from byte 5 on, one byte each.

@@ -1,13 +1,13 @@
 -- What is refused, and what is answered of a task that was read. Assumes nothing.
 use Rattle.std.proofs.Common.{◌≡◌, refl, sym, ap, ap₂, subst, ◌∙◌, Bool, false, cond, List, ◌++◌, ℕ, suc, ◌+◌, ◌*◌, ◌≤◌, ◌<◌, mul-le-mul_left, mul-le-mul_right, le_trans, arith, length, take, drop, take_at, ltb, Result, Ok, Err, ltb-false}
 use lib.Seq.{sets-eq}
-use Rattle.model.specs.{declared.Refusal.Refusal, Faults.fault_number, Limits.limits_of, Limits.max_facts, Limits.max_steps, Answer.Answer, Answer.refused, Answer.answered}
+use Rattle.model.specs.{declared.Refusal.Refusal, Faults.fault_number, Limits.max_facts, Limits.max_steps, Answer.Answer, Answer.refused, Answer.answered}
 use Rattle.model.specs.{Answers.refusal, Answers.plain_answer, Kleene.two, Run.run, Case.state_of, Case.Task, Case.run_of, Action.tabulate}
 use Rattle.model.specs.Relevance.{names, relevant, states, rows, number_of, relevant_to, work_bytes, run_rows, Layout, every_row}
-use Rattle.model.specs.Operations.{when_reached, read_task, reached_task}
+use Rattle.model.specs.Operations.{when_reached, reached_read, relevant_read}
 use Rattle.model.specs.Answer as Answer
 use Rattle.model.specs.Run as Run
-use Rattle.model.proofs.{Laws.Relevance.relevant-length, Laws.Relevance.start-length, Laws.Tabulate.length-tabulate, Laws.Tracing.call, Laws.Tracing.rows-length}
+use Rattle.model.proofs.{Laws.Relevance.relevant-length, Laws.Relevance.start-length, Laws.Tabulate.length-tabulate, Laws.Tracing.rows-length}
 use Rattle.blocks.specs.declared.problem.Problem as problems
 use Rattle.blocks.specs.declared.task.Task as tasks
 use Rattle.blocks.specs.Values.{task}
@@ -23,20 +23,21 @@ use Rattle.relevance.specs.Tracing.{ChecksReached, ChecksRun, ChecksRoom, Traces
 -- ---- the operation
 
 -- what a call that lays a run out as L does answers and leaves
-abbrev pub Leaves : Layout → List ℕ → List ℕ → ℕ → List ℕ → Answer ℕ → List ℕ → Type 0
-Leaves L problem plan s before a after =
-    let w = call (limits_of problem) L problem plan s before in (a ≡ w.answer) × (after ≡ w.buffer)
+abbrev pub Leaves : Layout → Answer Task → ℕ → List ℕ → Answer ℕ → List ℕ → Type 0
+Leaves L R s before a after = let w = relevant_read L R s before in (a ≡ w.answer) × (after ≡ w.buffer)
 
 leaves-refused :
-    (L : Layout) (problem plan : List ℕ) (s : ℕ) (before : List ℕ) (n q : ℕ) → reached_task (limits_of problem) L problem plan s (length before) ≡ refused n q →
-    Leaves L problem plan s before (refused n q) before
-leaves-refused L problem plan s before n q e = rw e (refl, refl)
+    (L : Layout) (R : Answer Task) (s : ℕ) (before : List ℕ) (n q : ℕ) → reached_read L R s (length before) ≡ refused n q → Leaves L R s before (refused n q) before
+unfolding relevant_read
+leaves-refused L R s before n q e = rw e (refl, refl)
 
-pub relevant-refused :
-    (L : Layout) (problem plan : List ℕ) (y : Refusal) → read_task (limits_of problem) problem plan ≡ refusal y → (s : ℕ) (before : List ℕ) →
-    Leaves L problem plan s before (refusal y) before
-unfolding reached_task Answer.◌>>=◌
-relevant-refused L problem plan y e s before = leaves-refused L problem plan s before (fault_number y.fault) y.place (rw e)
+pub relevant-refused : (L : Layout) (R : Answer Task) (y : Refusal) → R ≡ refusal y → (s : ℕ) (before : List ℕ) → Leaves L R s before (refusal y) before
+unfolding reached_read Answer.◌>>=◌
+relevant-refused L R y e s before = leaves-refused L R s before (fault_number y.fault) y.place (rw e)
+
+-- what is so of the task that was read
+pub relevant-read : (L : Layout) (R : Answer Task) (T : Task) → R ≡ answered T → (s : ℕ) (before : List ℕ) (a : Answer ℕ) (after : List ℕ) → Leaves L (answered T) s before a after → Leaves L R s before a after
+relevant-read L R T e s before a after l = rw e l
 
 -- a run that is not reached, and one that is
 abbrev passed : Answer (Unit {0})
@@ -96,42 +97,43 @@ module _ (T : Task) (n≤w : T.facts ≤ T.width) (within : WithinTask T) (c : C
 
 -- ---- the answer of a task that was read
 
-module _ (L : Layout) (problem plan : List ℕ) (T : Task) (read : read_task (limits_of problem) problem plan ≡ answered T) (s : ℕ) (before : List ℕ) where
+module _ (L : Layout) (T : Task) (s : ℕ) (before : List ℕ) where
   abbrev room : ℕ
   room = length before
 
-  pub relevant-no-state : (y : Refusal) → StateOf T s (Err y) → Leaves L problem plan s before (refusal y) before
-  unfolding reached_task Answer.◌>>=◌
-  relevant-no-state y (none, e) = leaves-refused L problem plan s before (fault_number y.fault) y.place (rw (read, none, e) refl)
+  pub relevant-no-state : (y : Refusal) → StateOf T s (Err y) → Leaves L (answered T) s before (refusal y) before
+  unfolding reached_read Answer.◌>>=◌
+  relevant-no-state y (none, e) = leaves-refused L (answered T) s before (fault_number y.fault) y.place (rw (none, e) refl)
 
   module _ (n≤w : T.facts ≤ T.width) (c : Cases) (H : HasState T s c) where
     shows : Shows c (state_of T.width T.facts s)
     shows = H.cases 0 (omega arith) ∙ case-known T.width T.facts s
 
-    checked : reached_task (limits_of problem) L problem plan s room ≡ when_reached (run_of T s) (cond (ltb room (L.need T)) (refused 42 0) (answered T))
-    unfolding reached_task Answer.◌>>=◌
-    checked = rw (read, H.is) refl
+    checked : reached_read L (answered T) s room ≡ when_reached (run_of T s) (cond (ltb room (L.need T)) (refused 42 0) (answered T))
+    unfolding reached_read Answer.◌>>=◌
+    checked = rw H.is refl
 
     ran : (r : Result (Unit {0}) Refusal) → ChecksRun T c r → plain_answer r ≡ when_reached (run_of T s) passed
     unfolding run_of
     ran r R = R (state_of T.width T.facts s) (start-length T n≤w s) shows
 
-    pub relevant-unrun : (y : Refusal) → ChecksRun T c (Err y) → Leaves L problem plan s before (refusal y) before
+    pub relevant-unrun : (y : Refusal) → ChecksRun T c (Err y) → Leaves L (answered T) s before (refusal y) before
     relevant-unrun y R =
-        leaves-refused L problem plan s before (fault_number y.fault) y.place (checked ∙ not-reached (run_of T s) (fault_number y.fault) y.place (ran (Err y) R) _)
+        leaves-refused L (answered T) s before (fault_number y.fault) y.place (checked ∙ not-reached (run_of T s) (fault_number y.fault) y.place (ran (Err y) R) _)
 
     module _ (u : Unit {0}) (R : ChecksRun T c (Ok u)) where
       reaches : run_of T s ≡ Run.reached
       reaches = is-reached (run_of T s) (ran (Ok u) R)
 
       module _ (need : ℕ) (need-is : need ≡ L.need T) where
-        tests-room : reached_task (limits_of problem) L problem plan s room ≡ cond (ltb room need) (refused 42 0) (answered T)
+        tests-room : reached_read L (answered T) s room ≡ cond (ltb room need) (refused 42 0) (answered T)
         tests-room = checked ∙ rw (reaches, need-is) refl
 
-        pub relevant-short : (y : Refusal) → ChecksRoom need room (Err y) → Leaves L problem plan s before (refusal y) before
-        relevant-short y C = leaves-refused L problem plan s before (fault_number y.fault) y.place (tests-room ∙ too-short (ltb room need) (fault_number y.fault) y.place C (answered T))
+        pub relevant-short : (y : Refusal) → ChecksRoom need room (Err y) → Leaves L (answered T) s before (refusal y) before
+        relevant-short y C = leaves-refused L (answered T) s before (fault_number y.fault) y.place (tests-room ∙ too-short (ltb room need) (fault_number y.fault) y.place C (answered T))
 
-        pub relevant-found : (v : Unit {0}) → ChecksRoom need room (Ok v) → (m : ℕ) (after : List ℕ) → TracesTask L T c before m after → Leaves L problem plan s before (answered m) after
+        pub relevant-found : (v : Unit {0}) → ChecksRoom need room (Ok v) → (m : ℕ) (after : List ℕ) → TracesTask L T c before m after → Leaves L (answered T) s before (answered m) after
+        unfolding relevant_read
         relevant-found v C m after X =
             let (i, k) = X s shows reaches in
             rw (tests-room ∙ has-room (ltb room need) C (answered T)) (ap answered i, k)

@@ -1,10 +1,13 @@
 // Tell which start facts an outcome rests on.
 ghost use Rattle.std.specs.Prelude.{◌≡◌, suc, ◌*◌, ◌≤◌, length};
-ghost use Rattle.model.specs.Limits.{limits_of};
+ghost use Rattle.model.specs.Limits.{limits_of, max_steps};
+ghost use Rattle.model.specs.Answer.{answered};
+ghost use Rattle.model.specs.Calls.{Leaves};
 ghost use Rattle.model.specs.Relevance.{every_row};
-ghost use Rattle.model.specs.Operations.{relevant_facts};
+ghost use Rattle.model.specs.Operations.{relevant_facts, relevant_read, read_both};
 ghost use Rattle.model.specs.Answers.{plain_answer};
 ghost use Rattle.blocks.specs.Values.{task as task_of};
+ghost use Rattle.backward.specs.Marks.{WithinTask};
 ghost use Rattle.backward.specs.Rows.{PutsRun};
 ghost use Rattle.relevance.specs.Tracing.{ChecksReached, ChecksRun, ChecksRoom, TracesMarks};
 ghost use Rattle.relevance.specs.Promise.{RelevantPromised};
@@ -64,8 +67,26 @@ fn trace_marks(task: &Task, marks: &[Mark]) -> u64
     relevant.number_of(task.problem.limits.width)
 }
 
-// The refusals of the run; 41 if it is not reached; 42 if the work area is short of a row of bytes for each state of the run; or the set of
-// start facts that its reaching the goal rests on, with the rows in the work area's first bytes.
+// Of a task that was read, which names declared facts only and has few steps: the refusal of the run; 41 if it is not reached; 42 if the work area is
+// short of a row of bytes for each state of the run; or the set of start facts that its reaching the goal rests on, with the rows in the work area's
+// first bytes.
+fn relevant_facts_task(task: &Task, state: u64, work: &mut [u8]) -> Result<u64, Refusal>
+    requires within { WithinTask (task_of task.now) }
+    requires short { length task.now.steps.now ≤ max_steps }
+    ensures { Leaves (relevant_read every_row (answered (task_of task.now)) state work.old) result work.new }
+{
+    let mut cases = state_cases(task, state)?;
+    // The work area may not change before the last refusal is ruled out, so the run is written down apart.
+    let mut rows = [0u8; MOST_ROWS];
+    let mut marks = [Mark::NONE; Plan::MAX_STEPS];
+    check_run(task, &mut cases, &mut rows, &mut marks)?;
+    let need = (task.steps.len() + 1) * task.problem.facts as usize;
+    check_room(need, work.len())?;
+    work[..need].copy_from_slice(&rows[..need]);
+    Ok(trace_marks(task, &marks))
+}
+
+// The refusals of problem and plan, and then those of the task that they make; or the set of start facts, with the rows of the run.
 pub fn relevant_facts(
     problem: &[u8],
     plan: &[u8],
@@ -74,17 +95,9 @@ pub fn relevant_facts(
 ) -> Result<u64, Refusal>
     ensures answer { plain_answer result ≡ (relevant_facts (limits_of problem.now) problem.now plan.now state work.old).answer }
     ensures buffer { work.new ≡ (relevant_facts (limits_of problem.now) problem.now plan.now state work.old).buffer }
-    ensures promised { RelevantPromised every_row problem.now plan.now state work.old (plain_answer result) work.new }
+    ensures promised { RelevantPromised every_row (read_both problem.now plan.now) state work.old (plain_answer result) work.new }
 {
     let found = Problem::read(problem)?;
     let task = found.plan(plan)?;
-    let mut cases = state_cases(&task, state)?;
-    // The work area may not change before the last refusal is ruled out, so the run is written down apart.
-    let mut rows = [0u8; MOST_ROWS];
-    let mut marks = [Mark::NONE; Plan::MAX_STEPS];
-    check_run(&task, &mut cases, &mut rows, &mut marks)?;
-    let need = (task.steps.len() + 1) * found.facts as usize;
-    check_room(need, work.len())?;
-    work[..need].copy_from_slice(&rows[..need]);
-    Ok(trace_marks(&task, &marks))
+    relevant_facts_task(&task, state, work)
 }

@@ -1,10 +1,13 @@
 // Tell which start facts an outcome rests on, from fewer rows of the run.
 ghost use Rattle.std.specs.Prelude.{◌≡◌, ◌+◌, ◌*◌, ◌/◌, ◌≤◌, length};
-ghost use Rattle.model.specs.Limits.{limits_of};
+ghost use Rattle.model.specs.Limits.{limits_of, max_steps};
+ghost use Rattle.model.specs.Answer.{answered};
+ghost use Rattle.model.specs.Calls.{Leaves};
 ghost use Rattle.model.specs.Relevance.{stretch, fewer_rows};
-ghost use Rattle.model.specs.Operations.{relevant_facts_sparse};
+ghost use Rattle.model.specs.Operations.{relevant_facts_sparse, relevant_read, read_both};
 ghost use Rattle.model.specs.Answers.{plain_answer};
 ghost use Rattle.blocks.specs.Values.{task as task_of};
+ghost use Rattle.backward.specs.Marks.{WithinTask};
 ghost use Rattle.backward.specs.Kept.{KeepsRows};
 ghost use Rattle.relevance.specs.Tracing.{ChecksRun};
 ghost use Rattle.relevance.specs.Promise.{RelevantPromised};
@@ -30,8 +33,29 @@ fn check_kept(task: &Task, cases: &mut Cases, kept: &mut [u8]) -> Result<(), Ref
     check_reached(keep_rows(task, cases, kept))
 }
 
-// The refusals of `relevant_facts`, but that 42 goes by fewer rows: one for every 16th state of the run, and 16 more; or the same set, with those
+// The refusals of `relevant_facts_task`, but that 42 goes by fewer rows: one for every 16th state of the run, and 16 more; or the same set, with those
 // rows in the work area's first bytes: the states that are kept, then the run's first 16, or all where it has fewer, and zeros after them.
+fn relevant_facts_sparse_task(task: &Task, state: u64, work: &mut [u8]) -> Result<u64, Refusal>
+    requires within { WithinTask (task_of task.now) }
+    requires short { length task.now.steps.now ≤ max_steps }
+    ensures { Leaves (relevant_read fewer_rows (answered (task_of task.now)) state work.old) result work.new }
+{
+    let mut cases = state_cases(task, state)?;
+    // The work area may not change before the last refusal is ruled out, so the rows that are kept are written down apart.
+    let mut kept = [0u8; MOST_KEPT];
+    check_kept(task, &mut cases, &mut kept)?;
+    let facts = task.problem.facts as usize;
+    let count = (task.steps.len() / STRETCH + 1) * facts;
+    let need = count + STRETCH * facts;
+    check_room(need, work.len())?;
+    work[..count].copy_from_slice(&kept[..count]);
+    let rows = &mut work[count..need];
+    rows.fill(0);
+    let relevant = trace_stretches(task, &kept, rows);
+    Ok(relevant.number_of(task.problem.limits.width))
+}
+
+// The refusals of problem and plan, and then those of the task that they make; or the set of start facts, with fewer rows of the run.
 pub fn relevant_facts_sparse(
     problem: &[u8],
     plan: &[u8],
@@ -40,21 +64,9 @@ pub fn relevant_facts_sparse(
 ) -> Result<u64, Refusal>
     ensures answer { plain_answer result ≡ (relevant_facts_sparse (limits_of problem.now) problem.now plan.now state work.old).answer }
     ensures buffer { work.new ≡ (relevant_facts_sparse (limits_of problem.now) problem.now plan.now state work.old).buffer }
-    ensures promised { RelevantPromised fewer_rows problem.now plan.now state work.old (plain_answer result) work.new }
+    ensures promised { RelevantPromised fewer_rows (read_both problem.now plan.now) state work.old (plain_answer result) work.new }
 {
     let found = Problem::read(problem)?;
     let task = found.plan(plan)?;
-    let mut cases = state_cases(&task, state)?;
-    // The work area may not change before the last refusal is ruled out, so the rows that are kept are written down apart.
-    let mut kept = [0u8; MOST_KEPT];
-    check_kept(&task, &mut cases, &mut kept)?;
-    let facts = found.facts as usize;
-    let count = (task.steps.len() / STRETCH + 1) * facts;
-    let need = count + STRETCH * facts;
-    check_room(need, work.len())?;
-    work[..count].copy_from_slice(&kept[..count]);
-    let rows = &mut work[count..need];
-    rows.fill(0);
-    let relevant = trace_stretches(&task, &kept, rows);
-    Ok(relevant.number_of(found.limits.width))
+    relevant_facts_sparse_task(&task, state, work)
 }

@@ -3,5 +3,4 @@ pub mod Stating
 pub mod Numbering
 pub mod Feeds
 pub mod Speaking
-pub mod Plans
 pub mod Failing

@@ -4,14 +4,12 @@ use Rattle.model.specs.declared.Refusal.{Refusal}
 use Rattle.model.specs.Limits.{limits_of}
 use Rattle.model.specs.Answer.{answered}
 use Rattle.model.specs.Answers as answers
-use Rattle.model.specs.ProblemBytes.{Problem, problem_of, plan_of}
+use Rattle.model.specs.ProblemBytes.{Problem, problem_of}
 use Rattle.names.specs.Names.{Names}
 use Rattle.names.specs.Lists.{names_in, all_names}
 use Rattle.names.specs.Listed.{listed}
 use Rattle.names.specs.Views.{names}
 use Rattle.blocks.specs.Values.{problem}
-use Rattle.blocks.specs.declared.problem.Problem as code
-use Rattle.blocks.specs.declared.task.Task.{Task}
 use Rattle.reply.specs.Spoken as spec
 use Rattle.reply.specs.Spoken.{names_for}
 use Rattle.reply.specs.declared.telling.Telling.{Telling}
@@ -42,8 +40,3 @@ Speaks L block (Ok s) =
     (answered (problem s.problem) ≡ problem_of (limits_of block) block) × (s.problem.limits ≡ limits_of block) × (names_for L (problem s.problem) ≡ Some (names s.names))
 Speaks L block (Err (Refused r)) = answers.refusal r ≡ problem_of (limits_of block) block
 Speaks L block (Err OtherNames) = (p : Problem) × (answered p ≡ problem_of (limits_of block) block) × (names_for L p ≡ None)
-
--- the task that the plan in a block makes of a problem, or that it is refused
-abbrev pub ReadsPlan : code.Problem → List ℕ → Result Task Refusal → Type 0
-ReadsPlan p plan (Ok t) = (answered t.steps.now ≡ plan_of plan (length (problem p).actions)) × (t.problem.now ≡ p)
-ReadsPlan p plan (Err r) = answers.refusal r ≡ plan_of plan (length (problem p).actions)

@@ -1,6 +1,6 @@
 // What tells a text: how a plan fails at a state, and a problem with a plan for it.
 ghost use Rattle.std.specs.Prelude.{option_map};
-ghost use Rattle.reply.specs.Views.{given, spoken as spoken_of, ReadsPlan};
+ghost use Rattle.reply.specs.Views.{given, spoken as spoken_of};
 ghost use Rattle.reply.specs.Said.{Gives};
 ghost use Rattle.reply.specs.About.{WithPlan, explained_reply, ShowReply, shown_reply};
 
@@ -8,23 +8,8 @@ use crate::replies::Reply;
 use crate::telling::{Spoken, Telling};
 use crate::unanswered::Unanswered;
 use answers::Status;
-use blocks::{Problem, Task};
 use explain::{ExplainError, push_explanation};
-use model::{Limits, Refusal};
 use show::{push_plan, push_problem};
-
-// The task that the plan in a block makes of a problem.
-fn task_of<'a>(problem: &'a Problem<'a>, plan: &'a [u8]) -> Result<Task<'a>, Refusal>
-    ensures { ReadsPlan problem.entry.now plan.entry.now result }
-{
-    match problem.plan(plan) {
-        Ok(_) => {
-            let (_, steps) = plan.split_at(Limits::HEAD_BYTES);
-            Ok(Task { problem, steps })
-        }
-        Err(refusal) => Err(refusal),
-    }
-}
 
 impl Telling<'_> {
     // How a plan fails at a state.
@@ -36,7 +21,7 @@ impl Telling<'_> {
     ) -> Result<Reply, Unanswered>
         ensures { Gives (WithPlan self.now.json (spoken_of spoken.now) plan.now (explained_reply self.now.json (spoken_of spoken.now) state)) result }
     {
-        let task = match task_of(&spoken.problem, plan) {
+        let task = match spoken.problem.plan(plan) {
             Ok(task) => task,
             Err(refusal) => return Ok(self.refuse(refusal)?),
         };
@@ -52,7 +37,7 @@ impl Telling<'_> {
     fn show_both(&self, spoken: &Spoken, plan: &[u8]) -> Result<Reply, Unanswered>
         ensures { Gives (WithPlan self.now.json (spoken_of spoken.now) plan.now (shown_reply self.now.json (spoken_of spoken.now))) result }
     {
-        let task = match task_of(&spoken.problem, plan) {
+        let task = match spoken.problem.plan(plan) {
             Ok(task) => task,
             Err(refusal) => return Ok(self.refuse(refusal)?),
         };

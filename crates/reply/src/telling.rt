@@ -78,7 +78,7 @@ impl<'a> Telling<'a> {
         let Some(list) = &self.names else {
             return Some(Names::numbers());
         };
-        if !list.fits(problem.facts, problem.actions) {
+        if !list.fits(problem.facts, problem.actions.count) {
             return None;
         }
         Some(list.names())

@@ -18,7 +18,7 @@ pub record HasState (T : Task) (s : ℕ) (c : Cases) : Type 0 where
   pub is : is_state_number T s ≡ true
   pub cases : InEachLane T s c
 
--- "40 if it has a bit past the declared facts"
+-- 40 for what is no state; else the state in every lane
 abbrev pub StateOf : Task → ℕ → Result Cases Refusal → Type 0
 StateOf T s (Err r) = (is_state_number T s ≡ false) × (r ≡ refusal_at StateNumber 0)
 StateOf T s (Ok c) = HasState T s c

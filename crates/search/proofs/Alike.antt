@@ -27,32 +27,32 @@ module _ (p : Problem) (first : List ℕ) (more k left : ℕ) where
 
   -- the plans whose next step is one of n from `step` on
   abbrev from : ℕ → ℕ → List (List ℕ)
-  from n step = map (λ q. first ++ q) (each_step n step (plans_of p.actions k))
+  from n step = map (λ q. first ++ q) (each_step n step (plans_of p.actions.count k))
 
   -- those with the steps below `step` next are tried, and so many visits are left
   pub record Tried (rest step : ℕ) : Type 0 where
     pub within : rest ≤ left
     pub is :
         (grant : ℕ) → left ≤ grant → (after : List (List ℕ)) →
-        search T grant (longer p first more ++ after) (grant - left) ≡ search T grant (from (p.actions - step) step ++ after) (grant - rest)
+        search T grant (longer p first more ++ after) (grant - left) ≡ search T grant (from (p.actions.count - step) step ++ after) (grant - rest)
 
   pub tried-none : more ≡ suc k → Tried left 0
   unfolding plans_of
   tried-none e =
-      let z : p.actions - 0 ≡ p.actions = omega arith in
+      let z : p.actions.count - 0 ≡ p.actions.count = omega arith in
       record { within = omega arith; is = λ grant h after. rw (e, z) refl }
 
-  module _ (rest step : ℕ) (t : Tried rest step) (h : step < p.actions) where
+  module _ (rest step : ℕ) (t : Tried rest step) (h : step < p.actions.count) where
     -- those with this step next
     one-step :
         (r : Result ℕ Ended) → Comes p (longer p (first ++ step ∷ []) k) rest r → (grant : ℕ) → left ≤ grant → (after : List (List ℕ)) →
-        search T grant (longer p first more ++ after) (grant - left) ≡ resumes grant r (search T grant (from (p.actions - suc step) (suc step) ++ after))
+        search T grant (longer p first more ++ after) (grant - left) ≡ resumes grant r (search T grant (from (p.actions.count - suc step) (suc step) ++ after))
     one-step r o grant g after =
-        let i : p.actions - step ≡ suc (p.actions - suc step) = omega arith in
+        let i : p.actions.count - step ≡ suc (p.actions.count - suc step) = omega arith in
         t.is grant g after ∙
         ap (λ (n : ℕ). search T grant (from n step ++ after) (grant - rest)) i ∙
-        ap (λ (l : List (List ℕ)). search T grant l (grant - rest)) (steps_next first (p.actions - suc step) step (plans_of p.actions k) after) ∙
-        o.is grant (omega (arith, t.within)) (from (p.actions - suc step) (suc step) ++ after)
+        ap (λ (l : List (List ℕ)). search T grant l (grant - rest)) (steps_next first (p.actions.count - suc step) step (plans_of p.actions.count k) after) ∙
+        o.is grant (omega (arith, t.within)) (from (p.actions.count - suc step) (suc step) ++ after)
 
     pub tried-ended : (e : Ended) → Comes p (longer p (first ++ step ∷ []) k) rest (Err e) → Comes p (longer p first more) left (Err e)
     tried-ended e o = record { within = within-more rest left t.within e o.within; is = one-step (Err e) o }
@@ -60,14 +60,14 @@ module _ (p : Problem) (first : List ℕ) (more k left : ℕ) where
     pub tried-one : (a : ℕ) → Comes p (longer p (first ++ step ∷ []) k) rest (Ok a) → Tried a (step + 1)
     tried-one a o = record { within = omega (arith, t.within, o.within); is = rw (add-one step) (one-step (Ok a) o) }
 
-  pub tried-all : (rest step : ℕ) → Tried rest step → p.actions ≤ step → Comes p (longer p first more) left (Ok rest)
+  pub tried-all : (rest step : ℕ) → Tried rest step → p.actions.count ≤ step → Comes p (longer p first more) left (Ok rest)
   unfolding each_step
   tried-all rest step t h =
       record {
         within = t.within;
         is =
             λ grant g after.
-            let i : p.actions - step ≡ 0 = omega arith in
+            let i : p.actions.count - step ≡ 0 = omega arith in
             t.is grant g after ∙ ap (λ (n : ℕ). search T grant (from n step ++ after) (grant - rest)) i;
       }
 
@@ -80,7 +80,7 @@ module _ (p : Problem) (longest grant : ℕ) where
   -- the plans of fewer than l steps are tried, and so many visits are left
   pub record Shorter (left l : ℕ) : Type 0 where
     pub within : left ≤ grant
-    pub is : search T' grant (plans_up_to p.actions longest) 0 ≡ search T' grant (plans_from p.actions l (suc longest - l)) (grant - left)
+    pub is : search T' grant (plans_up_to p.actions.count longest) 0 ≡ search T' grant (plans_from p.actions.count l (suc longest - l)) (grant - left)
 
   pub shorter-none : Shorter grant 0
   unfolding plans_up_to
@@ -96,14 +96,14 @@ module _ (p : Problem) (longest grant : ℕ) where
   module _ (left l : ℕ) (s : Shorter left l) (h : l ≤ longest) where
     one-length :
         (r : Result ℕ Ended) → Comes p (longer p [] l) left r →
-        search T' grant (plans_up_to p.actions longest) 0 ≡ resumes grant r (search T' grant (plans_from p.actions (suc l) (suc longest - suc l)))
+        search T' grant (plans_up_to p.actions.count longest) 0 ≡ resumes grant r (search T' grant (plans_from p.actions.count (suc l) (suc longest - suc l)))
     unfolding plans_from
     one-length r t =
-        let after = plans_from p.actions (suc l) (suc longest - suc l) in
+        let after = plans_from p.actions.count (suc l) (suc longest - suc l) in
         let i : suc longest - l ≡ suc (suc longest - suc l) = omega arith in
         s.is ∙
-        ap (λ (n : ℕ). search T' grant (plans_from p.actions l n) (grant - left)) i ∙
-        ap (λ (qs : List (List ℕ)). search T' grant (qs ++ after) (grant - left)) (sym (map-id (plans_of p.actions l))) ∙
+        ap (λ (n : ℕ). search T' grant (plans_from p.actions.count l n) (grant - left)) i ∙
+        ap (λ (qs : List (List ℕ)). search T' grant (qs ++ after) (grant - left)) (sym (map-id (plans_of p.actions.count l))) ∙
         t.is grant s.within after
 
     pub shorter-ended : (e : Ended) → Comes p (longer p [] l) left (Err e) → ComesToEnd p longest grant (Err e)
@@ -119,5 +119,5 @@ module _ (p : Problem) (longest grant : ℕ) where
         within = s.within;
         is =
             let i : suc longest - l ≡ 0 = omega arith in
-            s.is ∙ ap (λ (n : ℕ). search T' grant (plans_from p.actions l n) (grant - left)) i;
+            s.is ∙ ap (λ (n : ℕ). search T' grant (plans_from p.actions.count l n) (grant - left)) i;
       }

@@ -64,7 +64,7 @@ named-next m first step h l i k =
           rw (e, get_or-append_seam first step [] 0) l
     ]
 
-module _ (root : Root) (first : List ℕ) (alive : ℕ) (c : Cases) (B : IsBegun root first alive c) (step : ℕ) (l : step < root.problem.now.actions) where
+module _ (root : Root) (first : List ℕ) (alive : ℕ) (c : Cases) (B : IsBegun root first alive c) (step : ℕ) (l : step < root.problem.now.actions.count) where
   abbrev p : Problem
   p = root.problem.now
 
@@ -93,7 +93,7 @@ module _ (root : Root) (first : List ℕ) (alive : ℕ) (c : Cases) (B : IsBegun
     next-begun (Ok lanes) G =
         record {
           facts = f ∙ B.facts;
-          named = named-next p.actions first step B.named l;
+          named = named-next p.actions.count first step B.named l;
           going =
               λ m more.
               rw (append_snoc first step more, length-append first (step ∷ []))
@@ -103,7 +103,7 @@ module _ (root : Root) (first : List ℕ) (alive : ℕ) (c : Cases) (B : IsBegun
     next-begun (Err h) H =
         record {
           facts = f ∙ B.facts;
-          named = named-next p.actions first step B.named l;
+          named = named-next p.actions.count first step B.named l;
           going = λ m more. absurd (m refl);
           stopped =
               λ z more.

@@ -35,7 +35,7 @@ module _ (s : List ℕ) (longest grant : ℕ) where
     pub search-over : max_length < longest → refused 43 0 ≡ search_plans (limits_of s) s longest grant
     search-over l = sym (((guarantees-of s).searching s (problem p) (sym read)).over_length longest grant l)
 
-    module _ (l : longest ≤ max_length) (count : ℕ) (c : count ≡ plan_count p.actions longest) where
+    module _ (l : longest ≤ max_length) (count : ℕ) (c : count ≡ plan_count p.actions.count longest) where
       counts : count ≡ length (plans_in (problem p) longest)
       counts = c ∙ ap (λ (m : ℕ). plan_count m longest) (sym (action-count p)) ∙ sym (enumerates (length (problem p).actions) longest).counted
 

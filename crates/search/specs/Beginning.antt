@@ -16,7 +16,7 @@ task_with p = task_of p.limits (problem p)
 -- in the first block, the lanes that go on after the steps of `first` and their cases, whatever steps come after these
 pub record IsBegun (root : Root) (first : List ℕ) (alive : ℕ) (cases : Cases) : Type 0 where
   pub facts : cases.facts ≡ root.problem.now.facts
-  pub named : (i : ℕ) → i < length first → slice_index first i < root.problem.now.actions
+  pub named : (i : ℕ) → i < length first → slice_index first i < root.problem.now.actions.count
   pub going :
       (alive ≡ 0 → ⊥) → (more : List ℕ) →
       Running (task_with root.problem.now (first ++ more)) root.starts (case_of root.lanes.now) (length first) alive (case_of cases)

@@ -34,9 +34,9 @@ pub record Comes (p : Problem) (plans : List (List ℕ)) (left : ℕ) (r : Resul
 
 -- the plans that begin with these steps and have so many more
 abbrev pub longer : Problem → List ℕ → ℕ → List (List ℕ)
-longer p first more = map (λ q. first ++ q) (plans_of p.actions more)
+longer p first more = map (λ q. first ++ q) (plans_of p.actions.count more)
 
 -- a search of all plans up to a length comes so far
 pub record ComesToEnd (p : Problem) (longest grant : ℕ) (r : Result ℕ Ended) : Type 0 where
   pub within : Within grant r
-  pub is : search (task_with p) grant (plans_up_to p.actions longest) 0 ≡ resumes grant r none_right
+  pub is : search (task_with p) grant (plans_up_to p.actions.count longest) 0 ≡ resumes grant r none_right

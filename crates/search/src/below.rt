@@ -61,7 +61,7 @@ impl Begun<'_> {
             return self.try_plan(left, tables);
         }
         let mut rest = left;
-        for step in 0..self.root.problem.actions {
+        for step in 0..self.root.problem.actions.count {
             rest = self.try_step(step, more - 1, rest, tables)?;
         }
         Ok(rest)
@@ -70,7 +70,7 @@ impl Begun<'_> {
     // Those whose next step is `step`, with so many more after it. Where no lane goes on there is nothing to obey.
     #[cycle(plans)]
     fn try_step(&self, step: u8, more: usize, left: u64, tables: &mut Tables) -> Result<u64, Ended>
-        requires action { step < self.now.root.now.problem.now.actions }
+        requires action { step < self.now.root.now.problem.now.actions.count }
         requires room { length self.now.plan + more < max_length }
         requires stands { AtFirst tables.old self.now.root.now.problem.now.facts }
         ensures stands { AtFirst tables.new self.now.root.now.problem.now.facts }
@@ -98,7 +98,7 @@ impl Begun<'_> {
         left: u64,
         tables: &mut Tables,
     ) -> Result<u64, Ended>
-        requires action { step < self.now.root.now.problem.now.actions }
+        requires action { step < self.now.root.now.problem.now.actions.count }
         requires room { length self.now.plan + more < max_length }
         requires some { 0 < self.now.alive }
         requires stands { AtFirst tables.old self.now.root.now.problem.now.facts }
@@ -106,7 +106,7 @@ impl Begun<'_> {
         ensures comes { let p = self.now.root.now.problem.now in Comes p (longer p (self.now.plan ++ step ∷ []) more) left result }
     {
         let mut cases = *self.cases;
-        let action = self.root.problem.action(step);
+        let action = self.root.problem.actions.get(step);
         let going = obey(action, &mut cases, &mut tables.conditions, self.alive).unwrap_or(0);
         let next = Begun {
             root: self.root,

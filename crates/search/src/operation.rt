@@ -59,7 +59,7 @@ pub fn search_plans(problem: &[u8], longest: u64, grant: u64) -> Result<Search, 
     if longest > ShortPlan::MAX_STEPS as u64 {
         return Err(Fault::PlanLength.at(0));
     }
-    if plan_count(found.actions as u64, longest) > ShortPlan::MAX_PLANS {
+    if plan_count(found.actions.count as u64, longest) > ShortPlan::MAX_PLANS {
         return Err(Fault::TooManyPlans.at(0));
     }
     Ok(search_problem(&found, longest as usize, grant))

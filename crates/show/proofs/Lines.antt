@@ -14,9 +14,6 @@ use Rattle.names.specs.Texts.{fact_name, action_name, formula_text}
 use Rattle.show.specs.ProblemText.{literal_set, unless_always, facts_text, effects_text, needs_text, actions_text, problem_text, steps_text, plan_text}
 use Rattle.show.proofs.Pieces.{joined, after-three, after-five}
 
-pub all-actions : (p : View) → length (problem p).actions ≡ p.actions
-all-actions p = length-tabulate p.actions (λ i. action_of (drop (slice_index p.at i) p.block.now))
-
 module _ (N : Names) where
   -- the line of a fact, and of a step
   abbrev pub fact_line : ℕ → List ℕ

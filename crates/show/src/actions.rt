@@ -25,8 +25,8 @@ fn push_action(out: &mut String, name: ActionName, action: Action) -> Result<(),
 pub fn push_actions(out: &mut String, names: Names, problem: &Problem) -> Result<(), AllocError>
     ensures { OnOk result (string_bytes out.new ≡ string_bytes out.old ++ actions_text (names_of names.entry) 0 (problem_of problem.now).actions) }
 {
-    for action in 0..problem.actions {
-        push_action(out, ActionName { names, action }, problem.action(action))?;
+    for action in 0..problem.actions.count {
+        push_action(out, ActionName { names, action }, problem.actions.get(action))?;
     }
     Ok(())
 }

@@ -2,7 +2,7 @@
 use Rattle.std.specs.Prelude.{◌≡◌, List, ℕ, suc, ◌+◌, ◌-◌, ◌*◌, ◌%◌, ◌^◌, ◌≤◌, ◌<◌}
 use Rattle.model.specs.Kleene.{Kleene}
 use Rattle.model.specs.Case.{case_of}
-use Rattle.cases.specs.Blocks.{block_case}
+use Rattle.cases.specs.Blocks.{max_levels, block_case}
 
 -- the lanes have the case `root` and the cases of its next facts, from fact k on, so many levels of them
 abbrev pub IsBlock : (ℕ → List Kleene) → List Kleene → ℕ → ℕ → Type 0
@@ -14,11 +14,11 @@ block_of w n k v levels j = block_case (case_of w n k v) k levels j
 
 -- the levels of the first block over so many facts: the odd ones, so that all blocks below it are full
 abbrev pub first_levels : ℕ → ℕ
-first_levels facts = (facts - 1) % 5 + 1
+first_levels facts = (facts - 1) % max_levels + 1
 
 -- the levels of a block below a case that leaves so many facts open
 pub record LevelsOf (left r : ℕ) : Type 0 where
-  pub few : r ≤ 5
+  pub few : r ≤ max_levels
   pub inside : r ≤ left
   pub some : 0 < left → 0 < r
 

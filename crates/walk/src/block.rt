@@ -2,11 +2,13 @@
 ghost use Rattle.std.proofs.Props.{props};
 ghost use Rattle.std.specs.Prelude.{◌≡◌, ◌+◌, ◌-◌, ◌%◌, ◌^◌, ◌≤◌, ◌<◌};
 ghost use Rattle.blocks.specs.Values.{task as task_of};
+ghost use Rattle.cases.specs.Blocks.{max_levels};
 ghost use Rattle.runs.specs.Looks.{LooksAt};
 ghost use Rattle.walk.specs.Lanes.{IsAfter, LevelsOf, first_levels, block_of};
 
 use crate::case::Case;
 use blocks::Task;
+use cases::LEVELS;
 use numbers::span;
 use runs::Looks;
 
@@ -19,7 +21,7 @@ pub struct Block<'a> {
     pub levels: usize,
     pub looks: Looks,
     pub ghost some: { 0 < levels },
-    pub ghost few: { levels ≤ 5 },
+    pub ghost few: { levels ≤ max_levels },
     pub ghost inside: { own.k + levels ≤ task.now.problem.now.facts },
     pub ghost begins: { own.number % 2 ^ ((task_of task.now).width - own.k) ≡ 0 },
     pub ghost numbers: { own.number + 2 ^ ((task_of task.now).width - own.k) ≤ 2 ^ (task_of task.now).width },
@@ -93,5 +95,5 @@ pub fn first_levels(facts: u8) -> usize
     ensures is { result ≡ first_levels facts }
     ensures levels { LevelsOf facts result }
 {
-    (facts - 1) as usize % 5 + 1
+    (facts - 1) as usize % LEVELS + 1
 }

@@ -20,6 +20,7 @@ impl Tables {
     ghost use Rattle.std.specs.Prelude.{ℕ, ◌+◌, ◌<◌};
     ghost use Rattle.model.specs.Limits.{max_facts};
     ghost use Rattle.blocks.specs.Values.{task as task_of};
+    ghost use Rattle.cases.specs.Blocks.{max_levels};
     ghost use Rattle.cases.specs.declared.case.Case as table;
     ghost use Rattle.cases.specs.Cases.{values_of, Common};
     ghost use Rattle.runs.specs.Looks.{LooksAt};
@@ -40,7 +41,7 @@ impl Tables {
     // What a visit finds of the case at which they stand and of those below it, so many levels of them.
     pub fn look(&mut self, task: &Task, k: usize, levels: usize) -> Looks
         requires facts { facts_of self.old ≡ task.now.problem.now.facts }
-        requires few { levels ≤ 5 }
+        requires few { levels ≤ max_levels }
         requires inside { k + levels ≤ facts_of self.old }
         ensures stands { self.new.case ≡ self.old.case }
         ensures looks { LooksAt (task_of task.now) (block_at self.old k levels) result }

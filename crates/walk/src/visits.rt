@@ -11,6 +11,7 @@ use crate::block::{Block, first_levels, lane_after};
 use crate::case::Lines;
 use crate::tables::Tables;
 use blocks::Task;
+use cases::LEVELS;
 
 // Every case closed, so many with a line; and the visits that are left of the grant.
 #[derive(Clone, Copy)]
@@ -114,7 +115,7 @@ fn walk_below<L: Lines>(
     let above = block.own.in_table(problem.limits.width);
     let here = own.in_table(problem.limits.width);
     tables.go(block.own.k, above, here);
-    let levels = (problem.facts as usize - own.k).min(5);
+    let levels = (problem.facts as usize - own.k).min(LEVELS);
     let looks = tables.look(block.task, own.k, levels);
     let below = Block {
         task: block.task,

@@ -1,12 +1,12 @@
 -- What certificates guarantee, for the definitions of writing and following, where what is encoded is decoded. Assumes nothing.
-use Rattle.model.proofs.Words.{◌≡◌, refl, sym, ap, ◌∙◌, Bool, true, false, cond, List, [], ◌∷◌, ℕ, ◌^◌, ◌≤◌, arith, length, drop, take_at, drop_at, pow_pos, ltb, lt-ltb, ltb-true, ltb-false, Limits, Answer, refused, answered, Task, Look, Line, covered, Verdict, right, wrong, undecided, visits, look_at, walked, judged, head_bytes, ◌>>=◌, ◌>>◌, done, case_list, list_of, encode_list, read_task, list_bytes, lines_for, written, list_for, write_list, follow_list, Each, LineOk, Sensible, lines_in, written_list, ClosesWithin, NotWritten, by_visits, by_verdict, by_lines, by_room, Certificates}
+use Rattle.model.proofs.Words.{◌≡◌, refl, sym, ap, ◌∙◌, Bool, true, false, cond, List, [], ◌∷◌, ℕ, ◌^◌, ◌≤◌, arith, length, drop, take_at, drop_at, pow_pos, ltb, lt-ltb, ltb-true, ltb-false, Limits, Answer, refused, answered, Task, Look, Line, covered, Verdict, right, wrong, undecided, visits, look_at, walked, judged, head_bytes, ◌>>=◌, ◌>>◌, done, case_list, list_of, encode_list, list_bytes, lines_for, lines_read, written, write_read, follow_read, Each, LineOk, TaskOk, Sensible, lines_in, written_list, ClosesWithin, NotWritten, by_visits, by_verdict, by_lines, by_room, Certificates}
 use Rattle.model.specs.Answer as Answer
 use Rattle.model.proofs.Laws.Cover.{Follows}
 use Rattle.model.proofs.Laws.Verdicts.{Passes, Means, judged-means, passes-right, right-closes, walk_ends, walk-closes-right, walk-passes, walk-fewest}
 use Rattle.model.proofs.Laws.Following.{follow-passes, passes-follow}
 use Rattle.model.proofs.Laws.Reading.{then-got, got-inj, answer-got, length-block, byte-bits}
 use Rattle.model.proofs.Laws.ListCodec.{length-lines, length-lines_from, list_sound, list-ok}
-use Rattle.model.proofs.Laws.Tasks.{answer-then, list-for-is, follow-is, Fits}
+use Rattle.model.proofs.Laws.Tasks.{answer-then, lines-is, follow-is}
 use Rattle.model.proofs.Laws.Judging.{judged-in, judged-out}
 
 -- ---- lengths
@@ -47,6 +47,13 @@ module _ (F : Limits) (out : List ℕ) where
   unfolding written
   refused_unchanged n q x e = grind arith
 
+  -- the answer is inside the buffer, and no byte past it is changed
+  pub rest_unchanged :
+      Sensible F → (R : Answer Task) (grant n : ℕ) → (write_read F R grant out).answer ≡ answered n →
+      (n ≤ length out) × (drop n (write_read F R grant out).buffer ≡ drop n out)
+  unfolding write_read lines_read written lines_for Answer.◌>>=◌
+  rest_unchanged S R grant n e = grind (arith, length-encode_list, drop_at)
+
 -- a refusal that was not met
 passed :
     (n q : ℕ) {ls : List Line} (b : Bool) (x : Answer (List Line)) → cond b (refused n q) x ≡ answered ls → (b ≡ false) × (x ≡ answered ls)
@@ -57,7 +64,7 @@ as-refused :
     {A : Type 0} (P : ℕ → ℕ → Type 0) (m p n q : ℕ) → ◌≡◌ {A = Answer A} (refused m p) (refused n q) → P m p → P n q
 as-refused P m p n q e x = grind arith
 
-module _ (F : Limits) (S : Sensible F) (T : Task) (fits : Fits F T) where
+module _ (F : Limits) (S : Sensible F) (T : Task) (fits : TaskOk F T) where
   pub n≤w : T.facts ≤ T.width
   n≤w = omega (arith, fits.facts, fits.width, S.width)
 
@@ -96,85 +103,84 @@ module _ (F : Limits) (S : Sensible F) (T : Task) (fits : Fits F T) where
   not-written room grant n q (undecided a) m e =
       as-refused (NotWritten F T grant room) 50 grant n q (ap (λ (x : ℕ). refused 50 x) (sym m.0) ∙ e) (by_visits m.1)
 
-  module _ (problem plan : List ℕ) (given : read_task F problem plan ≡ answered T) where
-    -- the buffer after lines were written
-    buffer :
-        (grant : ℕ) (out : List ℕ) (n : ℕ) (ls : List Line) → list_for F problem plan grant (length out) ≡ answered ls →
-        n ≡ list_bytes F (length ls) →
-        (written_list F problem plan grant out n ≡ encode_list F ls) × (drop n (write_list F problem plan grant out).buffer ≡ drop n out)
-    unfolding write_list written
-    buffer grant out n ls e l = grind (arith, length-encode_list, take_at, drop_at)
+  -- the buffer after lines were written
+  buffer :
+      (grant : ℕ) (out : List ℕ) (n : ℕ) (ls : List Line) → lines_read F (answered T) grant (length out) ≡ answered ls →
+      n ≡ list_bytes F (length ls) →
+      (written_list F T grant out n ≡ encode_list F ls) × (drop n (write_read F (answered T) grant out).buffer ≡ drop n out)
+  unfolding write_read written
+  buffer grant out n ls e l = grind (arith, length-encode_list, take_at, drop_at)
 
-    -- what was written, as the walk's lines
-    pub record Wrote (grant : ℕ) (out : List ℕ) (n : ℕ) : Type 0 where
-      pub lines : List Line
-      pub used : ℕ
-      pub closes : walked T ≡ covered lines used
-      pub within : used ≤ grant
-      pub few : length lines ≤ F.lines
-      pub size : n ≡ list_bytes F (length lines)
-      pub inside : n ≤ length out
-      pub block : written_list F problem plan grant out n ≡ encode_list F lines
-      pub rest : drop n (write_list F problem plan grant out).buffer ≡ drop n out
+  -- what was written, as the walk's lines
+  pub record Wrote (grant : ℕ) (out : List ℕ) (n : ℕ) : Type 0 where
+    pub lines : List Line
+    pub used : ℕ
+    pub closes : walked T ≡ covered lines used
+    pub within : used ≤ grant
+    pub few : length lines ≤ F.lines
+    pub size : n ≡ list_bytes F (length lines)
+    pub inside : n ≤ length out
+    pub block : written_list F T grant out n ≡ encode_list F lines
+    pub rest : drop n (write_read F (answered T) grant out).buffer ≡ drop n out
 
-    pub wrote : (grant : ℕ) (out : List ℕ) (n : ℕ) → (write_list F problem plan grant out).answer ≡ answered n → Wrote grant out n
-    unfolding write_list
-    wrote grant out n e =
-        let (ls, x, l) = written-answered F out n (list_for F problem plan grant (length out)) e in
-        let y = sym (list-for-is F problem plan T given grant (length out)) ∙ x in
-        let (a, w, few, room, granted) = chosen (length out) grant ls (judged T grant) (judged-means T n≤w grant) y in
-        let (list, rest) = buffer grant out n ls x l in
-        record { lines = ls; used = a; closes = w; within = granted; few = few; size = l; inside = omega arith; block = list; rest = rest }
+  pub wrote : (grant : ℕ) (out : List ℕ) (n : ℕ) → (write_read F (answered T) grant out).answer ≡ answered n → Wrote grant out n
+  unfolding write_read
+  wrote grant out n e =
+      let (ls, x, l) = written-answered F out n (lines_read F (answered T) grant (length out)) e in
+      let y = sym (lines-is F T grant (length out)) ∙ x in
+      let (a, w, few, room, granted) = chosen (length out) grant ls (judged T grant) (judged-means T n≤w grant) y in
+      let (list, rest) = buffer grant out n ls x l in
+      record { lines = ls; used = a; closes = w; within = granted; few = few; size = l; inside = omega arith; block = list; rest = rest }
 
-    -- a list that passes, as its lines
-    followed :
-        (list : List ℕ) (m : ℕ) → follow_list F problem plan list ≡ answered m →
-        (ls : List Line) × (list_of F list ≡ answered ls) × Passes T n≤w ls × (m ≡ length ls)
-    followed list m e =
-        answer-then (sym (follow-is F problem plan T given list) ∙ e) λ ls r h.
-        let (p, c) = follow-passes T.width (look_at T) T.facts ls 0 0 m h in (ls, r, p, omega arith)
+  -- a list that passes, as its lines
+  followed :
+      (list : List ℕ) (m : ℕ) → follow_read F (answered T) list ≡ answered m →
+      (ls : List Line) × (list_of F list ≡ answered ls) × Passes T n≤w ls × (m ≡ length ls)
+  followed list m e =
+      answer-then (sym (follow-is F T list) ∙ e) λ ls r h.
+      let (p, c) = follow-passes T.width (look_at T) T.facts ls 0 0 m h in (ls, r, p, omega arith)
 
-    follow-lines :
-        (ls : List Line) → length ls ≤ F.lines → Passes T n≤w ls →
-        (follow_list F problem plan (encode_list F ls) ≡ answered (length ls)) × (lines_in F (encode_list F ls) ≡ length ls)
-    unfolding Answer.◌>>=◌
-    follow-lines ls few p = grind (arith, (follows-ok F S T.width (look_at T) T.facts), (list-ok F S (encode_list F ls) ls), (follow-is F problem plan T given), (passes-follow T.width (look_at T) T.facts ls 0 0), list_count)
+  follow-lines :
+      (ls : List Line) → length ls ≤ F.lines → Passes T n≤w ls →
+      (follow_read F (answered T) (encode_list F ls) ≡ answered (length ls)) × (lines_in F (encode_list F ls) ≡ length ls)
+  unfolding Answer.◌>>=◌
+  follow-lines ls few p = grind (arith, (follows-ok F S T.width (look_at T) T.facts), (list-ok F S (encode_list F ls) ls), (follow-is F T), (passes-follow T.width (look_at T) T.facts ls 0 0), list_count)
 
-    -- the lines of a task whose verdict is known
-    lines-are :
-        (grant room : ℕ) (v : Verdict (List Line)) → judged T grant ≡ v → list_for F problem plan grant room ≡ lines_for F room v
-    lines-are grant room v e = list-for-is F problem plan T given grant room ∙ ap (lines_for F room) e
+  -- the lines of a task whose verdict is known
+  lines-are :
+      (grant room : ℕ) (v : Verdict (List Line)) → judged T grant ≡ v → lines_read F (answered T) grant room ≡ lines_for F room v
+  lines-are grant room v e = lines-is F T grant room ∙ ap (lines_for F room) e
 
-    closed-lines :
-        (grant room : ℕ) (ls : List Line) → ClosesWithin T grant ls →
-        list_for F problem plan grant room ≡ lines_for F room (right ls (visits (walked T)))
-    closed-lines grant room ls c = lines-are grant room _ (judged-in T n≤w grant (covered ls _) c.closes c.within)
+  closed-lines :
+      (grant room : ℕ) (ls : List Line) → ClosesWithin T grant ls →
+      lines_read F (answered T) grant room ≡ lines_for F room (right ls (visits (walked T)))
+  closed-lines grant room ls c = lines-are grant room _ (judged-in T n≤w grant (covered ls _) c.closes c.within)
 
-    pub lists : Certificates F problem plan T
-    unfolding write_list written lines_for
-    lists =
-        record {
-          passes_only_right = λ list m e. grind (arith, followed, passes-right, n≤w, list_count);
-          passes_exactly = λ list b m. grind (arith, (followed list m), (list_sound F S list), follow-lines);
-          writes_walk =
-              λ r.
-              let (ls, a, e) = right-closes T n≤w r in
-              (ls, grind arith, λ grant out h few room. grind (arith, (list-for-is F problem plan T given grant (length out)), (judged-in T n≤w grant (covered ls a) e h), (buffer grant out (list_bytes F (length ls)) ls)));
-          out_of_visits = λ grant out h. rw (lines-are grant (length out) _ (judged-out T n≤w grant h));
-          not_right = λ grant out h nr. grind (arith, walk_ends, walk-closes-right, n≤w, lines-are, judged-in);
-          too_many_lines = λ grant out ls c many. rw (closed-lines grant (length out) ls c, lt-ltb F.lines (length ls) many);
-          short_buffer = λ grant out ls c few short. grind (arith, (closed-lines grant (length out) ls c));
-          refused_for = λ grant out n q e. grind (arith, (written-refused F out n q), (not-written (length out) grant n q (judged T grant) (judged-means T n≤w grant)), (list-for-is F problem plan T given grant (length out)));
-          written_is =
-              λ grant out n e.
-              let o = wrote grant out n e in
-              let p = walk-passes T n≤w o.lines o.used o.closes in
-              let ok = follows-ok F S T.width (look_at T) T.facts (omega (arith, fits.facts, S.facts)) fits.width o.lines 0 p in (
-                o.lines,
-                closes-within grant o.used o.lines o.closes o.within,
-                o.size,
-                record { sound = record { count = o.few; lines = ok.1 }; block = o.block; joined = p.0; hold = p.1 },
-              );
-          written_passes = λ grant out n e. let o = wrote grant out n e in grind (arith, (follow-lines o.lines o.few), (walk-passes T n≤w o.lines o.used o.closes), o.block);
-          written_least = λ grant out n e list m f. let o = wrote grant out n e in grind (arith, (follow-lines o.lines o.few), (walk-passes T n≤w o.lines o.used o.closes), o.block, (followed list m f), (walk-fewest T n≤w o.lines o.used o.closes), (list_count F S list));
-        }
+  pub lists : Certificates F T
+  unfolding write_read written lines_for
+  lists =
+      record {
+        passes_only_right = λ list m e. grind (arith, followed, passes-right, n≤w, list_count);
+        passes_exactly = λ list b m. grind (arith, (followed list m), (list_sound F S list), follow-lines);
+        writes_walk =
+            λ r.
+            let (ls, a, e) = right-closes T n≤w r in
+            (ls, grind arith, λ grant out h few room. grind (arith, (lines-is F T), (judged-in T n≤w grant (covered ls a) e h), (buffer grant out (list_bytes F (length ls)) ls)));
+        out_of_visits = λ grant out h. rw (lines-are grant (length out) _ (judged-out T n≤w grant h));
+        not_right = λ grant out h nr. grind (arith, walk_ends, walk-closes-right, n≤w, lines-are, judged-in);
+        too_many_lines = λ grant out ls c many. rw (closed-lines grant (length out) ls c, lt-ltb F.lines (length ls) many);
+        short_buffer = λ grant out ls c few short. grind (arith, (closed-lines grant (length out) ls c));
+        refused_for = λ grant out n q e. grind (arith, (written-refused F out n q), (not-written (length out) grant n q (judged T grant) (judged-means T n≤w grant)), (lines-is F T));
+        written_is =
+            λ grant out n e.
+            let o = wrote grant out n e in
+            let p = walk-passes T n≤w o.lines o.used o.closes in
+            let ok = follows-ok F S T.width (look_at T) T.facts (omega (arith, fits.facts, S.facts)) fits.width o.lines 0 p in (
+              o.lines,
+              closes-within grant o.used o.lines o.closes o.within,
+              o.size,
+              record { sound = record { count = o.few; lines = ok.1 }; block = o.block; joined = p.0; hold = p.1 },
+            );
+        written_passes = λ grant out n e. let o = wrote grant out n e in grind (arith, (follow-lines o.lines o.few), (walk-passes T n≤w o.lines o.used o.closes), o.block);
+        written_least = λ grant out n e list m f. let o = wrote grant out n e in grind (arith, (follow-lines o.lines o.few), (walk-passes T n≤w o.lines o.used o.closes), o.block, (followed list m f), (walk-fewest T n≤w o.lines o.used o.closes), (list_count F S list));
+      }

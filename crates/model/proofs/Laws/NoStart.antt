@@ -1,7 +1,7 @@
 -- A problem whose initial formula is the empty "any": the walk closes at once, whatever the plan. Assumes nothing.
-use Rattle.model.proofs.Words.{◌≡◌, ap, List, [], ◌∷◌, ◌++◌, ℕ, ◌≤◌, arith, length, drop, le-ltb, Limits, answered, any, none, eval, Task, Kind, empty, Look, closed, Line, line, covered, right, visits, walk_from, walk, look_at, walked, Problem, problem_of, plan_of, encode_list, read_plan, task_of, read_task, judge, list_bytes, lines_for, written, write_list}
+use Rattle.model.proofs.Words.{◌≡◌, ap, List, [], ◌∷◌, ◌++◌, ℕ, ◌≤◌, arith, length, drop, le-ltb, Limits, answered, any, none, eval, Task, Kind, empty, Look, closed, Line, line, covered, right, visits, walk_from, walk, look_at, walked, Problem, problem_of, plan_of, encode_list, read_plan, task_of, read_task, judge, judge_read, list_bytes, lines_for, written, write_list, write_read}
 use Rattle.model.specs.Answer as Answer
-use Rattle.model.proofs.Laws.Tasks.{answer-then, task-fits, judge-is, list-for-is}
+use Rattle.model.proofs.Laws.Tasks.{answer-then, task-sound, lines-is}
 use Rattle.model.proofs.Laws.Judging.{judged-in}
 
 -- a closed case is one line and one visit
@@ -24,14 +24,14 @@ module _ (F : Limits) (f≤w : F.facts ≤ F.width) (problem : List ℕ) {p : Pr
       (judge F problem plan g ≡ answered (right 1 1)) ×
       ((out : List ℕ) → list_bytes F 1 ≤ length out →
       write_list F problem plan g out ≡ record { answer = answered (list_bytes F 1); buffer = encode_list F only ++ drop (list_bytes F 1) out })
-  unfolding read_plan read_task Answer.◌>>=◌ task_of lines_for written write_list
+  unfolding read_plan read_task Answer.◌>>=◌ task_of lines_for written judge_read write_read
   no_start empty-any few plan m read g one =
       answer-then {x = plan_of plan (length p.actions)} (rw reads at read) λ steps e _.
       let T = task_of F p steps in
       let given : read_task F problem plan ≡ answered T = rw (reads, e) in
-      let f = task-fits F problem plan T given in
+      let f = task-sound F problem plan T given in
       let c = walks-once T empty-any in
       let j = judged-in T (omega (arith, f.facts, f.width)) g (covered only 1) c (omega (arith, ap visits c)) in (
-        rw (judge-is F problem plan T given g, j),
-        λ out room. rw (list-for-is F problem plan T given g (length out), j, le-ltb F.lines 1 few, le-ltb (length out) (list_bytes F 1) room),
+        rw (given, j),
+        λ out room. rw (given, lines-is F T g (length out), j, le-ltb F.lines 1 few, le-ltb (length out) (list_bytes F 1) room),
       )

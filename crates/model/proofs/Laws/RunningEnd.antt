@@ -1,6 +1,6 @@
 -- The running value is the end of what the lines cover together, and following is one test of it after the last line. The width,
 -- the fact count and the look are parameters. Assumes nothing.
-use Rattle.model.proofs.Words.{◌≡◌, refl, sym, ap, ◌∙◌, subst, ◌↔◌, List, [], ◌∷◌, ℕ, zero, suc, ◌+◌, ◌-◌, ◌^◌, ◌≤◌, ◌<◌, zero-le, arith, dec_lt, length, take, drop, eqb, eqb-true, Answer, refused, answered, Look, Line, refuse_at, ends, fault, follow, CoveredBy, CoveredOnce, CoversTo, cover_end, FaultAt, RunningEnd}
+use Rattle.model.proofs.Words.{◌≡◌, refl, sym, ap, ◌∙◌, subst, ◌↔◌, ◌⊎◌, List, [], ◌∷◌, ℕ, zero, suc, ◌+◌, ◌-◌, ◌^◌, ◌≤◌, ◌<◌, zero-le, arith, dec_lt, length, take, drop, eqb, eqb-true, Answer, refused, answered, Look, Line, refuse_at, ends, fault, follow, CoveredBy, CoveredOnce, CoversTo, cover_end, FaultAt, RunningEnd, first}
 use Rattle.model.specs.Answer.{◌>>=◌}
 use Rattle.model.proofs.Laws.Following.{refuse-at-answered, ends-answered, fault-none}
 use Rattle.model.proofs.Laws.Tasks.{answer-then}
@@ -104,6 +104,13 @@ module _ (w : ℕ) (look : ℕ → ℕ → Look) (n : ℕ) where
       let z = eqb-true e (2 ^ w) (ends-answered _ (length ls) m t).0 in
       subst (CoversTo w ls) z (covers-to ls e r)
 
+  -- a line past all of them begins elsewhere, if nothing else is wrong with it
+  past-the-whole :
+      (l : Line) → l.value < 2 ^ w →
+      (fault w look n l (2 ^ w) ≡ 65) ⊎ ((fault w look n l (2 ^ w) ≡ 66) ⊎ ((fault w look n l (2 ^ w) ≡ 67) ⊎ (fault w look n l (2 ^ w) ≡ 68)))
+  unfolding fault first
+  past-the-whole l h = grind (arith, eqb-true)
+
   pub running-end : RunningEnd w look n
   unfolding ◌>>=◌
   running-end =
@@ -112,4 +119,5 @@ module _ (w : ℕ) (look : ℕ → ℕ → Look) (n : ℕ) where
         at_fault = fault-at;
         same_answers = same_answers;
         passes_whole = whole;
+        past_the_whole = past-the-whole;
       }

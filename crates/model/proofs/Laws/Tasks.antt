@@ -1,5 +1,5 @@
 -- A task that was read is within the limits of its version, and the operations on it. Assumes nothing.
-use Rattle.model.proofs.Words.{◌≡◌, subst, true, false, ◌⊎◌, inl, inr, List, ℕ, ◌≤◌, arith, take, Limits, Answer, refused, answered, Task, run_of, IsState, judged, look_at, follow, cover_end, ◌>>=◌, ◌>>◌, done, Problem, ending, parts, body, problem, problem_of, plan, list_of, is_state_number, task_of, read_task, run_state, line_count, judge, lines_for, list_for, follow_list, cover_after}
+use Rattle.model.proofs.Words.{◌≡◌, refl, subst, true, false, ◌⊎◌, inl, inr, List, ℕ, ◌≤◌, arith, take, Limits, Answer, refused, answered, Task, run_of, IsState, judged, look_at, follow, cover_end, list_of, lines_for, lines_read, follow_read, cover_read, ◌>>=◌, ◌>>◌, done, Problem, ending, parts, body, problem, problem_of, is_state_number, run_read, task_of, read_task, TaskOk}
 use Rattle.model.specs.Answer as Answer
 use Rattle.model.proofs.Laws.Reading.{then-got, got-inj, answer-got, count_gives}
 
@@ -23,11 +23,6 @@ unfolding is_state_number
 state-tested T s = grind arith
 
 module _ (F : Limits) where
-  -- the bounds that the guarantees need
-  pub record Fits (T : Task) : Type 0 where
-    pub facts : T.facts ≤ F.facts
-    pub width : T.width ≡ F.width
-
   -- a problem that was read has no more facts
   pub problem-fits : (problem' : List ℕ) (p : Problem) → problem_of F problem' ≡ answered p → p.facts ≤ F.facts
   unfolding problem_of problem body parts ending ◌>>=◌ ◌>>◌ done
@@ -43,36 +38,31 @@ module _ (F : Limits) where
       let l = ((count_gives problem' 15 1 F.facts p₀).of n p₁ e₁).1 in
       subst (λ (x : Problem). x.facts ≤ F.facts) (got-inj g₇).0 l
 
-  pub task-fits : (problem plan : List ℕ) (T : Task) → read_task F problem plan ≡ answered T → Fits T
+  pub task-sound : (problem plan : List ℕ) (T : Task) → read_task F problem plan ≡ answered T → TaskOk F T
   unfolding read_task task_of Answer.◌>>=◌
-  task-fits problem plan T h = grind (arith, problem-fits)
+  task-sound problem plan T h = grind (arith, problem-fits)
 
-  -- the operations on a task that was read
-  module _ (problem plan : List ℕ) (T : Task) (given : read_task F problem plan ≡ answered T) where
-    pub judge-is : (g : ℕ) → judge F problem plan g ≡ answered (line_count (judged T g))
-    unfolding judge Answer.◌>>=◌
-    judge-is g = rw given
+-- the run of one state of a task that was read
+module _ (T : Task) where
+  pub run-answers : (s : ℕ) → IsState T s → run_read (answered T) s ≡ answered (run_of T s)
+  unfolding run_read Answer.◌>>=◌
+  run-answers s h = elim (state-tested T s) [ inl y ↦ rw y.1 | inr x ↦ absurd (x.0 h) ]
 
-    pub run-answers : (s : ℕ) → IsState T s → run_state F problem plan s ≡ answered (run_of T s)
-    unfolding run_state Answer.◌>>=◌
-    run-answers s h = elim (state-tested T s) [ inl y ↦ rw (given, Answer.◌>>=◌, y.1) | inr x ↦ absurd (x.0 h) ]
+  pub run_no_state : (s : ℕ) → (IsState T s → ⊥) → run_read (answered T) s ≡ refused 40 0
+  unfolding run_read Answer.◌>>=◌
+  run_no_state s h = elim (state-tested T s) [ inl y ↦ absurd (h y.0) | inr x ↦ rw x.1 ]
 
-    pub run_no_state : (s : ℕ) → (IsState T s → ⊥) → run_state F problem plan s ≡ refused 40 0
-    unfolding run_state Answer.◌>>=◌
-    run_no_state s h = elim (state-tested T s) [ inl y ↦ absurd (h y.0) | inr x ↦ rw (given, Answer.◌>>=◌, x.1) ]
+-- lists of a task that was read
+module _ (F : Limits) (T : Task) where
+  pub lines-is : (g room : ℕ) → lines_read F (answered T) g room ≡ lines_for F room (judged T g)
+  unfolding lines_read Answer.◌>>=◌
+  lines-is g room = refl
 
-    pub list-for-is : (g room : ℕ) → list_for F problem plan g room ≡ lines_for F room (judged T g)
-    unfolding list_for Answer.◌>>=◌
-    list-for-is g room = rw given
+  pub follow-is : (list : List ℕ) → follow_read F (answered T) list ≡ Answer.◌>>=◌ (list_of F list) (λ ls. follow T.width (look_at T) T.facts ls 0 0)
+  unfolding follow_read Answer.◌>>=◌
+  follow-is list = refl
 
-    pub follow-is :
-        (list : List ℕ) →
-        follow_list F problem plan list ≡ Answer.◌>>=◌ (list_of F list) (λ ls. follow T.width (look_at T) T.facts ls 0 0)
-    unfolding follow_list Answer.◌>>=◌
-    follow-is list = rw given
-
-    pub cover-is :
-        (list : List ℕ) (m : ℕ) →
-        cover_after F problem plan list m ≡ Answer.◌>>=◌ (list_of F list) (λ ls. cover_end T.width (look_at T) T.facts (take m ls) 0 0)
-    unfolding cover_after Answer.◌>>=◌
-    cover-is list m = rw given
+  pub cover-is :
+      (list : List ℕ) (m : ℕ) → cover_read F (answered T) list m ≡ Answer.◌>>=◌ (list_of F list) (λ ls. cover_end T.width (look_at T) T.facts (take m ls) 0 0)
+  unfolding cover_read Answer.◌>>=◌
+  cover-is list m = refl

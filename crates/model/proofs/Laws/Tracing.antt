@@ -13,7 +13,6 @@ use Rattle.std.proofs.lemmas.List.{append_assoc, get_or-take, length-take, lengt
 use lib.Seq.{take_at, drop_at}
 use lib.Dec.{ltb}
 use borrow.Author.Tests.{lt-ltb, le-ltb}
-use Rattle.model.specs.declared.Limits.{Limits}
 use Rattle.model.specs.Answer as Answer
 use Rattle.model.specs.Answer.{Answer, refused, answered}
 use Rattle.model.specs.Kleene.{two}
@@ -21,7 +20,7 @@ use Rattle.model.specs.Action.{Action, step}
 use Rattle.model.specs.Run.{Outcome, reached, missed, blocked}
 use Rattle.model.specs.Case.{bit, flag, state_of, Task, run_of, IsState}
 use Rattle.model.specs.Relevance.{states, rows, relevant_to, stretch, padded, run_states, run_rows, sparse_bytes, kept_states, sparse_rows, AgreeOn, Layout, every_row, fewer_rows}
-use Rattle.model.specs.Operations.{Written, is_state_number, state_answer, read_task, run_state, when_reached, traced_back, reached_task, relevant_facts, relevant_facts_sparse}
+use Rattle.model.specs.Operations.{Written, is_state_number, state_answer, run_read, when_reached, traced_back, reached_read, relevant_read}
 use Rattle.model.specs.Guarantees.{Relevance, Fits}
 use Rattle.model.proofs.Laws.Tabulate.{length-tabulate, get_d_tabulate}
 use Rattle.model.proofs.Laws.Tasks.{state-tested, run-answers}
@@ -117,11 +116,7 @@ fewer-rows-keep T n≤w s = sparse-rows-length T n≤w s
 
 -- ---- the answers by cases
 
--- a call that lays a run out as L does
-abbrev pub call : Limits → Layout → List ℕ → List ℕ → ℕ → List ℕ → Written
-call F L problem plan s work = traced_back L s work (reached_task F L problem plan s (length work))
-
-module _ (F : Limits) (L : Layout) (problem plan : List ℕ) (T : Task) (given : read_task F problem plan ≡ answered T) where
+module _ (L : Layout) (T : Task) where
   -- what the call gives of the state s
   pub data Traced (s : ℕ) (work : List ℕ) : Written → Type 0 where
     no_state : (IsState T s → ⊥) → Traced s work (record { answer = refused 40 0; buffer = work })
@@ -145,12 +140,12 @@ module _ (F : Limits) (L : Layout) (problem plan : List ℕ) (T : Task) (given :
   by-outcome s work st missed e = unreached st (λ r. let z : ◌≡◌ {A = ℕ} 0 1 = cc in omega arith)
   by-outcome s work st (blocked p) e = unreached st (λ r. let z : ◌≡◌ {A = ℕ} 0 1 = cc in omega arith)
 
-  pub traced : (s : ℕ) (work : List ℕ) → Traced s work (call F L problem plan s work)
-  unfolding reached_task Answer.◌>>=◌
+  pub traced : (s : ℕ) (work : List ℕ) → Traced s work (relevant_read L (answered T) s work)
+  unfolding relevant_read reached_read Answer.◌>>=◌
   traced s work =
       elim (state-tested T s) [
-        | inl y ↦ rw (given, Answer.◌>>=◌, y.1) (by-outcome s work y.0 (run_of T s) refl)
-        | inr y ↦ rw (given, Answer.◌>>=◌, y.1) (no_state y.0)
+        | inl y ↦ rw y.1 (by-outcome s work y.0 (run_of T s) refl)
+        | inr y ↦ rw y.1 (no_state y.0)
       ]
 
   -- ---- what they say
@@ -194,7 +189,7 @@ module _ (F : Limits) (L : Layout) (problem plan : List ℕ) (T : Task) (given :
     told w (short st r l) m e = let z : ◌≡◌ {A = ℕ} 0 1 = cc in absurd (omega arith)
     told w (found st r l) m e = record { state = st; is_reached = r; fits = l; set = cc; holds = refl }
 
-  pub relevances : T.facts ≤ T.width → Keeps T L → Relevance F problem plan T L (call F L problem plan)
+  pub relevances : T.facts ≤ T.width → Keeps T L → Relevance T L
   relevances n≤w keeps =
       record {
         no_state = λ s work h. is-no-state n≤w s work _ (traced s work) h;
@@ -209,7 +204,7 @@ module _ (F : Limits) (L : Layout) (problem plan : List ℕ) (T : Task) (given :
         reached_too =
             λ s work m e t st h.
             let o = told n≤w s work _ (traced s work) m e in
-            run-answers F problem plan T given t st ∙
+            run-answers T t st ∙
             ap answered ((rests-on T n≤w).reached_too s o.is_reached t (subst (λ (x : ℕ). AgreeOn T x s t) o.set h));
         work_holds =
             λ s work m e.
@@ -217,19 +212,10 @@ module _ (F : Limits) (L : Layout) (problem plan : List ℕ) (T : Task) (given :
             (ap (take (L.need T)) o.holds ∙ take_at (L.laid_out T s) _ (L.need T) (keeps s), ap (drop (L.need T)) o.holds ∙ drop_at (L.laid_out T s) _ (L.need T) (keeps s));
       }
 
-module _ (F : Limits) (problem plan : List ℕ) (T : Task) (given : read_task F problem plan ≡ answered T) (s : ℕ) (work : List ℕ) where
-  pub facts-traced : Traced F every_row problem plan T given s work (relevant_facts F problem plan s work)
-  unfolding relevant_facts
-  facts-traced = traced F every_row problem plan T given s work
-
-  pub sparse-traced : Traced F fewer_rows problem plan T given s work (relevant_facts_sparse F problem plan s work)
-  unfolding relevant_facts_sparse
-  sparse-traced = traced F fewer_rows problem plan T given s work
-
 pub work-unchanged :
-    (F : Limits) (L : Layout) (problem plan : List ℕ) (s : ℕ) (work : List ℕ) (n q : ℕ) → (call F L problem plan s work).answer ≡ refused n q →
-    (call F L problem plan s work).buffer ≡ work
-work-unchanged F L problem plan s work n q e = kept (reached_task F L problem plan s (length work)) e
+    (L : Layout) (R : Answer Task) (s : ℕ) (work : List ℕ) (n q : ℕ) → (relevant_read L R s work).answer ≡ refused n q → (relevant_read L R s work).buffer ≡ work
+unfolding relevant_read
+work-unchanged L R s work n q e = kept (reached_read L R s (length work)) e
   where
     kept : (x : Answer Task) → (traced_back L s work x).answer ≡ refused n q → (traced_back L s work x).buffer ≡ work
     kept (refused m p) e = refl
@@ -237,10 +223,9 @@ work-unchanged F L problem plan s work n q e = kept (reached_task F L problem pl
 
 -- what the run refuses is refused alike, whatever the work area
 pub run-first :
-    (F : Limits) (L : Layout) (problem plan : List ℕ) (s : ℕ) (work : List ℕ) (n q : ℕ) → run_state F problem plan s ≡ refused n q →
-    (call F L problem plan s work).answer ≡ refused n q
-unfolding reached_task run_state Answer.◌>>=◌
-run-first F L problem plan s work n q e = by-task (read_task F problem plan) e
+    (L : Layout) (R : Answer Task) (s : ℕ) (work : List ℕ) (n q : ℕ) → run_read R s ≡ refused n q → (relevant_read L R s work).answer ≡ refused n q
+unfolding relevant_read reached_read run_read Answer.◌>>=◌
+run-first L R s work n q e = by-task R e
   where
     rest : Task → Outcome → Answer Task
     rest T o = when_reached o (cond (ltb (length work) (L.need T)) (refused 42 0) (answered T))
@@ -262,7 +247,7 @@ run-first F L problem plan s work n q e = by-task (read_task F problem plan) e
 
 -- ---- the same set from fewer rows
 
-module _ (F : Limits) (L M : Layout) (problem plan : List ℕ) (s : ℕ) (work few : List ℕ) where
+module _ (L M : Layout) (s : ℕ) (work few : List ℕ) where
   abbrev after : Layout → List ℕ → Task → Outcome → Answer Task
   after K w T o = when_reached o (cond (ltb (length w) (K.need T)) (refused 42 0) (answered T))
 
@@ -278,15 +263,7 @@ module _ (F : Limits) (L M : Layout) (problem plan : List ℕ) (s : ℕ) (work f
   of-run T l m (answered missed) = refl
   of-run T l m (answered (blocked p)) = refl
 
-  of-task :
-      Fits F problem plan L work → Fits F problem plan M few → (x : Answer Task) → read_task F problem plan ≡ x →
-      tells M few (Answer.◌>>=◌ x (λ T. Answer.◌>>=◌ (state_answer T s) (after M few T))) ≡
-      tells L work (Answer.◌>>=◌ x (λ T. Answer.◌>>=◌ (state_answer T s) (after L work T)))
-  unfolding Answer.◌>>=◌
-  of-task fits fits' (refused n q) e = refl
-  of-task fits fits' (answered T) e = of-run T (fits T e) (fits' T e) (state_answer T s)
-
-  pub answers-alike :
-      Fits F problem plan L work → Fits F problem plan M few → (call F M problem plan s few).answer ≡ (call F L problem plan s work).answer
-  unfolding reached_task
-  answers-alike fits fits' = of-task fits fits' (read_task F problem plan) refl
+  pub answers-alike : (R : Answer Task) → Fits R L work → Fits R M few → (relevant_read M R s few).answer ≡ (relevant_read L R s work).answer
+  unfolding relevant_read reached_read Answer.◌>>=◌
+  answers-alike (refused n q) fits fits' = refl
+  answers-alike (answered T) fits fits' = of-run T (fits T refl) (fits' T refl) (state_answer T s)

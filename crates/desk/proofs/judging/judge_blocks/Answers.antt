@@ -1,7 +1,6 @@
 use Rattle.std.proofs.Common.{◌∙◌, ap, sym, rules, refl, arith}
 use Rattle.model.specs.Answer.{answered}
-use Rattle.model.proofs.Laws.Tasks.{judge-is}
-use Rattle.judge.proofs.Verdicts.{judge-refused}
+use Rattle.judge.proofs.Verdicts.{judge-refused, judge-found}
 use Rattle.blocks.proofs.Tasks.{read_task-refused, read_task-from}
 use Rattle.desk.proofs.Paging.{refused-text, judged-text}
 use Rattle.desk.proofs.judging.judge_blocks.Goals as goal
@@ -13,7 +12,7 @@ returns-in-Err c =
     record {
       room = rw (r.limits, c.of-limits.ensures) c.requires;
       text = rw r.answer (refused-text c.refused.result.facts.limits c.refused.result.facts.count c.args.problem.now c.args.plan.now c.args.list.now _ read);
-      answer = rw r.answer (judge-refused c.args.problem.now c.args.plan.now _ read _);
+      answer = rw r.answer (judge-refused _ _ read _);
     }
 
 pub returns-in-Err-plan : goal.returns-in-Err-plan
@@ -23,7 +22,7 @@ returns-in-Err-plan c =
     record {
       room = rw (r.limits, c.of-limits.ensures) c.requires;
       text = rw r.answer (refused-text c.refused-in-Err-plan.result.facts.limits c.refused-in-Err-plan.result.facts.count c.args.problem.now c.args.plan.now c.args.list.now _ read);
-      answer = rw r.answer (judge-refused c.args.problem.now c.args.plan.now _ read _);
+      answer = rw r.answer (judge-refused _ _ read _);
     }
 
 pub returns : goal.returns
@@ -35,5 +34,5 @@ returns c =
       text =
           judged-text c.args.problem.now c.args.plan.now _ (omega (arith, c.requires)) c.in-Ok-plan.task _ c.in-Ok-plan.ensures.problem c.in-Ok.ensures.limits read _ _ _ c.judge_task-verdict.ensures refl
           (search rules);
-      answer = ap answered c.judge_task-verdict.ensures.answer ∙ sym (judge-is _ c.args.problem.now c.args.plan.now _ read _);
+      answer = ap answered c.judge_task-verdict.ensures.answer ∙ judge-found _ _ read _;
     }

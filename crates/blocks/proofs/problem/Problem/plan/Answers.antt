@@ -1,7 +1,7 @@
 use Rattle.std.proofs.Common.{arith}
 use Rattle.model.proofs.Laws.Tabulate.{length-tabulate}
 use Rattle.formula.proofs.{Decoding.part, Readers.next-refused, Readers.returned}
-use Rattle.blocks.proofs.{Tasks.plan_read, Tasks.each_below, Tasks.plan-refused, Tasks.plan-task}
+use Rattle.blocks.proofs.{Tasks.plan_read, Tasks.each_below, Tasks.plan-refused, Tasks.plan-task, Tasks.plan-unread, Tasks.plan-steps}
 use Rattle.blocks.proofs.problem.Problem.plan.Goals as goal
 
 pub returns-in_err-check_plan-clause-read : goal.returns-in_err-check_plan-clause-read
@@ -21,3 +21,12 @@ pub returns-clause-read : goal.returns-clause-read
 returns-clause-read c =
     let (steps, is, size, body, below) = plan_read _ _ c.type_inv.plan c.in_ok-check_plan.ensures in
     rw (c.of.ensures.is, part, body) (plan-task _ _ _ (length-tabulate _ _) is)
+
+pub returns-in_err-check_plan-clause-steps : goal.returns-in_err-check_plan-clause-steps
+returns-in_err-check_plan-clause-steps c =
+    rw (returned c.from_residual.result c.from_residual.ensures.1) (plan-unread _ (length-tabulate _ _) _ (next-refused _ _ _ c.in_err-check_plan.ensures))
+
+pub returns-clause-steps : goal.returns-clause-steps
+returns-clause-steps c =
+    let (steps, is, size, body, below) = plan_read _ _ c.type_inv.plan c.in_ok-check_plan.ensures in
+    rw (c.of.ensures.steps, part, body) (plan-steps _ (length-tabulate _ _) is)

@@ -28,6 +28,6 @@ try_obeyed-invariant_of-next t c =
     let b = c.args.self.now in
     record {
       begun =
-          begun-next b.root.now b.plan b.alive b.cases.now b.begun c.args.step c.requires.action (λ (z : b.alive ≡ 0). omega arith) _ c.action-action.ensures.is _ c.obey.ensures.facts _ c.obey.ensures.obeys
+          begun-next b.root.now b.plan b.alive b.cases.now b.begun c.args.step c.requires.action (λ (z : b.alive ≡ 0). omega arith) _ c.get-action.ensures.is _ c.obey.ensures.facts _ c.obey.ensures.obeys
           _ c.extended.ensures _ c.unwrap_or-going.ensures;
     }

@@ -1,9 +1,10 @@
-use Rattle.std.proofs.Common.{arith}
+use Rattle.std.proofs.Common.{arith, refl}
 use Rattle.model.specs.Read.{answer_of}
 use Rattle.formula.proofs.Readers.{next-refused, returned}
 use Rattle.fields.proofs.Encoding.{action-cut}
-use Rattle.blocks.proofs.{Promise.of-slice, Actions.sofar-refused, Actions.sofar-next, Actions.sofar-left, Actions.sofar-all}
-use Rattle.blocks.proofs.problem.find_actions.Goals as goal
+use Rattle.blocks.proofs.Promise.{of-slice}
+use Rattle.blocks.proofs.Standing.{sofar-refused, sofar-next, sofar-left, sofar-all, closed-actions, closed-begin, closed-end}
+use Rattle.blocks.proofs.actions.Actions.read.Goals as goal
 
 pub returns-in_err-next-clause-read : goal.returns-in_err-next-clause-read
 unfolding answer_of
@@ -23,4 +24,16 @@ returns-then-next-block-clause-read c = let e = sofar-left c.loop-i.invariant (o
 
 pub returns-clause-read : goal.returns-clause-read
 unfolding answer_of
-returns-clause-read c = let e = sofar-all c.loop-i.invariant (omega arith) c.if-next-block.false in rw e
+returns-clause-read c =
+    let e = sofar-all c.loop-i.invariant (omega arith) c.if-next-block.false in
+    let k = closed-actions c.loop-i.invariant (omega arith) c.requires.count in
+    rw (e, k) refl
+
+pub invariant_of-result : goal.invariant_of-result
+invariant_of-result c =
+    record {
+      few = c.requires.count;
+      few_facts = omega (arith, c.requires.facts, c.requires.limits.facts);
+      stand = closed-begin c.loop-i.invariant (omega arith) c.requires.count;
+      end = closed-end c.loop-i.invariant (omega arith) c.requires.count;
+    }
