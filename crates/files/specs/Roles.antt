@@ -15,5 +15,5 @@ abbrev pub most_bytes : Role → ℕ
 most_bytes Problem = 32768
 most_bytes Plan = 261
 most_bytes CaseList = 65535
-most_bytes Text = 4194304
+most_bytes Text = 9437184
 most_bytes Names = 262144

@@ -8,7 +8,7 @@ pub mod same;
 pub mod write;
 
 pub use kinds::ErrorWords;
-pub use read::{read_file, read_path};
+pub use read::{first_bytes, read_at_most, read_file, read_path};
 pub use role::Role;
 pub use same::lead_to_one_file;
 pub use write::{save, write_bytes};

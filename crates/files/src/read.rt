@@ -1,7 +1,8 @@
 // Reading a file whole, up to the room that there is for it.
-ghost use Rattle.std.specs.Prelude.{◌≡◌, ◌≤◌, ◌<◌, length, take, IfOk};
+ghost use Rattle.std.specs.Prelude.{◌≡◌, ◌≤◌, ◌<◌, length, take, IfOk, IfSome};
 ghost use Rattle.std.specs.Io.KnownBytes.{Consumes, IsAtEnd};
 
+use std::alloc::Global;
 use std::fs::File;
 use std::io;
 use std::io::Read;
@@ -24,10 +25,25 @@ pub fn read_file<R: Read>(file: &mut R, buf: &mut [u8]) -> io::Result<usize>
     Ok(done)
 }
 
-// The same of the file of this path.
+// The first bytes of what is read, so many at most: the room for them grows with what comes.
+pub fn read_at_most<R: Read>(alloc: Global, file: &mut R, most: usize) -> io::Result<Vec<u8>>
+    ensures { IfOk result (λ bytes. IfSome (R.remaining file.old) (λ there. bytes.items ≡ take most there)) }
+{
+    let mut bytes = Vec::new(alloc);
+    file.take(most as u64).read_to_end(&mut bytes)?;
+    Ok(bytes)
+}
+
+// Reads the file of this path into buf.
 pub fn read_path<R: Files>(rt: &R, path: &str, buf: &mut [u8]) -> io::Result<usize>
     ensures { IfOk result (λ n. n ≤ length buf.new) }
 {
     let mut file = File::open(rt, path)?;
     read_file(&mut file, buf)
+}
+
+// The first bytes of the file of this path.
+pub fn first_bytes<R: Files + AllocGlobal>(rt: &R, path: &str, most: usize) -> io::Result<Vec<u8>> {
+    let mut file = File::open(rt, path)?;
+    read_at_most(rt.alloc(), &mut file, most)
 }

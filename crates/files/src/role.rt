@@ -36,7 +36,8 @@ impl Role {
             Role::Problem => Problem::MAX_BYTES,
             Role::Plan => Plan::MAX_BYTES,
             Role::List => CaseList::MAX_BYTES,
-            Role::Text => 4194304,
+            // No text that is shown has more, whatever the names (`reply::theorem`).
+            Role::Text => 9437184,
             // Each name is compared with those before it, so a list of names may be less long.
             Role::Names => 262144,
         }

@@ -16,12 +16,12 @@ no-word (v ∷ vs) w h (suc i) l = no-word vs w (or_parts (bytes_eq v w) (has_wo
 pub name-no_keyword : (w : List ℕ) → is_name w ≡ true → (i : ℕ) → i < length keywords → bytes_eq w (get_or keywords i []) ≡ false
 name-no_keyword [] h i l = cc
 name-no_keyword (b ∷ w) h i l =
-    let (m, r) = and_parts (not (eqb b denial_mark)) (is_one_word (b ∷ w) && not (has_word keywords (b ∷ w))) h in
-    let (o, k) = and_parts (is_one_word (b ∷ w)) (not (has_word keywords (b ∷ w))) r in
+    let r = (and_parts _ _ (and_parts _ _ h).1).1 in
+    let (_, k) = and_parts (is_one_word (b ∷ w)) (not (has_word keywords (b ∷ w))) r in
     words-turned (get_or keywords i []) (b ∷ w) (no-word keywords (b ∷ w) (not-true (has_word keywords (b ∷ w)) k) i l)
 
 pub name-no_denial : (b : ℕ) (w : List ℕ) → is_name (b ∷ w) ≡ true → eqb b denial_mark ≡ false
-name-no_denial b w h = not-true _ (and_parts (not (eqb b denial_mark)) (is_one_word (b ∷ w) && not (has_word keywords (b ∷ w))) h).0
+name-no_denial b w h = not-true _ (and_parts _ _ h).0
 
 -- whether each is a word
 abbrev are_words : List (List ℕ) → Bool

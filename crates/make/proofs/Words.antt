@@ -70,7 +70,7 @@ name-some (b ∷ w) h = omega arith
 
 pub name-one : (w : List ℕ) → is_name w ≡ true → is_one_word w ≡ true
 name-one [] h = cc
-name-one (b ∷ w) h = (and_parts _ _ (and_parts _ _ h).1).0
+name-one (b ∷ w) h = (and_parts _ _ (and_parts _ _ (and_parts _ _ h).1).1).0
 
 module _ (w t : List ℕ) (name : is_name w ≡ true) (ends : Ends t) where
   pub word-name : word (w ++ t) ≡ w

@@ -9,7 +9,7 @@ abbrev pub complaint_words : Complaint → List ℕ
 complaint_words NoVersion = codes "a problem begins with version 1 or version 2"
 complaint_words NoFact = codes "no fact is declared"
 complaint_words TooManyFacts = codes "there are more facts than a problem of this version has"
-complaint_words NoName = codes "this is no name"
+complaint_words NoName = codes "this is no name, or one of more than 255 bytes"
 complaint_words NameTaken = codes "this name is taken"
 complaint_words NoStart = codes "the start is not here"
 complaint_words NoGoal = codes "the goal is not here"

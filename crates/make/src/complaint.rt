@@ -45,7 +45,7 @@ impl Complaint {
             Complaint::NoVersion => "a problem begins with version 1 or version 2",
             Complaint::NoFact => "no fact is declared",
             Complaint::TooManyFacts => "there are more facts than a problem of this version has",
-            Complaint::NoName => "this is no name",
+            Complaint::NoName => "this is no name, or one of more than 255 bytes",
             Complaint::NameTaken => "this name is taken",
             Complaint::NoStart => "the start is not here",
             Complaint::NoGoal => "the goal is not here",

@@ -1,5 +1,5 @@
 -- The names of facts and actions.
-use Rattle.std.specs.Prelude.{◌≡◌, Bool, true, false, not, ◌&&◌, List, [], ◌∷◌, ℕ, ◌<◌, get_or, eqb, codes, decimal}
+use Rattle.std.specs.Prelude.{◌≡◌, Bool, true, false, not, ◌&&◌, List, [], ◌∷◌, ℕ, ◌<◌, length, get_or, eqb, leb, codes, decimal}
 use Rattle.std.specs.List.{list_any, list_all}
 use Rattle.std.specs.Str.{bytes_eq}
 use Rattle.words.specs.Words.{ends_word}
@@ -35,10 +35,17 @@ is_one_word w = list_all (λ b. not (ends_word b)) w
 abbrev pub denial_mark : ℕ
 denial_mark = 33
 
--- names of facts and actions: a word that is no keyword, and does not begin as a denial does
+-- so many bytes a name has at most
+abbrev pub max_name_bytes : ℕ
+max_name_bytes = 255
+
+abbrev pub is_short : List ℕ → Bool
+is_short w = leb (length w) max_name_bytes
+
+-- names of facts and actions: a word that is no keyword, is not too long, and does not begin as a denial does
 abbrev pub is_name : List ℕ → Bool
 is_name [] = false
-is_name (b ∷ t) = not (eqb b denial_mark) && (is_one_word (b ∷ t) && not (has_word keywords (b ∷ t)))
+is_name (b ∷ t) = not (eqb b denial_mark) && (is_short (b ∷ t) && (is_one_word (b ∷ t) && not (has_word keywords (b ∷ t))))
 
 -- the first n things have names, no two of them the same
 pub record Named (n : ℕ) (names : List (List ℕ)) : Type 0 where

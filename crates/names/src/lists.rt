@@ -1,6 +1,6 @@
 // The names that a text gives.
 ghost use Rattle.std.specs.Prelude.{◌≡◌, true, false, ◌++◌, ◌∷◌, [], OnOk, IfOk, IsErrOf};
-ghost use Rattle.names.specs.Names.{is_one_word, is_name};
+ghost use Rattle.names.specs.Names.{is_short, is_one_word, is_name};
 ghost use Rattle.names.specs.Lists.{texts, words_after, names_in, are_names, all_names, is_new_name, fit};
 ghost use Rattle.names.specs.declared.lists.NamesError.TheVariants.{BadName, OutOfMemory};
 
@@ -16,6 +16,9 @@ const KEYWORDS: [&[u8]; 12] = [
     b"plan", b"all", b"any",
 ];
 
+// How many bytes a name has at most: so what is printed with names keeps to a limit too.
+pub const MAX_NAME_BYTES: usize = 255;
+
 // Whether no byte of a word ends it.
 fn is_one_word(word: &[u8]) -> bool
     ensures { result ≡ is_one_word word.now }
@@ -23,13 +26,20 @@ fn is_one_word(word: &[u8]) -> bool
     word.iter().all(|byte| !ends_word(*byte))
 }
 
-// Whether a word may be the name of a fact or of an action: a denial's mark does not begin it.
+// Whether a word has no more bytes than a name has.
+fn is_short(word: &[u8]) -> bool
+    ensures { result ≡ is_short word.now }
+{
+    word.len() <= MAX_NAME_BYTES
+}
+
+// Whether a word may be the name of a fact or of an action: it is not too long, and a denial's mark does not begin it.
 pub fn is_name(word: &[u8]) -> bool
     ensures { result ≡ is_name word.now }
 {
     match word {
         [] | [b'!', ..] => false,
-        _ => is_one_word(word) && !KEYWORDS.contains(&word),
+        _ => is_short(word) && is_one_word(word) && !KEYWORDS.contains(&word),
     }
 }
 

@@ -20,7 +20,7 @@ abbrev pub unanswered_words : Unanswered → List ℕ
 unanswered_words (Marks facts) = codes "state: " ++ (decimal facts ++ codes " marks are wanted, a 0 or a 1 for each fact")
 unanswered_words (Text c line) = codes "text: line " ++ (decimal line ++ (codes ": " ++ complaint_words c))
 unanswered_words NoPlan = codes "text: it has no plan"
-unanswered_words BadName = codes "names: a name is missing, is given twice, or is no name"
+unanswered_words BadName = codes "names: a name is missing, is given twice, has more than 255 bytes, or is no name"
 unanswered_words OtherNames = codes "names: there are not as many as the problem has facts and actions"
 unanswered_words OutOfMemory = codes "out of memory"
 

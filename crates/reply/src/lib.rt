@@ -10,6 +10,7 @@ pub mod replies;
 pub mod state_lines;
 pub mod telling;
 pub mod texts;
+pub mod theorem;
 pub mod unanswered;
 
 pub use failure::Failure;

@@ -53,7 +53,7 @@ impl fmt::Display for Unanswered {
             Unanswered::Text(complaint, line) => write!(f, "text: line {line}: {complaint}"),
             Unanswered::NoPlan => f.write_str("text: it has no plan"),
             Unanswered::BadName => f.write_str(
-                "names: a name is missing, is given twice, or is no name",
+                "names: a name is missing, is given twice, has more than 255 bytes, or is no name",
             ),
             Unanswered::OtherNames => f.write_str(
                 "names: there are not as many as the problem has facts and actions",

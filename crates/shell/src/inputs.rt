@@ -1,7 +1,7 @@
 // The files that a command reads, whole and once.
 use ask::Blocks;
 use commands::{FilePath, Request};
-use files::{Role, read_path};
+use files::{Role, first_bytes};
 use reply::Failure;
 use std::rt::Files;
 
@@ -18,12 +18,8 @@ pub struct Inputs(Vec<Input>);
 // Reads a file up to one byte past what such a file has at most: a longer one is cut there, and is still refused as too long.
 fn read_whole<R: Files + AllocGlobal>(rt: &R, file: FilePath) -> Result<Input, Failure> {
     let FilePath { role, path } = file;
-    let mut bytes = vec![in rt.alloc(); 0u8; role.most_bytes() + 1]?;
-    match read_path(rt, path, &mut bytes) {
-        Ok(n) => {
-            bytes.truncate(n);
-            Ok(Input { role, bytes })
-        }
+    match first_bytes(rt, path, role.most_bytes() + 1) {
+        Ok(bytes) => Ok(Input { role, bytes }),
         Err(error) => Err(Failure::File(role, error.kind())),
     }
 }

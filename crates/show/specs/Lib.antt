@@ -1,2 +1,3 @@
 -- The text of a problem and of a plan.
 pub mod ProblemText
+pub mod TextLength

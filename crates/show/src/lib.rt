@@ -6,6 +6,7 @@ pub mod effects;
 pub mod formulas;
 pub mod plan;
 pub mod problem;
+pub mod theorem;
 
 pub use plan::push_plan;
 pub use problem::push_problem;

@@ -41,7 +41,7 @@ fn name(rng: &mut Rng, count: usize) -> String {
         0 => rng.below(count + 2).to_string(),
         1 => format!("at-c{}", rng.below(2 * count)),
         2 => format!("{}{}", rng.pick(&KEYWORDS), rng.below(2 * count)),
-        3 if rng.chance(1, 8) => "long-".repeat(rng.between(1, 60)) + &rng.below(count).to_string(),
+        3 if rng.chance(1, 8) => "long-".repeat(rng.between(1, 50)) + &rng.below(count).to_string(),
         _ => letters(rng),
     };
     let is_name = !name.starts_with('!') && !KEYWORDS.contains(&&name[..]);

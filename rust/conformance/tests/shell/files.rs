@@ -12,7 +12,7 @@ use conformance::version::{Version, MOST_PLAN_BYTES, MOST_PROBLEM_BYTES};
 
 use crate::desk::{Desk, PLAINLY};
 
-const MOST_TEXT_BYTES: usize = 1 << 22;
+const MOST_TEXT_BYTES: usize = 9 << 20;
 const MOST_NAMES_BYTES: usize = 1 << 18;
 
 /// Each command with a word in place of one of its files, and what that file is.

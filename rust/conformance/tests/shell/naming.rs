@@ -4,7 +4,7 @@ use conformance::encode;
 use conformance::families::idle;
 use conformance::model::{Action, Formula};
 use conformance::shell::status::{MALFORMED, YES};
-use conformance::shell::{Manner, Names, GRANT};
+use conformance::shell::{Manner, Names, Said, GRANT};
 use conformance::version::{Version, VERSION_1};
 
 use crate::desk::{said, Desk, PLAINLY};
@@ -15,6 +15,7 @@ of_each_version! {
     names_in_any_order_and_layout,
     what_is_shown_gives_its_own_names,
     names_that_do_not_fit,
+    names_of_255_and_256_bytes,
     names_for_many_facts,
 }
 
@@ -138,6 +139,53 @@ fn names_that_do_not_fit(version: &Version) {
         ] {
             let line = format!("{line} --names names");
             desk.fails(&line, MALFORMED, "names: ");
+        }
+    }
+    assert!(!desk.files().contains("written"));
+}
+
+/// The trial's names, but for those of a fact and of an action.
+fn with_names(fact: &str, action: &str) -> Names {
+    let mut names = names_of_the_trial();
+    names.facts[1] = fact.into();
+    names.actions[1] = action.into();
+    names
+}
+
+/// Bytes are counted, and not letters.
+fn names_of_255_and_256_bytes(version: &Version) {
+    let desk = Desk::of_trial("longest-names", version);
+    let (problem, plan) = (desk.get("problem"), desk.get("plan"));
+    // Shows the problem with these names, by hand, and puts the names and the text into files.
+    let put = |names: &Names| {
+        let manner = Manner { names, json: false };
+        let shown = manner.show(&problem, Some(&plan));
+        desk.put("names", names.file().as_bytes());
+        desk.put("text", shown.output.as_bytes());
+        shown
+    };
+    for name in ["x".repeat(255), "é".repeat(127) + "x"] {
+        let shown = put(&with_names(&name, &name));
+        desk.expect("show problem plan --names names", &shown);
+        desk.expect("show problem plan --names text", &shown);
+        let said = desk.says("make text -o made --plan steps");
+        assert_eq!((said.status, &said.error[..]), (YES, ""));
+        assert!(desk.get("made") == problem && desk.get("steps") == plan);
+    }
+    let words = "names: a name is missing, is given twice, has more than 255 bytes, or is no name";
+    for name in ["x".repeat(256), "é".repeat(128)] {
+        for (names, line) in [
+            (with_names(&name, "done"), 3),
+            (with_names("right", &name), 9),
+        ] {
+            put(&names);
+            let in_a_list = Said::failing(MALFORMED, words);
+            desk.expect("show problem plan --names names", &in_a_list);
+            let in_a_text = Said::failing(
+                MALFORMED,
+                &format!("text: line {line}: this is no name, or one of more than 255 bytes"),
+            );
+            desk.expect("make text -o written", &in_a_text);
         }
     }
     assert!(!desk.files().contains("written"));

@@ -2,17 +2,18 @@
 
 use conformance::encode;
 use conformance::gen::{arbitrary_text, damaged_text, names, right_task, task, Rng};
-use conformance::model::Problem;
+use conformance::model::{Action, Effect, Formula, Problem};
 use conformance::oracle::{read_problem, Task};
 use conformance::shell::status::{MALFORMED, YES};
 use conformance::shell::{json, Manner, Names, Said};
 use conformance::trial;
-use conformance::version::{Version, VERSIONS, VERSION_1};
+use conformance::version::{Version, MOST_PROBLEM_BYTES, VERSIONS, VERSION_1};
 
 use crate::desk::{one_line, Desk, PLAINLY};
 
 of_each_version! {
     what_is_shown_is_made_again,
+    the_longest_text_is_made_again,
     what_is_made_of_a_damaged_text_is_read,
     what_is_made_of_any_bytes_is_read,
     a_text_as_a_person_writes_it,
@@ -74,6 +75,71 @@ fn what_is_shown_is_made_again(version: &Version) {
         desk.put("text", shown.output.as_bytes());
         is_made(&desk, "make text -o made", &[("made", &problem)]);
     }
+}
+
+/// Groups of so many literals as there may be, in a formula of so many bytes.
+fn of_bytes(bytes: usize, literal: &Formula) -> Formula {
+    let groups = (bytes - 2).div_ceil(257);
+    let mut literals = vec![literal.clone(); bytes - 2 - 2 * groups];
+    let mut members = Vec::new();
+    while !literals.is_empty() {
+        let rest = literals.split_off(literals.len().min(255));
+        members.push(Formula::any(literals));
+        literals = rest;
+    }
+    Formula::all(members)
+}
+
+/// A problem whose block is full, with a literal for nearly every byte of it.
+fn full_problem(version: &Version) -> Problem {
+    let facts = version.most_facts;
+    let last = Formula::not(facts - 1);
+    let full = of_bytes(1024, &last);
+    let mut effects: Vec<Effect> = (0..28).map(|f| Effect::sets(f, full.clone())).collect();
+    effects.push(Effect::clears(facts - 1, of_bytes(923, &last)));
+    Problem {
+        version: *version,
+        facts,
+        initial: full.clone(),
+        goal: full.clone(),
+        actions: vec![Action {
+            precondition: full,
+            effects,
+        }],
+    }
+}
+
+/// The text is some 150,000 bytes shorter than any text can be at most, and is read whole.
+fn the_longest_text_is_made_again(version: &Version) {
+    let desk = Desk::new(&format!("longest-{}", version.byte));
+    let problem = encode::problem(&full_problem(version));
+    let plan = encode::plan(&[0; 256]);
+    assert_eq!(problem.len(), MOST_PROBLEM_BYTES);
+    desk.put("problem", &problem);
+    desk.put("plan", &plan);
+    let of_255_bytes = |kind: &str, count: u8| -> Vec<String> {
+        (0..count).map(|i| format!("{kind}{i:x<250}")).collect()
+    };
+    let names = Names {
+        facts: of_255_bytes("fact-", version.most_facts),
+        actions: of_255_bytes("step-", 1),
+    };
+    desk.put("names", names.file().as_bytes());
+    let shown = desk.says("show problem plan --names names");
+    let expected = Manner {
+        names: &names,
+        json: false,
+    }
+    .show(&problem, Some(&plan));
+    assert!(shown == expected, "in {}", desk.folder.display());
+    let length = shown.output.len();
+    assert!((8_350_000..=8_501_327).contains(&length), "{length}");
+    desk.put("text", shown.output.as_bytes());
+    is_made(
+        &desk,
+        "make text -o made --plan steps",
+        &[("made", &problem), ("steps", &plan)],
+    );
 }
 
 /// What is made, where anything is, is a problem of one of both versions, and a plan for
@@ -188,7 +254,7 @@ fn after_facts(version: &Version, rest: &str) -> String {
 
 fn wrong_beginnings(version: &Version) -> Vec<Wrong> {
     let no_version = "a problem begins with version 1 or version 2";
-    let no_name = "this is no name";
+    let no_name = "this is no name, or one of more than 255 bytes";
     let first = format!("version {}\n", version.byte);
     let most = version.most_facts;
     let facts: String = (0..=most).map(|f| format!("fact {f}\n")).collect();
@@ -244,7 +310,11 @@ fn wrong_actions(version: &Version) -> Vec<Wrong> {
         ),
         (p(&actions), 70, "there are more than 64 actions"),
         (p("action c\naction c"), 7, "this name is taken"),
-        (p("action needs"), 6, "this is no name"),
+        (
+            p("action needs"),
+            6,
+            "this is no name, or one of more than 255 bytes",
+        ),
     ]
 }
 
