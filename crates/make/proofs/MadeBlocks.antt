@@ -1,5 +1,6 @@
 -- What is said of texts holds of the blocks that are made of them. Assumes nothing.
-use Rattle.std.proofs.Common.{◌≡◌, arith, sym, ap, ◌∙◌, subst, List, ℕ, None, option_map, Result, Ok, Err}
+use Rattle.std.proofs.Common.{◌≡◌, refl, arith, sym, ap, ◌∙◌, subst, List, ℕ, Vec, Option, None, Some, option_map, Result, Ok, Err}
+use Rattle.std.specs.declared.alloc.Global.{Global}
 use Rattle.model.specs.ProblemBytes.{encode_problem, encode_plan}
 use Rattle.make.specs.Parsed.{bad, got}
 use Rattle.make.specs.SourceText.{Source, source}
@@ -38,6 +39,11 @@ shown-plan-is-made N block plan p steps made bytes plan-bytes e e' names m =
     let (_, same) = shown-is-said N block p bytes e names in
     rw (← same, ← same-plan) (made-into _ _ _ said made m)
 
+-- a block is made only of a plan
+unmade : (blocks : Option (Vec ℕ Global)) → option_map (λ p. p.items) blocks ≡ None → blocks ≡ None
+unmade None e = refl
+unmade (Some p) e = absurd (grind arith)
+
 pub made-is-read : MadeIsRead
 made-is-read t b (r, left, e, k) =
     let (limits, problem, plan) = said-is-read t left r e in
@@ -45,6 +51,8 @@ made-is-read t b (r, left, e, k) =
       says = r;
       left = left;
       said = e;
+      version = rw k.problem limits;
       problem = rw (k.problem, limits) problem;
       plan = λ steps i. (encode_plan steps, k.plan ∙ ap (option_map encode_plan) i, plan steps i);
+      no_plan = λ i. unmade b.plan (k.plan ∙ ap (option_map encode_plan) i);
     }

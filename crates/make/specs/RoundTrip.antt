@@ -38,15 +38,17 @@ ShownPlanIsMade =
 abbrev pub NumbersAreNames : Type 0
 NumbersAreNames = (facts actions : ℕ) → facts ≤ max_facts → actions ≤ max_actions → NamesOk numbers facts actions
 
--- the blocks are read as what a text says: the problem, and the plan, where it has one
+-- the blocks are read as what a text says: the version, the problem, and the plan, where it has one; where it has none, there is none
 pub record ReadAgain (t : List ℕ) (b : Blocks) : Type 0 where
   pub says : Source
   pub left : List ℕ
   pub said : source t ≡ got says left
+  pub version : limits_of b.problem.items ≡ says.limits
   pub problem : problem_of (limits_of b.problem.items) b.problem.items ≡ answered says.problem
   pub plan :
       (steps : List ℕ) → says.plan ≡ Some steps →
       (block : List ℕ) × (option_map (λ p. p.items) b.plan ≡ Some block) × (plan_of block (length says.problem.actions) ≡ answered steps)
+  pub no_plan : says.plan ≡ None → b.plan ≡ None
 
 -- made problems are read: whatever text was made into blocks
 abbrev pub MadeIsRead : Type 0
