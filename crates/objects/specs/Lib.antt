@@ -1,4 +1,5 @@
--- Answers as JSON: the objects, and their text.
-pub mod Json
+-- Answers as JSON: the members of their objects, and their text.
+pub mod Members
 pub mod Objects
+pub mod Json
 pub mod Text

@@ -1,87 +1,41 @@
--- The objects that are written as JSON, as values of the kit's serde_json.
-use Rattle.std.specs.Prelude.{List, map, ℕ, codes, Result, Ok, Err}
-use Rattle.serde_json.specs.Data.{Data, Members, number, string, array, object, unsigned, member, no_members}
+-- The object that members make, as a value of the kit's serde_json, and what the kit writes of it.
+use Rattle.std.specs.Prelude.{List, [], ◌∷◌, map, ℕ}
+use Rattle.serde_json.specs.Data as value
+use Rattle.serde_json.specs.Data.{Data, Members}
 use Rattle.serde_json.specs.View.{items_of}
-use Rattle.model.specs.declared.Refusal.{Refusal}
-use Rattle.model.specs.Faults.{fault_number}
-use Rattle.model.specs.Answers.{outcome, verdict, search_end}
-use Rattle.model.specs.Run.{Part, Outcome, reached, missed, blocked}
-use Rattle.model.specs.Walk.{Verdict, right, wrong, undecided}
-use Rattle.model.specs.Search.{Search, first_right, none_right, undecided_at}
-use Rattle.answers.specs.declared.answer.Answer.{Answer}
-use Rattle.answers.specs.declared.answer.Answer.TheVariants.{Judged, Written, Followed, Ran, Rests, Searched}
-use Rattle.objects.specs.Json.{part_kind, part_number}
+use Rattle.serde_json.specs.Written.{compact_text}
+use Rattle.objects.specs.Members.{Content, number, word, steps, Member}
+use Rattle.objects.specs.declared.members.Member as code
+use Rattle.objects.specs.declared.members.Member.TheVariants.{Number, Word, Steps}
 
--- an object that answers so, and its other members
-abbrev pub answering : List ℕ → Members → Data
-answering answer others = object (member (codes "answer") (string answer) others)
-
--- a member that is a number, before the others
-abbrev pub with_number : List ℕ → ℕ → Members → Members
-with_number key n others = member key (number (unsigned n)) others
-
-abbrev pub with_text : List ℕ → List ℕ → Members → Members
-with_text key text others = member key (string text) others
-
-abbrev pub visiting : ℕ → Members
-visiting a = with_number (codes "visits") a no_members
-
-abbrev pub refused_object : ℕ → ℕ → Data
-refused_object n place = answering (codes "refused") (with_number (codes "number") n (with_number (codes "place") place no_members))
-
-abbrev pub outcome_object : Outcome → Data
-outcome_object reached = answering (codes "reached") no_members
-outcome_object missed = answering (codes "missed") no_members
-outcome_object (blocked s) =
-    answering (codes "blocked") (with_number (codes "number") (part_number s.part) (with_text (codes "part") (part_kind s.part) (with_number (codes "step") s.step no_members)))
-
-abbrev pub ended_object : List ℕ → ℕ → ℕ → Data
-ended_object end state visits = answering (codes "wrong") (with_text (codes "outcome") end (with_number (codes "state") state (visiting visits)))
-
-abbrev pub stopped_object : ℕ → Part → ℕ → ℕ → Data
-stopped_object step part state visits =
-    answering (codes "wrong")
-    (with_number (codes "number") (part_number part)
-    (with_text (codes "outcome") (codes "blocked")
-    (with_text (codes "part") (part_kind part) (with_number (codes "state") state (with_number (codes "step") step (visiting visits))))))
-
-abbrev pub wrong_object : ℕ → Outcome → ℕ → Data
-wrong_object state reached visits = ended_object (codes "reached") state visits
-wrong_object state missed visits = ended_object (codes "missed") state visits
-wrong_object state (blocked s) visits = stopped_object s.step s.part state visits
-
-abbrev pub verdict_object : Verdict ℕ → Data
-verdict_object (right lines a) = answering (codes "right") (with_number (codes "lines") lines (visiting a))
-verdict_object (wrong s o a) = wrong_object s o a
-verdict_object (undecided a) = answering (codes "undecided") (visiting a)
+-- what the code puts in an object
+abbrev pub member : code.Member → Member
+member (Number key n) = (key.now, number n)
+member (Word key w) = (key.now, word w.now)
+member (Steps key p) = (key.now, steps p)
 
 -- the steps of a plan
 abbrev pub step_numbers : List ℕ → List Data
-step_numbers = map (λ b. number (unsigned b))
+step_numbers = map (λ b. value.number (value.unsigned b))
 
 abbrev pub steps_array : List ℕ → Data
-steps_array p = array (items_of (step_numbers p))
+steps_array p = value.array (items_of (step_numbers p))
 
-abbrev pub planning : List ℕ → ℕ → Members
-planning p a = member (codes "steps") (steps_array p) (visiting a)
+abbrev pub content_data : Content → Data
+content_data (number n) = value.number (value.unsigned n)
+content_data (word w) = value.string w
+content_data (steps p) = steps_array p
 
-abbrev pub search_object : Search → Data
-search_object (first_right p a) = answering (codes "found") (planning p a)
-search_object (none_right a) = answering (codes "none") (visiting a)
-search_object (undecided_at p a) = answering (codes "undecided") (planning p a)
+abbrev pub put_member : Member → Members → Members
+put_member m put = value.put m.0 (content_data m.1) put
 
-abbrev pub answer_object : Answer → Data
-answer_object (Judged v) = verdict_object (verdict v)
-answer_object (Written bytes) = answering (codes "written") (with_number (codes "length") bytes no_members)
-answer_object (Followed lines) = answering (codes "passes") (with_number (codes "lines") lines no_members)
-answer_object (Ran o) = outcome_object (outcome o)
-answer_object (Rests set) = answering (codes "rests") (with_number (codes "set") set no_members)
-answer_object (Searched s) = search_object (search_end s)
+-- the members are put into an object one after another: the kit has its keys in order
+unfoldable pub put_each : List Member → Members → Members
+put_each [] put = put
+put_each (m ∷ ms) put = put_each ms (put_member m put)
 
-abbrev pub told_object : Result Answer Refusal → Data
-told_object (Ok a) = answer_object a
-told_object (Err r) = refused_object (fault_number r.fault) r.place
+abbrev pub object_of : List Member → Data
+object_of ms = value.object (put_each ms value.no_members)
 
--- a text that is told
-abbrev pub text_object : List ℕ → Data
-text_object t = object (member (codes "text") (string t) no_members)
+unfoldable pub written : List Member → List ℕ
+written ms = compact_text (object_of ms)

@@ -2,4 +2,5 @@
 #![tactic(auto)]
 
 pub mod json;
+mod members;
 pub mod texts;

@@ -3,19 +3,20 @@ ghost use Rattle.std.specs.Prelude.{◌≡◌, string_bytes, IfOk};
 ghost use Rattle.objects.specs.Json.{made_json};
 ghost use Rattle.objects.specs.Text.{text_json};
 
-use serde_json::json;
+use crate::members::Member::{Number, Word};
+use crate::members::write_object;
 use std::alloc::{AllocError, Global};
 
 // A text as a JSON object.
 pub fn json_text(alloc: Global, text: &str) -> Result<String, AllocError>
     ensures { IfOk result (λ s. string_bytes s ≡ text_json text.now) }
 {
-    json!(in alloc; {"text": text})?.to_string(alloc)
+    write_object(alloc, &[Word("text", text)])
 }
 
 // That a problem was made, with the length of its block.
 pub fn json_made(alloc: Global, length: u64) -> Result<String, AllocError>
     ensures { IfOk result (λ s. string_bytes s ≡ made_json length) }
 {
-    json!(in alloc; {"answer": "made", "length": length})?.to_string(alloc)
+    write_object(alloc, &[Word("answer", "made"), Number("length", length)])
 }
