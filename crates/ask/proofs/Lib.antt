@@ -1,2 +1,3 @@
 -- Laws of the definitions, for the functions' proofs.
 pub mod Failing
+pub mod TellsRun

@@ -1,3 +1,4 @@
 -- What a command asks, what its operation answers, and what is replied.
 pub mod Asked
 pub mod Commands
+pub mod TellsRun

@@ -3,5 +3,6 @@
 
 pub mod commands;
 pub mod question;
+pub mod theorem;
 
 pub use question::{Blocks, Question};

@@ -5,3 +5,4 @@ pub mod Texts
 pub mod Changing
 pub mod Ends
 pub mod Runs
+pub mod Ending

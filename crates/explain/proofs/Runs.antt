@@ -23,7 +23,7 @@ module _ (N : Names) (p : Problem) (i : ℕ) (c : List Bool) where
   abbrev act : ℕ → Action
   act b = action_at p.actions b
 
-  told-step :
+  pub told-step :
       (b : ℕ) (bs : List ℕ) → applicable two p.facts (act b) c ≡ true →
       told_from N p (b ∷ bs) i c ≡
       step_head N i b ++
@@ -32,7 +32,7 @@ module _ (N : Names) (p : Problem) (i : ℕ) (c : List Bool) where
   told-step b [] e = rw e refl
   told-step b (b' ∷ bs) e = rw e refl
 
-  told-block :
+  pub told-block :
       (b : ℕ) (bs : List ℕ) → applicable two p.facts (act b) c ≡ false → told_from N p (b ∷ bs) i c ≡ step_head N i b ++ block_text N p (act b) c
   unfolding told rows
   told-block b bs e = rw e refl

@@ -3,3 +3,4 @@ pub mod Rows
 pub mod Told
 pub mod States
 pub mod Tells
+pub mod Ending

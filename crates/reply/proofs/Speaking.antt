@@ -62,7 +62,7 @@ module _ (json : Bool) (given : Option Names) (K : Spoken → Replied → Type 0
 
 -- ---- the names that were given
 
-module _ (given : Option NameList) (l : NameList) (p : blocks.Problem) (b : Bool) (e : given ≡ Some l) (f : b ≡ fit (listed l) p.facts p.actions) where
+module _ (given : Option NameList) (l : NameList) (p : blocks.Problem) (b : Bool) (e : given ≡ Some l) (f : b ≡ fit (listed l) p.facts p.actions.count) where
   names-given : names_for (option_map listed given) (problem p) ≡ cond b (Some (listed l)) None
   names-given = rw (e, action-count p, f) refl
 

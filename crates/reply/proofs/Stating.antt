@@ -1,10 +1,18 @@
 -- The states of a run, a line each.
-use Rattle.std.proofs.Common.{◌≡◌, refl, List, [], ◌∷◌, ◌++◌, map, ℕ, suc, ◌+◌, ◌-◌, ◌*◌, ◌≤◌, ◌<◌, arith, take, drop, eqb, codes, decimal, add-one}
-use Rattle.model.specs.{declared.Limits.Limits, Relevance.number_of}
+use Rattle.std.proofs.Common.{◌≡◌, refl, ap, ◌∙◌, Bool, true, false, List, [], ◌∷◌, ◌++◌, append_assoc, map, ℕ, suc, ◌+◌, ◌-◌, ◌*◌, ◌≤◌, ◌<◌, arith, length, take, drop, take_at, drop_at, eqb, codes, decimal, add-one}
+use lib.ListN.{length-map}
+use Rattle.model.specs.{declared.Limits.Limits, Case.flag, Relevance.number_of, Relevance.rows}
+use Rattle.model.proofs.Laws.Tracing.{OfSize}
 use Rattle.names.specs.Names.{Names}
 use Rattle.told.specs.States.{state_text}
 use Rattle.show.proofs.Pieces.{after-five}
-use Rattle.reply.specs.StateLines.{states_text}
+use Rattle.reply.specs.StateLines.{states_text, numbered_states}
+
+-- a row is read as it was written
+read-flags : (c : List Bool) → map (eqb 1) (map flag c) ≡ c
+read-flags [] = refl
+read-flags (true ∷ c) = ap (λ (x : List Bool). true ∷ x) (read-flags c)
+read-flags (false ∷ c) = ap (λ (x : List Bool). false ∷ x) (read-flags c)
 
 module _ (N : Names) (F : Limits) (n : ℕ) where
   -- the line of state i, by its row
@@ -36,6 +44,19 @@ module _ (N : Names) (F : Limits) (n : ℕ) where
   no-state i count rows h =
       let e : count - i ≡ 0 = omega (arith, h) in
       rw e refl
+  -- rows of states are told as the states' numbers, whatever follows them
+  pub states-numbered :
+      (i : ℕ) (cs : List (List Bool)) (rest : List ℕ) → OfSize n cs →
+      states_text N F n i (length cs) (rows cs ++ rest) ≡ numbered_states N F n i (map (number_of F.width) cs)
+  unfolding states_text numbered_states rows
+  states-numbered i [] rest size = refl
+  states-numbered i (c ∷ cs) rest size =
+      let row = map flag c in
+      let long : length row ≡ n = length-map c flag ∙ size 0 (omega arith) in
+      let split = append_assoc row (rows cs) rest in
+      let here : take n ((row ++ rows cs) ++ rest) ≡ row = ap (take n) split ∙ take_at row (rows cs ++ rest) n long in
+      let there : drop n ((row ++ rows cs) ++ rest) ≡ rows cs ++ rest = ap (drop n) split ∙ drop_at row (rows cs ++ rest) n long in
+      rw (here, there, read-flags c, states-numbered (suc i) cs rest (λ j l. size (suc j) (omega arith))) refl
 
 -- ---- the rows that are left
 
