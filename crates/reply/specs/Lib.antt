@@ -10,3 +10,4 @@ pub mod Said
 pub mod Replies
 pub mod About
 pub mod Making
+pub mod Shown
