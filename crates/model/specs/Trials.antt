@@ -675,7 +675,7 @@ abbrev merged_as : ℕ → List ℕ → List ℕ → Reply
 merged_as count out table =
     merges (record { answer = answered (record { block = length out; table = count }); out = out; table = table })
 
-abbrev not_merged : ℕ → ℕ → List ℕ → List ℕ → Reply
+abbrev pub not_merged : ℕ → ℕ → List ℕ → List ℕ → Reply
 not_merged n q out table = merges (record { answer = refused n q; out = out; table = table })
 
 -- merge: two halls in three orders of their actions, with room to spare and without, and exchanged; too short a buffer for the block and for the
