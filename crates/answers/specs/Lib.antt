@@ -1,6 +1,4 @@
 -- What is said of refusals, and the status that a command exits with.
-pub mod Subject
-pub mod Words
+pub mod Rows
 pub mod Status
-pub mod Units
 pub mod Reasons

@@ -1,7 +1,4 @@
-// What each command answers, and of what a refusal is.
-ghost use Rattle.std.specs.Prelude.{◌≡◌};
-ghost use Rattle.answers.specs.Subject.{subject};
-
+// What each command answers.
 use model::{Outcome, Search, Verdict};
 
 // What an operation answered that was not refused.
@@ -16,18 +13,4 @@ pub enum Answer {
     // The facts on which a run rests, as the number of a state.
     Rests(u64),
     Searched(Search),
-}
-
-// What a refusal is of, by its number.
-pub fn subject_of(number: u8) -> &'static str
-    ensures { result.now ≡ subject number }
-{
-    match number {
-        ..30 => "problem",
-        30..40 => "plan",
-        40 => "state",
-        41..43 => "run",
-        43..50 => "search",
-        _ => "list",
-    }
 }

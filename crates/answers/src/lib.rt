@@ -2,11 +2,11 @@
 #![tactic(auto)]
 
 pub mod answer;
-pub mod faults;
 pub mod reasons;
+pub mod rows;
 pub mod status;
 
-pub use answer::{Answer, subject_of};
-pub use faults::fault_words;
+pub use answer::Answer;
 pub use reasons::RefusalWords;
+pub use rows::{FaultRow, Unit};
 pub use status::Status;

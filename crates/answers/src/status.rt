@@ -1,10 +1,10 @@
 // The status that the program exits with.
 ghost use Rattle.std.specs.Prelude.{◌≡◌};
 ghost use Rattle.std.specs.Process.{exit_status};
-ghost use Rattle.model.specs.Faults.{fault_number};
 
 use crate::answer::Answer;
-use model::{Fault, Outcome, Refusal, Search, Verdict};
+use crate::rows::FaultRow;
+use model::{Outcome, Refusal, Search, Verdict};
 use std::process::ExitCode;
 
 #[derive(Clone, Copy, PartialEq, Eq, Debug)]
@@ -24,7 +24,7 @@ pub enum Status {
 
 impl Status {
     ghost use Rattle.model.specs.Answers.{verdict as verdict_of, outcome as outcome_of, search_end};
-    ghost use Rattle.answers.specs.Status.{status_number, verdict_status, outcome_status, search_status, answer_status, refused_status, status_of};
+    ghost use Rattle.answers.specs.Status.{status_number, verdict_status, outcome_status, search_status, answer_status, status_of};
 
     // Its number.
     pub fn code(self) -> u8
@@ -51,7 +51,7 @@ impl Status {
             Ok(Answer::Ran(outcome)) => Status::of_outcome(outcome),
             Ok(Answer::Rests(_)) => Status::Yes,
             Ok(Answer::Searched(search)) => Status::of_search(search),
-            Err(refusal) => Status::of_fault(refusal.fault),
+            Err(refusal) => FaultRow::of(refusal.fault).status,
         }
     }
 
@@ -82,21 +82,6 @@ impl Status {
             Search::Found { .. } => Status::Yes,
             Search::NoneRight { .. } => Status::No,
             Search::Undecided { .. } => Status::Undecided,
-        }
-    }
-
-    // That of a refusal: what was asked for is not so, is not decided, cannot be asked for or cannot be written; or else a block is malformed.
-    fn of_fault(fault: Fault) -> Status
-        ensures { result ≡ refused_status (fault_number fault) }
-    {
-        match fault {
-            Fault::RunNotReached | Fault::Wrong => Status::No,
-            Fault::LineKind | Fault::LineFacts | Fault::LineValue => Status::No,
-            Fault::LinePlace | Fault::LineClaim | Fault::ListEnds => Status::No,
-            Fault::Undecided => Status::Undecided,
-            Fault::StateNumber | Fault::PlanLength | Fault::TooManyPlans => Status::Usage,
-            Fault::TooManyLines | Fault::ShortBuffer => Status::Unwritten,
-            _ => Status::Malformed,
         }
     }
 }

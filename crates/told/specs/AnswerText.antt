@@ -1,5 +1,5 @@
 -- The line that answers a command, in names or numbers.
-use Rattle.std.specs.Prelude.{cond, ◌||◌, List, [], ◌∷◌, ◌++◌, ℕ, ltb, eqb, codes, decimal, Result, Ok, Err}
+use Rattle.std.specs.Prelude.{List, [], ◌∷◌, ◌++◌, ℕ, codes, decimal, Result, Ok, Err}
 use Rattle.model.specs.declared.Limits.{Limits}
 use Rattle.model.specs.declared.Refusal.{Refusal}
 use Rattle.model.specs.Faults.{fault_number}
@@ -10,23 +10,30 @@ use Rattle.model.specs.Search.{Search, first_right, none_right, undecided_at}
 use Rattle.model.specs.DeskText.{sentence, words, right_line, undecided_line}
 use Rattle.names.specs.Names.{Names}
 use Rattle.names.specs.Texts.{fact_name, action_name}
-use Rattle.answers.specs.Subject.{subject}
-use Rattle.answers.specs.Words.{fault_words}
+use Rattle.answers.specs.Rows.{Row, fault_row}
+use Rattle.answers.specs.declared.rows.Unit.{Unit as PlaceUnit}
+use Rattle.answers.specs.declared.rows.Unit.TheVariants.{Nothing, Byte, Line, End}
 use Rattle.told.specs.States.{state_text}
 use Rattle.answers.specs.declared.answer.Answer.{Answer}
 use Rattle.answers.specs.declared.answer.Answer.TheVariants.{Judged, Written, Followed, Ran, Rests, Searched}
 
 -- as in "refused list 60 at 65535"
-abbrev pub refusal_line : ℕ → ℕ → List ℕ
-refusal_line number place = sentence (codes "refused" ∷ subject number ∷ decimal number ∷ codes "at" ∷ decimal place ∷ [])
+abbrev pub refusal_line : List ℕ → ℕ → ℕ → List ℕ
+refusal_line subject number place = sentence (codes "refused" ∷ subject ∷ decimal number ∷ codes "at" ∷ decimal place ∷ [])
 
--- the refusal of a line, or of the end of the lines, in words, and of all else by number
+-- as in "line 1: its claim is not so (69)"
+abbrev pub untrue_line : List ℕ → List ℕ → ℕ → List ℕ
+untrue_line place words number = place ++ (codes ": " ++ (words ++ (codes " (" ++ (decimal number ++ (codes ")" ++ (10 ∷ []))))))
+
+-- by what the place counts: that of a line, or of the end of the lines, is told in words, and all else by number
+abbrev pub row_line : PlaceUnit → Row → ℕ → ℕ → List ℕ
+row_line Nothing row number place = refusal_line row.subject number place
+row_line Byte row number place = refusal_line row.subject number place
+row_line Line row number place = untrue_line (codes "line " ++ decimal place) row.words number
+row_line End row number place = untrue_line (codes "end") row.words number
+
 abbrev pub refused_line : Refusal → List ℕ
-refused_line r =
-    let number = fault_number r.fault in
-    cond (ltb number 65 || ltb 70 number)
-    (refusal_line number r.place)
-    (cond (eqb number 70) (codes "end") (codes "line " ++ decimal r.place) ++ (codes ": " ++ (fault_words r.fault ++ (codes " (" ++ (decimal number ++ (codes ")" ++ (10 ∷ [])))))))
+refused_line r = let row = fault_row r.fault in row_line row.unit row (fault_number r.fault) r.place
 
 module _ (N : Names) where
   -- as in "member 0" or "fact a"

@@ -1,33 +1,12 @@
 // The line that says what a command answers.
-ghost use Rattle.std.specs.Prelude.{◌++◌, cond, eqb, Some, codes, decimal};
-ghost use Rattle.model.specs.Faults.{fault_number};
+ghost use Rattle.std.specs.Prelude.{Some};
 
 use crate::states::StateText;
-use answers::{Answer, fault_words, subject_of};
+use answers::{Answer, FaultRow, Unit};
 use model::{Outcome, Part, Refusal, Search, ShortPlan, Stop, Verdict};
 use names::{ActionName, Names};
 use page::Facts;
 use std::fmt;
-
-// The refusals of a line are numbered from here on, up to that of the end of the lines: they are told in words.
-const LINE_NUMBERS: u8 = 65;
-
-const END_NUMBER: u8 = 70;
-
-// Where a list does not hold: at a line, or at the end of the lines.
-#[derive(Clone, Copy)]
-struct LinePlace(Refusal);
-
-impl fmt::Display for LinePlace {
-    ghost output = { λ r. Some (cond (eqb (fault_number r.0.fault) 70) (codes "end") (codes "line " ++ decimal r.0.place)) };
-
-    fn fmt<W: fmt::Write>(&self, f: &mut fmt::Formatter<W>) -> fmt::Result {
-        if self.0.fault.number() == END_NUMBER {
-            return write!(f, "end");
-        }
-        write!(f, "line {}", self.0.place)
-    }
-}
 
 // A refusal: that of a line, or of the end of the lines, in words, and all else by number.
 #[derive(Clone, Copy)]
@@ -40,14 +19,15 @@ impl fmt::Display for RefusalLine {
 
     fn fmt<W: fmt::Write>(&self, f: &mut fmt::Formatter<W>) -> fmt::Result {
         let Refusal { place, fault } = self.0;
+        let row = FaultRow::of(fault);
+        let subject = row.subject;
+        let words = row.words;
         let number = fault.number();
-        if number < LINE_NUMBERS || END_NUMBER < number {
-            let subject = subject_of(number);
-            return writeln!(f, "refused {subject} {number} at {place}");
+        match row.unit {
+            Unit::Nothing | Unit::Byte => writeln!(f, "refused {subject} {number} at {place}"),
+            Unit::Line => writeln!(f, "line {place}: {words} ({number})"),
+            Unit::End => writeln!(f, "end: {words} ({number})"),
         }
-        let place = LinePlace(self.0);
-        let words = fault_words(fault);
-        writeln!(f, "{place}: {words} ({number})")
     }
 }
 
