@@ -1,31 +1,25 @@
 -- The states that are told are those of the run. Assumes nothing.
-use Rattle.std.proofs.Common.{◌≡◌, refl, sym, ap, ◌∙◌, List, ◌++◌, map, ℕ, suc, ◌+◌, ◌-◌, ◌≤◌, min, arith, length, take, drop, Result, Ok, Err}
+use Rattle.std.proofs.Common.{◌≡◌, sym, ap, ◌∙◌, List, ◌++◌, ℕ, ◌+◌, ◌-◌, ◌≤◌, arith, length, take, drop, Ok, Err}
 use lib.ListN.{length-map}
 use Rattle.std.proofs.lemmas.List.{take-append-drop}
 use Rattle.std.proofs.Math.Nat.{min-eq_left}
-use Rattle.model.specs.declared.Limits.{Limits}
-use Rattle.model.specs.declared.Refusal.{Refusal}
 use Rattle.model.specs.Limits.{limits_of, max_steps}
 use Rattle.model.specs.Answer as Answer
 use Rattle.model.specs.Answer.{answered}
 use Rattle.model.specs.Case.{Task, state_of}
 use Rattle.model.specs.Read.{head_bytes, bytes_of, block}
 use Rattle.model.specs.ProblemBytes.{action_at, encode_plan}
-use Rattle.model.specs.Relevance.{run_states, run_rows, rows, every_row, work_bytes}
+use Rattle.model.specs.Relevance.{run_states, run_rows, rows, work_bytes}
 use Rattle.model.specs.WellFormed.{Bytes}
-use Rattle.model.specs.Operations.{task_of, read_task, read_both, relevant_read}
+use Rattle.model.specs.Operations.{task_of, read_task, read_both}
 use Rattle.model.proofs.Laws.Tasks.{answer-then}
 use Rattle.model.proofs.Laws.Reading.{length-block}
 use Rattle.model.proofs.Laws.Tracing.{states-count, states-size}
 use Rattle.model.proofs.Laws.Relevance.{start-length}
 use Rattle.model.proofs.Laws.Lists.{n≤w}
 use Rattle.model.proofs.Guarantees.{guarantees-of, read-sound, limits-sensible}
-use Rattle.answers.specs.declared.answer.Answer.{Answer}
 use Rattle.answers.specs.declared.answer.Answer.TheVariants as answer
-use Rattle.names.specs.Names.{Names}
-use Rattle.reply.specs.StateLines.{states_text, numbered_states}
 use Rattle.reply.proofs.Stating.{states-numbered}
-use Rattle.ask.specs.Asked.{Asked}
 use Rattle.ask.specs.Commands.{rows_buffer, states_of}
 use Rattle.ask.specs.TellsRun.{TellsTheRun}
 

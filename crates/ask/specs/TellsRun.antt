@@ -1,7 +1,5 @@
 -- What is told of a run that reaches the goal: its states are those of the run, each on a line of its own.
-use Rattle.std.specs.Prelude.{◌≡◌, List, map, ℕ, Result, Ok}
-use Rattle.model.specs.declared.Limits.{Limits}
-use Rattle.model.specs.declared.Refusal.{Refusal}
+use Rattle.std.specs.Prelude.{◌≡◌, List, map, ℕ, Ok}
 use Rattle.model.specs.Limits.{limits_of}
 use Rattle.model.specs.Answer.{answered}
 use Rattle.model.specs.Case.{Task}
@@ -9,7 +7,6 @@ use Rattle.model.specs.Relevance.{number_of, run_states}
 use Rattle.model.specs.WellFormed.{Bytes}
 use Rattle.model.specs.Operations.{read_both}
 use Rattle.names.specs.Names.{Names}
-use Rattle.answers.specs.declared.answer.Answer.{Answer}
 use Rattle.answers.specs.declared.answer.Answer.TheVariants as answer
 use Rattle.reply.specs.StateLines.{states_text, numbered_states}
 use Rattle.ask.specs.Asked.{Asked}

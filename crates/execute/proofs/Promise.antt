@@ -2,7 +2,7 @@
 use Rattle.std.proofs.Common.{◌≡◌, sym, ap, ◌∙◌, inl, inr, ℕ}
 use Rattle.model.specs.{declared.Limits.Limits, Answer.Answer, Answer.refused, Answer.answered, Run.Outcome, Case.Task}
 use Rattle.model.specs.{Operations.run_read, WellFormed.Sensible, WellFormed.ReadOk}
-use Rattle.model.proofs.{Laws.Tasks.answer-then, Laws.Tasks.refusal-of, Laws.Tasks.state-tested, Laws.Tasks.run-answers, Guarantees.guarantees-hold}
+use Rattle.model.proofs.{Laws.Tasks.answer-then, Laws.Tasks.refusal-of, Laws.Tasks.state-tested, Guarantees.guarantees-hold}
 use Rattle.execute.specs.Promise.{RunPromised}
 
 pub run-promised : (F : Limits) → Sensible F → (R : Answer Task) → ReadOk F R → (s : ℕ) (r : Answer Outcome) → r ≡ run_read R s → RunPromised R s r

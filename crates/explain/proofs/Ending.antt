@@ -1,9 +1,8 @@
 -- The last lines of an explanation. Assumes nothing.
 use Rattle.std.proofs.Common.{◌≡◌, refl, sym, ap, ◌∙◌, Bool, true, false, List, [], ◌∷◌, ◌++◌, append_assoc, map, ℕ, suc, ◌+◌, ◌-◌, ◌≤◌, length, drop, drop-drop, get_or, get_or-drop, add-zero, add-one, codes, arith}
-use Rattle.model.specs.declared.Limits.{Limits}
 use Rattle.model.specs.Kleene.{two}
-use Rattle.model.specs.Action.{Action, exclusive, applicable, step}
-use Rattle.model.specs.Run.{holds_in, Part, part_of, Outcome, at_end, goes_on, run}
+use Rattle.model.specs.Action.{Action, applicable, step}
+use Rattle.model.specs.Run.{holds_in, part_of, at_end, goes_on, run}
 use Rattle.model.specs.Case.{state_of, run_of}
 use Rattle.model.specs.ProblemBytes.{Problem, action_at}
 use Rattle.model.specs.Operations.{task_of}

@@ -1,5 +1,5 @@
 -- How an explanation ends: as the run does that it tells.
-use Rattle.std.specs.Prelude.{◌≡◌, Bool, List, [], ◌∷◌, ◌++◌, map, ℕ, ◌-◌, length, get_or, codes}
+use Rattle.std.specs.Prelude.{◌≡◌, Bool, List, [], ◌∷◌, ◌++◌, ℕ, ◌-◌, length, get_or, codes}
 use Rattle.model.specs.declared.Limits.{Limits}
 use Rattle.model.specs.Kleene.{two}
 use Rattle.model.specs.Action.{Action}

@@ -11,7 +11,7 @@ use Rattle.model.specs.Run.{Outcome, reached, missed, blocked}
 use Rattle.model.specs.Case.{case_of, state_of, Task, IsStart, initially, Right, run_of}
 use Rattle.model.specs.Belief.{initial_belief}
 use Rattle.model.specs.Walk as Walk
-use Rattle.model.specs.Walk.{Kind, empty, closed, look_end, look_of, Line, covered, walk, right, wrong, undecided, visits, initial_at, run_at, look_at, walked, judged}
+use Rattle.model.specs.Walk.{Kind, empty, closed, look_end, look_of, Line, covered, walk, right, wrong, visits, initial_at, run_at, look_at, walked, judged}
 use Rattle.model.specs.Search as Search
 use Rattle.model.specs.Search.{first_right, none_right, undecided_at, Earlier, IsShort}
 use Rattle.model.specs.Relevance.{Layout, every_row, fewer_rows, relevant_to, run_rows, sparse_rows}

@@ -2,7 +2,7 @@
 use Rattle.std.proofs.Common.{◌≡◌, refl, sym, ap, ◌∙◌, List, ℕ, ◌-◌, ◌≤◌, arith, Ok, Err}
 use Rattle.model.specs.{Answer.Answer, Answer.answered, Case.Task, Case.run_of, Case.IsState}
 use Rattle.model.specs.Walk.{Line, covered, failed, visits, walked, right, wrong, judged}
-use Rattle.model.specs.{Operations.line_count, Operations.judge_read, Answers.refusal, Answers.verdict, declared.Outcome.Outcome}
+use Rattle.model.specs.{Operations.line_count, Operations.judge_read, Answers.refusal, declared.Outcome.Outcome}
 use Rattle.model.specs.{declared.Refusal.Refusal, declared.Verdict.TheVariants.Right, declared.Verdict.TheVariants.Wrong, declared.Verdict.TheVariants.Undecided}
 use Rattle.model.specs.Answer as Answer
 use Rattle.model.specs.Answers as Answers

@@ -1,5 +1,5 @@
 -- The number of a name in a list of names. Assumes nothing.
-use Rattle.std.proofs.Common.{◌≡◌, refl, sym, true, false, List, [], ◌∷◌, ℕ, zero, suc, ◌<◌, length, get_or, arith, Some}
+use Rattle.std.proofs.Common.{◌≡◌, refl, sym, true, false, List, ℕ, zero, suc, ◌<◌, arith, Some}
 use Rattle.std.specs.Str.{bytes_eq}
 use Rattle.std.proofs.lemmas.Bool.{false_from_ne_true}
 use Rattle.std.proofs.lemmas.Slice.Eq.{bytes_eq-Decides}
@@ -17,19 +17,6 @@ other-words v w n = false_from_ne_true (bytes_eq v w) (λ h. n ((bytes_eq-Decide
 -- as the test of two words that are turned
 pub words-turned : (v w : List ℕ) → bytes_eq v w ≡ false → bytes_eq w v ≡ false
 words-turned v w h = other-words w v (λ e. let t = same-words v w (sym e) in cc)
-
--- in a list of distinct words, the i-th is found at i
-pub index-listed :
-    (L : List (List ℕ)) (d : List ℕ) → ((i j : ℕ) → i < length L → j < length L → get_or L i d ≡ get_or L j d → i ≡ j) →
-    (i : ℕ) → i < length L → index_of L (get_or L i d) ≡ Some i
-unfolding index_of
-index-listed [] d distinct i h = absurd (omega arith)
-index-listed (w ∷ L) d distinct zero h = rw (same-words w w refl)
-index-listed (w ∷ L) d distinct (suc i) h =
-    let no : bytes_eq w (get_or L i d) ≡ false =
-    other-words w (get_or L i d) (λ e. let z : 0 ≡ suc i = distinct 0 (suc i) (omega arith) h e in absurd (omega arith)) in
-    let rest = index-listed L d (λ i j a b e. let z : suc i ≡ suc j = distinct (suc i) (suc j) (omega arith) (omega arith) e in omega arith) i (omega arith) in
-    rw (no, rest)
 
 -- and so in a list that is given by its numbers
 pub index-tabulated :

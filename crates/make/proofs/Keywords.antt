@@ -1,10 +1,8 @@
--- Names are no keywords, and begin no denial; a keyword is read as a word. Assumes nothing.
-use Rattle.std.proofs.Common.{◌≡◌, refl, Bool, true, false, not, ◌&&◌, eqb, ltb, List, [], ◌∷◌, ◌++◌, ℕ, zero, suc, ◌<◌, length, get_or, arith}
+-- Names are no keywords, and begin no denial. Assumes nothing.
+use Rattle.std.proofs.Common.{◌≡◌, true, false, not, eqb, List, [], ◌∷◌, ℕ, zero, suc, ◌<◌, length, get_or, arith}
 use Rattle.std.specs.Str.{bytes_eq}
-use Rattle.std.proofs.lemmas.Bool.{and_parts, or_parts, not-true, ltb-true}
+use Rattle.std.proofs.lemmas.Bool.{and_parts, or_parts, not-true}
 use Rattle.names.specs.Names.{keywords, denial_mark, has_word, is_one_word, is_name}
-use Rattle.words.specs.Words.{word, after_word}
-use Rattle.make.proofs.Words.{Ends, word-first, after-first}
 use Rattle.make.proofs.Index.{words-turned}
 
 no-word : (vs : List (List ℕ)) (w : List ℕ) → has_word vs w ≡ false → (i : ℕ) → i < length vs → bytes_eq (get_or vs i []) w ≡ false
@@ -22,27 +20,3 @@ name-no_keyword (b ∷ w) h i l =
 
 pub name-no_denial : (b : ℕ) (w : List ℕ) → is_name (b ∷ w) ≡ true → eqb b denial_mark ≡ false
 name-no_denial b w h = not-true _ (and_parts _ _ h).0
-
--- whether each is a word
-abbrev are_words : List (List ℕ) → Bool
-are_words [] = true
-are_words (v ∷ vs) = (ltb 0 (length v) && is_one_word v) && are_words vs
-
-word-listed : (vs : List (List ℕ)) → are_words vs ≡ true → (i : ℕ) → i < length vs → (0 < length (get_or vs i [])) × (is_one_word (get_or vs i []) ≡ true)
-word-listed [] h i l = absurd (omega arith)
-word-listed (v ∷ vs) h zero l =
-    let (some, one) = and_parts (ltb 0 (length v)) (is_one_word v) (and_parts (ltb 0 (length v) && is_one_word v) (are_words vs) h).0 in
-    (ltb-true 0 (length v) some, one)
-word-listed (v ∷ vs) h (suc i) l =
-    word-listed vs (and_parts (ltb 0 (length v) && is_one_word v) (are_words vs) h).1 i (omega arith)
-
-keyword-is : (i : ℕ) → i < length keywords → (0 < length (get_or keywords i [])) × (is_one_word (get_or keywords i []) ≡ true)
-keyword-is = word-listed keywords refl
-
--- a text that begins with a keyword
-module _ (i : ℕ) (h : i < length keywords) (t : List ℕ) (ends : Ends t) where
-  pub word-keyword : word (get_or keywords i [] ++ t) ≡ get_or keywords i []
-  word-keyword = let (some, one) = keyword-is i h in word-first (get_or keywords i []) t some one ends
-
-  pub after-keyword : after_word (get_or keywords i [] ++ t) ≡ t
-  after-keyword = let (some, one) = keyword-is i h in after-first (get_or keywords i []) t some one ends

@@ -132,11 +132,6 @@ pub record FactsSoFar (most : ℕ) (begin now : List ℕ) (ns : List (Bor (List 
   pub few : length ns ≤ most
   pub read : facts most [] begin ≡ facts (most - length ns) (texts ns) now
 
-pub facts-begin : (most : ℕ) (t : List ℕ) → facts most [] t ≡ facts (most - 0) [] t
-facts-begin most t =
-    let e : most - 0 ≡ most = omega arith in
-    rw e refl
-
 module _ (most : ℕ) (begin now w : List ℕ) (ns : List (Bor (List ℕ))) (first : w ≡ word now) (so_far : FactsSoFar most begin now ns) where
   pub facts-all : bytes_eq w (codes "fact") ≡ false → facts most [] begin ≡ got (texts ns) now
   facts-all other =

@@ -1,5 +1,5 @@
 -- The first word of a text, and the text after it. Assumes nothing.
-use Rattle.std.proofs.Common.{◌≡◌, refl, ap, true, false, not, ◌||◌, eqb, List, [], ◌∷◌, ◌++◌, ℕ, ◌<◌, length, take, drop, take_at, drop_at, arith}
+use Rattle.std.proofs.Common.{◌≡◌, refl, ap, true, false, not, ◌||◌, eqb, List, [], ◌∷◌, ◌++◌, ℕ, ◌<◌, length, take, take_at, drop_at, arith}
 use Rattle.std.proofs.lemmas.Bool.{and_parts, or_parts, not-true}
 use Rattle.words.specs.Words.{is_blank, is_bracket, ends_word, past_blanks, run_length, word_length, word, after_word, from_word}
 use Rattle.names.specs.Names.{is_one_word, is_name}
@@ -89,14 +89,6 @@ module _ (t : List ℕ) where
   unfolding after_word past_blanks
   after-space = refl
 
-  pub word-line : word (10 ∷ t) ≡ word t
-  unfolding word past_blanks
-  word-line = refl
-
-  pub after-line : after_word (10 ∷ t) ≡ after_word t
-  unfolding after_word past_blanks
-  after-line = refl
-
   pub from-space : from_word (32 ∷ t) ≡ from_word t
   unfolding past_blanks
   from-space = refl
@@ -126,12 +118,3 @@ module _ (t : List ℕ) where
 pub same-word : (u v : List ℕ) → from_word u ≡ from_word v → word u ≡ word v
 unfolding word
 same-word u v e = ap (λ (s : List ℕ). take (word_length s) s) e
-
-pub same-after : (u v : List ℕ) → from_word u ≡ from_word v → after_word u ≡ after_word v
-unfolding after_word
-same-after u v e = ap (λ (s : List ℕ). drop (word_length s) s) e
-
--- nothing is left of a text that has ended
-pub word-none : word [] ≡ []
-unfolding word past_blanks word_length
-word-none = refl

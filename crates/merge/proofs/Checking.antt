@@ -1,5 +1,5 @@
 -- What the merged problem's limits say, one after the other. Assumes nothing.
-use Rattle.std.proofs.Common.{◌≡◌, refl, arith, Bool, true, false, ◌||◌, ℕ, ◌<◌, ◌≤◌, length, ltb, lt-ltb, le-ltb}
+use Rattle.std.proofs.Common.{◌≡◌, refl, true, false, ◌||◌, ℕ, ◌<◌, ◌≤◌, length, ltb, lt-ltb, le-ltb}
 use Rattle.model.specs.Limits.{version2, max_facts, max_actions, max_problem_bytes}
 use Rattle.model.specs.Answer.{refused, answered}
 use Rattle.model.specs.ProblemBytes.{Problem, encode_problem}

@@ -1,5 +1,5 @@
 -- What is written, piece after piece, and the bytes of formulas and actions whose facts are moved up. Assumes nothing.
-use Rattle.std.proofs.Common.{◌≡◌, refl, sym, ap, ◌∙◌, subst, Bool, true, false, cond, List, [], ◌∷◌, ◌++◌, append_assoc, append-nil, map, ℕ, zero, suc, ◌+◌, ◌-◌, ◌≤◌, ◌<◌, arith, length, length-append, set, slice_index, take, drop, drop-drop, length-drop, ltb, ltb-false, eqb, eqb-true}
+use Rattle.std.proofs.Common.{◌≡◌, refl, sym, ap, ◌∙◌, subst, Bool, true, false, cond, List, [], ◌∷◌, ◌++◌, append_assoc, append-nil, map, ℕ, zero, suc, ◌+◌, ◌-◌, ◌≤◌, ◌<◌, arith, length, length-append, set, take, drop, drop-drop, length-drop, ltb, ltb-false, eqb, eqb-true}
 use Rattle.std.proofs.Math.Seq.{take-append_seam, drop-append_seam, set-append_seam}
 use Rattle.std.proofs.lemmas.List.{drop_all, drop_more, length-take-le}
 use lib.ListN.{length-map}
@@ -11,14 +11,10 @@ use Rattle.model.specs.FormulaBytes.{Group, conjunction, disjunction, grouped, m
 use Rattle.model.specs.ProblemBytes.{action_at, effects_bytes, action_bytes, actions_bytes}
 use Rattle.model.specs.Merging.{moved_literal, moved, moved_members, moved_effect, moved_action, joined}
 use Rattle.model.proofs.Laws.Reading.{length-bytes_of}
-use Rattle.model.proofs.Laws.Tabulate.{length-tabulate}
 use Rattle.formula.specs.Views.{formulas}
 use Rattle.formula.specs.Decoding.{first, after}
 use Rattle.formula.proofs.Decoding.{part}
 use Rattle.formula.proofs.Sizes.{sizes}
-use Rattle.fields.specs.ActionBytes.{action_of}
-use Rattle.blocks.specs.Values.{problem}
-use Rattle.blocks.specs.declared.problem.Problem.{Problem as View}
 use Rattle.merge.specs.declared.both.Both.{Both}
 use Rattle.merge.specs.Views.{both_of}
 use Rattle.merge.specs.Writing.{Puts, effect_bytes}

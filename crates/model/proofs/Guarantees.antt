@@ -1,5 +1,5 @@
 -- What is guaranteed holds of every version whose numbers are sensible, and so of version 1. Assumes nothing.
-use Rattle.model.proofs.Words.{◌≡◌, refl, Bool, true, false, cond, List, ℕ, length, get_or, eqb, arith, Limits, version1, version2, limits_of, block, problem, problem_of, plan, plan_of, encode_problem, encode_plan, encode_list, ReadOk, read_task, read_both, lines_read, write_read, Sensible, AllInput, Guarantees, Theorems}
+use Rattle.model.proofs.Words.{refl, Bool, true, false, cond, List, ℕ, length, get_or, eqb, arith, Limits, version1, version2, limits_of, block, problem, problem_of, plan, plan_of, encode_problem, encode_plan, encode_list, ReadOk, read_task, read_both, lines_read, write_read, Sensible, AllInput, Guarantees, Theorems}
 use Rattle.model.specs.Answer as Answer
 use Rattle.model.specs.Relevance.{every_row, fewer_rows}
 use Rattle.model.proofs.Laws.Conflicts.{order-free-two, order-free-three}

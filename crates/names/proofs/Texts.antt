@@ -43,7 +43,3 @@ after-first (suc n) none some = let d : suc n - 1 ≡ n = omega arith in rw d (a
     after-none zero = refl
     after-none (suc n) = refl
 after-first (suc n) (more m ms) some = let d : suc n - 1 ≡ n = omega arith in rw d refl
-
-pub after-nothing : (n : ℕ) (ms : Formulas) → n ≤ 0 → after n ms ≡ ms
-after-nothing zero ms h = refl
-after-nothing (suc n) ms h = absurd (omega arith)

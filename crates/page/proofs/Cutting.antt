@@ -3,7 +3,7 @@ use Rattle.std.proofs.Common.{◌≡◌, refl, sym, ap, ◌∙◌, List, ◌++�
 use borrow.Author.Tests.{lt-leb}
 use native.Mathlib.Decide.{dec_lt}
 use Rattle.model.specs.{declared.Limits.Limits, Limits.limits_of, Limits.max_problem_bytes, Answer.Answer, Answer.refused, Answer.answered}
-use Rattle.model.specs.Read.{Reader, reject, and_then, require, answer_of, head_bytes, header}
+use Rattle.model.specs.Read.{Reader, reject, and_then, require, answer_of, header}
 use Rattle.model.specs.{ProblemBytes.problem, ProblemBytes.problem_of, ProblemBytes.plan, ProblemBytes.plan_of, Operations.task_of, Operations.read_task}
 use Rattle.model.specs.DeskText.{answer_line, answer_rest, first_line, later_lines, desk_text}
 use Rattle.model.specs.Answer as Answer

@@ -1,5 +1,5 @@
 -- The promise: from the equations with the definition and the theorem about the definitions. Assumes nothing.
-use Rattle.std.proofs.Common.{◌≡◌, refl, sym, ap, ◌∙◌, inl, inr, List, ℕ, ◌≤◌, arith, take, drop}
+use Rattle.std.proofs.Common.{◌≡◌, refl, sym, ap, ◌∙◌, inl, inr, List, ℕ, ◌≤◌, take, drop}
 use Rattle.model.specs.{declared.Limits.Limits, Answer.Answer, Answer.refused, Answer.answered, Case.Task, Relevance.Layout}
 use Rattle.model.specs.Operations.{Written, run_read, reached_read, relevant_read}
 use Rattle.model.specs.WellFormed.{Sensible, ReadOk}

@@ -44,6 +44,7 @@ module _ (N : Names) (F : Limits) (n : ℕ) where
   no-state i count rows h =
       let e : count - i ≡ 0 = omega (arith, h) in
       rw e refl
+
   -- rows of states are told as the states' numbers, whatever follows them
   pub states-numbered :
       (i : ℕ) (cs : List (List Bool)) (rest : List ℕ) → OfSize n cs →

@@ -11,6 +11,7 @@ module _ (N : Names) (F : Limits) (n : ℕ) where
   states_text i zero rows = []
   states_text i (suc count) rows =
       codes "state " ++ (decimal i ++ (32 ∷ (state_text N F n (number_of F.width (map (eqb 1) (take n rows))) ++ (10 ∷ states_text (suc i) count (drop n rows)))))
+
   -- states by their numbers, a line each, from number i on
   unfoldable pub numbered_states : ℕ → List ℕ → List ℕ
   numbered_states i [] = []

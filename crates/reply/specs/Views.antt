@@ -1,6 +1,5 @@
 -- What the code has of names, of a problem that is spoken of, and of a reply.
-use Rattle.std.specs.Prelude.{◌≡◌, Bool, true, false, List, ℕ, length, Option, None, Some, option_map, Result, Ok, Err}
-use Rattle.model.specs.declared.Refusal.{Refusal}
+use Rattle.std.specs.Prelude.{◌≡◌, Bool, true, false, List, ℕ, Option, None, Some, option_map, Result, Ok, Err}
 use Rattle.model.specs.Limits.{limits_of}
 use Rattle.model.specs.Answer.{answered}
 use Rattle.model.specs.Answers as answers

@@ -1,14 +1,10 @@
 -- The lines of facts, effects, actions and steps, the first of them apart from the others.
-use Rattle.std.proofs.Common.{◌≡◌, refl, List, [], ◌∷◌, ◌++◌, ℕ, suc, ◌+◌, ◌-◌, ◌≤◌, ◌<◌, arith, length, get_or, drop, slice_index, codes, decimal, add-one}
+use Rattle.std.proofs.Common.{◌≡◌, refl, List, [], ◌∷◌, ◌++◌, ℕ, suc, ◌+◌, ◌-◌, ◌≤◌, ◌<◌, arith, length, get_or, drop, codes, decimal, add-one}
 use Rattle.std.proofs.lemmas.List.{drop_more, drop_all, append-nil}
 use Rattle.model.specs.Action.{Effect, Action}
 use Rattle.model.specs.Formula.{all, none}
 use Rattle.model.specs.ProblemBytes.{Problem, action_at}
 use Rattle.model.specs.declared.Limits.{Limits}
-use Rattle.model.proofs.Laws.Tabulate.{length-tabulate}
-use Rattle.fields.specs.ActionBytes.{action_of}
-use Rattle.blocks.specs.Values.{problem}
-use Rattle.blocks.specs.declared.problem.Problem.{Problem as View}
 use Rattle.names.specs.Names.{Names}
 use Rattle.names.specs.Texts.{fact_name, action_name, formula_text}
 use Rattle.show.specs.ProblemText.{literal_set, unless_always, facts_text, effects_text, needs_text, actions_text, problem_text, steps_text, plan_text}

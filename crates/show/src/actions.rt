@@ -26,7 +26,11 @@ pub fn push_actions(out: &mut String, names: Names, problem: &Problem) -> Result
     ensures { OnOk result (string_bytes out.new ≡ string_bytes out.old ++ actions_text (names_of names.entry) 0 (problem_of problem.now).actions) }
 {
     for action in 0..problem.actions.count {
-        push_action(out, ActionName { names, action }, problem.actions.get(action))?;
+        push_action(
+            out,
+            ActionName { names, action },
+            problem.actions.get(action),
+        )?;
     }
     Ok(())
 }

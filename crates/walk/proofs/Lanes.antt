@@ -41,9 +41,6 @@ first-level = record { from = omega arith; to = omega arith }
 pub no-level : (lane e : ℕ) → OnLevel lane e → OnLevel (2 * lane) (suc e)
 no-level lane e o = record { from = omega (arith, o.from, pow-suc 2 e); to = omega (arith, o.to, pow-suc 2 (suc e)) }
 
-pub yes-level : (lane e : ℕ) → OnLevel lane e → OnLevel (2 * lane + 1) (suc e)
-yes-level lane e o = record { from = omega (arith, o.from, pow-suc 2 e); to = omega (arith, o.to, pow-suc 2 (suc e)) }
-
 pub half-level : (lane m e : ℕ) → OnLevel lane (suc e) → 2 * m ≤ lane → lane ≤ 2 * m + 1 → OnLevel m e
 half-level lane m e o h k = record { from = omega (arith, o.from, pow-suc 2 e); to = omega (arith, o.to, pow-suc 2 (suc e)) }
 

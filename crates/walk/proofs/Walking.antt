@@ -9,7 +9,7 @@ use Rattle.model.specs.Case as model-case
 use Rattle.model.specs.Walk as model
 use Rattle.model.specs.Walk.{Line, Walked, covered, failed, opened, visits, join, walk_from, walk, walked, look_of, look_at}
 use Rattle.model.specs.declared.marks.Kind.{Kind}
-use Rattle.model.proofs.Laws.Cover.{block-of-mod, mod-of-block, root-span, agree}
+use Rattle.model.proofs.Laws.Cover.{block-of-mod, mod-of-block, agree}
 use Rattle.model.proofs.Laws.Grants.{visits-walk}
 use Rattle.model.proofs.Laws.Splitting.{case-first}
 use Rattle.cases.specs.declared.case.Case as table
@@ -440,12 +440,6 @@ in-table b n x c f same e =
 
 -- ---- a block below, and the first one
 
--- the walk from the block's own case
-pub root-walk : (b : block.Block) → walk_at b 0 1 ≡ walk_of (task_of b) (b.task.now.problem.now.facts - b.own.k) b.own.k b.own.number
-root-walk b =
-    let z : b.own.k + 0 ≡ b.own.k = omega arith in
-    same-walk (task_of b) _ _ _ _ _ _ (ap (λ (x : ℕ). b.task.now.problem.now.facts - x) z) z (omega arith)
-
 pub own-fits : (b : block.Block) → b.own.number < 2 ^ (limits_of b).width
 own-fits b =
     rw (← task-width b.task.now) (omega (arith, b.numbers, pow_pos ((task_of b).width - b.own.k)))
@@ -533,9 +527,6 @@ module _ (b : block.Block) (lane : ℕ) (on : OnLevel lane b.levels) (case : Cas
 
 -- the first block fixes no fact
 module _ (t : blocks.Task) where
-  pub first-numbers : 0 + 2 ^ ((values.task t).width - 0) ≤ 2 ^ (values.task t).width
-  first-numbers = omega (arith, root-span (values.task t).width)
-
   -- the walk from the case that fixes no fact is the walk of the task
   pub first-walk :
       walk_of (values.task t) (t.problem.now.facts - (0 + 0)) (0 + 0) (0 + (1 - 2 ^ 0) * 2 ^ ((values.task t).width - (0 + 0))) ≡ walked (values.task t)

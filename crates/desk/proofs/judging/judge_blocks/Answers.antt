@@ -1,4 +1,4 @@
-use Rattle.std.proofs.Common.{◌∙◌, ap, sym, rules, refl, arith}
+use Rattle.std.proofs.Common.{◌∙◌, ap, rules, refl, arith}
 use Rattle.model.specs.Answer.{answered}
 use Rattle.judge.proofs.Verdicts.{judge-refused, judge-found}
 use Rattle.blocks.proofs.Tasks.{read_task-refused, read_task-from}

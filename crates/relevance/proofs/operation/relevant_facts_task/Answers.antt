@@ -2,7 +2,7 @@ use Rattle.std.proofs.Common.{◌≡◌, refl, sym, ◌∙◌, ℕ, List, ◌+�
 use Rattle.std.proofs.lemmas.Result.{err_from_is_err_and}
 use Rattle.blocks.specs.Values.{task}
 use Rattle.blocks.proofs.{Tasks.facts-fit, Tasks.plan-length}
-use Rattle.model.specs.{Limits.max_steps, Relevance.work_bytes, Relevance.every_row}
+use Rattle.model.specs.{Relevance.work_bytes, Relevance.every_row}
 use Rattle.relevance.proofs.Answers.{relevant-no-state, relevant-unrun, relevant-short, relevant-found, traces-task, need-is, need-small, has-rows}
 use Rattle.relevance.proofs.operation.relevant_facts_task.Goals as goal
 use Rattle.relevance.proofs.operation.relevant_facts_task.Goals.{In_ok-cases}
