@@ -14,7 +14,7 @@ use Rattle.model.specs.WellFormed.{Bytes}
 use Rattle.model.specs.Merging.{halls, reordered, sized, roomy, merged_for, laid_out, merge}
 use Rattle.model.proofs.{Guarantees.limits-sensible, Laws.Tabulate.length-tabulate}
 use Rattle.merge.specs.Promise.{Reads, MergePromised}
-use Rattle.merge.specs.Writing.{Puts, in_order}
+use Rattle.merge.specs.Writing.{in_order}
 use Rattle.merge.proofs.AnyOrder.{any-order, first-sound, second-sound}
 use Rattle.merge.proofs.Orders as Orders
 use Rattle.merge.proofs.Sound.{halls-count}
@@ -98,20 +98,20 @@ module _ (first second before before_table : List ℕ) (b : Bytes first) (b' : B
 
       -- both buffers were written
       pub wrote :
-          (n : ℕ) (after : List ℕ) → Puts (encode_problem version2 both) before n after → (m : ℕ) → m ≡ count → (after_table : List ℕ) →
-          Puts (in_order m) before_table m after_table → answered both ≡ roomy (length before) (length before_table) both →
+          (after : List ℕ) → after ≡ encode_problem version2 both ++ drop (length (encode_problem version2 both)) before → (m : ℕ) → m ≡ count →
+          (after_table : List ℕ) → after_table ≡ in_order m ++ drop (length (in_order m)) before_table → answered both ≡ roomy (length before) (length before_table) both →
           (l : Lengths) → l.block ≡ length (encode_problem version2 both) → l.table ≡ m →
           Answered first second before before_table (Ok l) after after_table
       unfolding merge laid_out roomy
-      wrote n after P m e after_table Q f l i j =
+      wrote after P m e after_table Q f l i j =
           let size = length (encode_problem version2 both) in
           let c : length both.actions ≡ count = halls-count p q in
           let same-order : reordered (in_order count) both ≡ both = rw (← c) (Orders.in-order-same both) in
           let answers : answer ≡ answered both = by-room ∙ sym f in
           let (fit, fit') = fits-room size (length both.actions) (length before) (length before_table) both f in
           let long : length (in_order m) ≡ m = length-tabulate m (λ x. x) in
-          let table-is : after_table ≡ in_order count ++ drop count before_table = rw (← e) (Q.is ∙ rw long refl) in
-          let (block, rest) = takes-first (encode_problem version2 both) (drop size before) after l.block P.is i in
+          let table-is : after_table ≡ in_order count ++ drop count before_table = rw (← e) (Q ∙ rw long refl) in
+          let (block, rest) = takes-first (encode_problem version2 both) (drop size before) after l.block P i in
           let (table, table-rest) = takes-first (in_order count) (drop count before_table) after_table l.table table-is (j ∙ e ∙ sym (length-tabulate count (λ x. x))) in
           record {
             call =
@@ -119,7 +119,7 @@ module _ (first second before before_table : List ℕ) (b : Bytes first) (b' : B
                   order = in_order count;
                   orders = orders;
                   answer = rw answers (ap₂ (λ (x y : ℕ). answered (record { block = x; table = y })) i (j ∙ e ∙ sym c));
-                  out = rw (answers, same-order) P.is;
+                  out = rw (answers, same-order) P;
                   table = rw (answers, c) table-is;
                 };
             promised =

@@ -5,7 +5,6 @@ pub mod Members
 pub mod Sizes
 pub mod Checking
 pub mod Putting
-pub mod Table
 pub mod Acting
 pub mod Running
 pub mod Pairs

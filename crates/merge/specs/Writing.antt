@@ -1,15 +1,10 @@
--- What writing leaves in a buffer.
-use Rattle.std.specs.Prelude.{◌≡◌, List, [], ◌∷◌, ◌++◌, ℕ, ◌-◌, length, drop}
+-- The pieces in which a merged problem is written.
+use Rattle.std.specs.Prelude.{List, [], ◌∷◌, ◌++◌, ℕ, ◌-◌, length}
 use Rattle.model.specs.Action.{Effect, tabulate}
 use Rattle.model.specs.Limits.{version2}
 use Rattle.model.specs.Read.{head_bytes, bytes_of}
 use Rattle.model.specs.FormulaBytes.{literal_byte, encode_formula}
 use Rattle.model.specs.ProblemBytes.{Problem, encode_problem}
-
--- the bytes stand at the buffer's begin, and the answer is how many they are; the rest is as it was
-pub record Puts (bytes before : List ℕ) (n : ℕ) (after : List ℕ) : Type 0 where
-  pub size : n ≡ length bytes
-  pub is : after ≡ bytes ++ drop (length bytes) before
 
 abbrev pub effect_bytes : Effect → List ℕ
 effect_bytes e = literal_byte e.literal ∷ encode_formula e.condition
@@ -19,6 +14,6 @@ abbrev pub in_order : ℕ → List ℕ
 in_order m = tabulate m (λ i. i)
 
 -- what stands before a problem's initial formula, in version 2
-abbrev pub problem_head : Problem → List ℕ
+unfoldable pub problem_head : Problem → List ℕ
 problem_head r =
     version2.version ∷ (bytes_of 4 (length (encode_problem version2 r) - head_bytes) ++ (r.facts ∷ length r.actions ∷ []))

@@ -3,7 +3,7 @@ use crate::both::Both;
 use crate::write::{put_actions, put_both};
 use blocks::Problem;
 use model::{Fault, Limits, Problem as Bounds, Refusal};
-use numbers::put_number;
+use numbers::Writer;
 
 // Both are sound; what they are together may be over a limit, which `check` tells.
 #[derive(Clone, Copy)]
@@ -13,13 +13,14 @@ pub struct Halls<'a> {
 }
 
 impl<'a> Halls<'a> {
-    ghost use Rattle.std.specs.Prelude.{◌≡◌, ◌≤◌, length};
+    ghost use Rattle.std.specs.Prelude.{◌≡◌, length};
     ghost use Rattle.model.specs.Limits.{version2};
     ghost use Rattle.model.specs.Answer.{answered};
     ghost use Rattle.model.specs.ProblemBytes.{encode_problem};
     ghost use Rattle.model.specs.Merging.{sized};
+    ghost use Rattle.numbers.specs.Writing.{HasRoom, Writes};
     ghost use Rattle.merge.specs.Views.{both_of, halls_of, ChecksSize};
-    ghost use Rattle.merge.specs.Writing.{Puts, problem_head};
+    ghost use Rattle.merge.specs.Writing.{problem_head};
 
     // Which limit of a problem they are over together, if they are.
     pub fn check(&self) -> Result<(), Refusal>
@@ -75,28 +76,27 @@ impl<'a> Halls<'a> {
     }
 
     // What stands before the initial formula: the header, and the counts of facts and of actions.
-    fn put_head(&self, out: &mut [u8])
-        requires { 7 ≤ length out.old }
-        ensures { Puts (problem_head (halls_of self.now)) out.old 7 out.new }
+    #[tactic(auto, unfolding(crate::specs::Writing::problem_head))]
+    fn put_head(&self, writer: &mut Writer)
+        requires { HasRoom writer.old (problem_head (halls_of self.now)) }
+        ensures { Writes writer.old (problem_head (halls_of self.now)) writer.new }
     {
         let body = self.len() - Limits::HEAD_BYTES;
-        out[0] = Limits::version2().version;
-        put_number(&mut out[1..Limits::HEAD_BYTES], body as u64);
-        out[Limits::HEAD_BYTES] = self.facts();
-        out[Limits::HEAD_BYTES + 1] = self.actions();
+        writer.put(Limits::version2().version);
+        writer.put_number(body as u64, Limits::HEAD_BYTES - 1);
+        writer.put_pair(self.facts(), self.actions());
     }
 
     // Writes their problem, of version 2.
-    pub fn put(&self, out: &mut [u8])
+    pub fn put(&self, writer: &mut Writer)
         requires sized { sized (halls_of self.now) ≡ answered (halls_of self.now) }
-        requires room { length (encode_problem version2 (halls_of self.now)) ≤ length out.old }
-        ensures { Puts (encode_problem version2 (halls_of self.now)) out.old (length (encode_problem version2 (halls_of self.now))) out.new }
+        requires room { HasRoom writer.old (encode_problem version2 (halls_of self.now)) }
+        ensures { Writes writer.old (encode_problem version2 (halls_of self.now)) writer.new }
     {
-        self.put_head(out);
-        let begin = Bounds::BEGIN;
-        let goal = begin + put_both(&mut out[begin..], self.initial());
-        let first = goal + put_both(&mut out[goal..], self.goal());
-        let second = first + put_actions(&mut out[first..], self.first, 0);
-        put_actions(&mut out[second..], self.second, self.first.facts);
+        self.put_head(writer);
+        put_both(writer, self.initial());
+        put_both(writer, self.goal());
+        put_actions(writer, self.first, 0);
+        put_actions(writer, self.second, self.first.facts);
     }
 }

@@ -1,22 +1,24 @@
 // Merging two halls.
-ghost use Rattle.std.specs.Prelude.{◌≤◌, length};
+ghost use Rattle.std.specs.Prelude.{◌≤◌};
 ghost use Rattle.model.specs.Calls.{MergeCall};
 ghost use Rattle.model.specs.Answers.{plain_answer};
 ghost use Rattle.merge.specs.Promise.{MergePromised};
-ghost use Rattle.merge.specs.Writing.{Puts, in_order};
+ghost use Rattle.numbers.specs.Writing.{HasRoom, Writes};
+ghost use Rattle.merge.specs.Writing.{in_order};
 
 use crate::halls::Halls;
 use blocks::Problem;
 use model::{Fault, Lengths, Refusal};
+use numbers::Writer;
 
 // Each of so many actions keeps its number.
-fn put_table(table: &mut [u8], count: usize)
+fn put_table(writer: &mut Writer, count: usize)
     requires few { count ≤ 64 }
-    requires room { count ≤ length table.old }
-    ensures { Puts (in_order count) table.old count table.new }
+    requires room { HasRoom writer.old (in_order count) }
+    ensures { Writes writer.old (in_order count) writer.new }
 {
     for number in 0..count {
-        table[number] = number as u8;
+        writer.put(number as u8);
     }
 }
 
@@ -46,7 +48,7 @@ pub fn merge(
     if out.len() < lengths.block || table.len() < lengths.table {
         return Err(Fault::MergeRoom.at(0));
     }
-    halls.put(out);
-    put_table(table, lengths.table);
+    halls.put(&mut Writer { out, at: 0 });
+    put_table(&mut Writer { out: table, at: 0 }, lengths.table);
     Ok(lengths)
 }

@@ -1,2 +1,3 @@
 -- Laws for several functions' proofs.
 pub mod Bytes
+pub mod Writing

@@ -1,8 +1,12 @@
 // Numbers in bytes, the highest first, and the numbers of a case.
 #![tactic(auto)]
 
+pub mod writer;
+
 ghost use Rattle.std.specs.Prelude.{◌≡◌, ◌+◌, ◌-◌, ◌%◌, ◌^◌, ◌≤◌, ◌<◌, length};
 ghost use Rattle.model.specs.Read.{big_endian, bytes_of};
+
+pub use writer::Writer;
 
 // The number that these bytes make.
 pub fn read_number(bytes: &[u8]) -> u64

@@ -1,7 +1,9 @@
-use Rattle.std.proofs.Common.{◌≡◌, refl, sym, ◌∙◌, arith, length}
+use Rattle.std.proofs.Common.{◌≡◌, refl, rules, sym, ◌∙◌, List, ℕ, arith, length}
 use Rattle.std.proofs.lemmas.Result.{err_from_is_err_and}
 use Rattle.model.specs.Answer.{refused}
 use Rattle.model.specs.Merging.{halls, roomy}
+use Rattle.model.proofs.Laws.Tabulate.{length-tabulate}
+use Rattle.numbers.proofs.Writing.{writes-first}
 use Rattle.blocks.specs.Values.{problem}
 use Rattle.blocks.proofs.Promise.{of-slice}
 use Rattle.merge.proofs.Sound.{sized-fits, halls-count}
@@ -50,13 +52,19 @@ put_table-requires-clause-few c =
     let k = sized-fits _ (sym c.in_ok-check.ensures) in
     omega (arith, k.count, c.actions.ensures)
 
+pub put_table-requires-clause-room : goal.put_table-requires-clause-room
+put_table-requires-clause-room c = omega (arith, length-tabulate c.actions.result (λ i. i))
+
 pub returns : goal.returns
 returns c =
     let r = halls (problem c.in_ok-first.first) (problem c.in_ok-second.second) in
     let room = has-room r (length c.args.out.now) (length c.args.table.now) (omega (arith, c.len.ensures, c.if-out-lengths.false)) (omega (arith, c.actions.ensures, c.if-table-lengths.false)) in
-    let a =
+    let same = c.put.ensures.same in
+    let same-table = c.put_table.ensures.same in
+    let a = λ (after after_table : List ℕ) (e : after ≡ c.put.new.writer.out.now) (f : after_table ≡ c.put_table.new.writer.out.now).
     wrote c.args.first.now c.args.second.now c.args.out.now c.args.table.now (of-slice _ c.type_inv.first) (of-slice _ c.type_inv.second) _ _ c.in_ok-first.ensures.read c.in_ok-second.ensures.read
-    c.in_ok-check.ensures _ _ c.put.ensures c.actions.result
-    (c.actions.ensures ∙ halls-count (problem c.in_ok-first.first) (problem c.in_ok-second.second)) _ c.put_table.ensures room (record { block = c.len.result; table = c.actions.result })
+    c.in_ok-check.ensures after (e ∙ writes-first c.put.ensures refl (omega (arith, c.len.ensures, c.if-out-lengths.false))) c.actions.result
+    (c.actions.ensures ∙ halls-count (problem c.in_ok-first.first) (problem c.in_ok-second.second)) after_table
+    (f ∙ writes-first c.put_table.ensures refl (omega (arith, length-tabulate c.actions.result (λ i. i)))) room (record { block = c.len.result; table = c.actions.result })
     c.len.ensures refl in
-    record { merged = a.call; promised = a.promised }
+    record { merged = (a _ _ (search rules) (search rules)).call; promised = (a _ _ (search rules) (search rules)).promised }

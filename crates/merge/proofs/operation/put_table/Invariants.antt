@@ -1,7 +1,7 @@
--- the numbers so far, and what was there before
-use Rattle.std.proofs.Common.{◌≡◌, ◌++◌, drop}
+-- the numbers so far were written
+use Rattle.numbers.specs.Writing.{Writes}
 use Rattle.merge.specs.Writing.{in_order}
 use Rattle.merge.proofs.operation.put_table.Given as goal
 
 abbrev pub invariant-loop-number : goal.invariant-loop-number
-invariant-loop-number l = l.table ≡ in_order l.number ++ drop l.number l.initial.table
+invariant-loop-number l = Writes l.fn.writer (in_order l.number) l.writer

@@ -1,39 +1,31 @@
-use Rattle.std.proofs.Common.{◌≤◌, ◌<◌, arith, length}
-use Rattle.model.specs.ProblemBytes.{action_bytes}
-use Rattle.model.specs.Merging.{moved_action}
+use Rattle.std.proofs.Common.{refl, rules, ap, ℕ, ◌≤◌, ◌<◌, arith, length, length-append}
+use Rattle.numbers.proofs.Writing.{remains-whole, remains-none, remains-more, writes-lent}
 use Rattle.fields.specs.Actions.{action}
 use Rattle.blocks.proofs.Tasks.{action-count}
 use Rattle.blocks.specs.Values.{problem}
-use Rattle.merge.proofs.Writing.{written-none, written-all, written-as, written-room, written-space, written-rest, moved-action-length, moved-actions-length, next-action, no-action}
+use Rattle.merge.proofs.Writing.{next-action, no-action}
 use Rattle.merge.proofs.write.put_actions.Goals as goal
 
 pub loop-step-init : goal.loop-step-init
-loop-step-init c = written-none _ _ (omega (arith, c.requires.room, moved-actions-length c.args.shift (problem c.args.problem.now).actions))
+loop-step-init c = remains-whole c.requires.room
 
-pub slice_bounds-put_action-count : goal.slice_bounds-put_action-count
-slice_bounds-put_action-count c = omega (arith, written-room _ _ _ _ _ c.loop-step.invariant)
-
-pub slice_bounds-put_action-start : goal.slice_bounds-put_action-start
-slice_bounds-put_action-start c = slice_bounds-put_action-count c
-
-pub put_action-at-requires-clause-room : goal.put_action-at-requires-clause-room
-put_action-at-requires-clause-room c =
-    let n = c.args.shift in
-    let a = action c.get.result in
+pub put_action-requires-clause-room : goal.put_action-requires-clause-room
+put_action-requires-clause-room c =
     let as' = (problem c.args.problem.now).actions in
-    let h : c.loop-step.step < length as' = omega (arith, action-count c.args.problem.now, c.loop-step-test.true) in
-    let w = written-as _ _ _ _ _ _ (next-action n as' c.loop-step.step a h c.get.ensures.is) c.loop-step.invariant in
-    omega (arith, written-space _ _ _ _ (action_bytes (moved_action n a)) _ w, moved-action-length n a)
+    let h : c.loop-step.step < length as' = omega (arith c.args.problem.now, c.loop-step-test.true) in
+    let e = next-action c.args.shift as' c.loop-step.step (action c.get.result) h c.get.ensures.is in
+    omega (arith, c.loop-step.invariant.room, ap length e, length-append {A = ℕ})
 
 pub loop-step-preserved : goal.loop-step-preserved
 loop-step-preserved c =
     let as' = (problem c.args.problem.now).actions in
-    let h : c.loop-step.step < length as' = omega (arith, action-count c.args.problem.now, c.loop-step-test.true) in
-    let w = written-as _ _ _ _ _ _ (next-action c.args.shift as' c.loop-step.step (action c.get.result) h c.get.ensures.is) c.loop-step.invariant in
-    written-rest _ _ _ _ _ _ _ _ w c.put_action-at.ensures
+    let h : c.loop-step.step < length as' = omega (arith c.args.problem.now, c.loop-step-test.true) in
+    remains-more c.loop-step.invariant c.put_action.ensures (next-action c.args.shift as' c.loop-step.step (action c.get.result) h c.get.ensures.is)
 
 pub returns : goal.returns
 returns c =
     let as' = (problem c.args.problem.now).actions in
-    let h : length as' ≤ c.loop-step.step = omega (arith, action-count c.args.problem.now, c.loop-step-test.false) in
-    written-all _ _ _ _ (written-as _ _ _ _ _ _ (no-action c.args.shift c.loop-step.step as' h) c.loop-step.invariant)
+    let h : length as' ≤ c.loop-step.step = omega (arith c.args.problem.now, c.loop-step-test.false) in
+    let w = remains-none c.loop-step.invariant (no-action c.args.shift c.loop-step.step as' h) in
+    let same = w.same in
+    writes-lent _ _ w refl refl refl refl (search rules)

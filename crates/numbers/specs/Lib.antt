@@ -1,0 +1,2 @@
+-- What the functions of this crate leave in a buffer.
+pub mod Writing
