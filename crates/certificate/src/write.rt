@@ -1,7 +1,7 @@
 // Writing the list. The walk goes twice: first to know, under the grant and keeping no line, and then to write, so that a refusal changes no
 // byte.
 ghost use Rattle.std.specs.Prelude.{◌≡◌, ◌+◌, ◌≤◌, length};
-ghost use Rattle.std.proofs.lemmas.List.Edits.{sets};
+ghost use Rattle.numbers.specs.Writing.{HasRoom, Writes};
 ghost use Rattle.model.specs.Limits.{limits_of};
 ghost use Rattle.model.specs.Read.{head_bytes};
 ghost use Rattle.model.specs.Walk.{walked};
@@ -14,16 +14,16 @@ ghost use Rattle.certificate.specs.Writing.{head_of, WritesTask};
 
 use blocks::{Problem, Task};
 use model::{Fault, Limits, Refusal};
-use numbers::put_number;
+use numbers::Writer;
 use walk::{Page, Stopped, Unkept, walk_task};
 
 // A block's version and the length of its body.
-fn put_header(out: &mut [u8], limits: Limits, body: u64)
-    requires { head_bytes ≤ length out.old }
-    ensures { out.new ≡ sets out.old 0 (head_of limits body) }
+fn put_header(writer: &mut Writer, limits: Limits, body: u64)
+    requires { HasRoom writer.old (head_of limits body) }
+    ensures { Writes writer.old (head_of limits body) writer.new }
 {
-    out[0] = limits.version;
-    put_number(&mut out[1..Limits::HEAD_BYTES], body);
+    writer.put(limits.version);
+    writer.put_number(body, Limits::HEAD_BYTES - 1);
 }
 
 // The block of a right plan's list, whose length is known.
@@ -31,7 +31,7 @@ fn write_task(task: &Task, grant: u64, body: usize, out: &mut [u8])
     requires { head_bytes + body ≤ length out.old }
     ensures { WritesTask task.now.problem.now.limits (walked (task_of task.now)) grant body out.old out.new }
 {
-    put_header(out, task.problem.limits, body as u64);
+    put_header(&mut Writer { out, at: 0 }, task.problem.limits, body as u64);
     let mut page = Page {
         out,
         at: Limits::HEAD_BYTES,
