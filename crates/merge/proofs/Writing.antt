@@ -1,5 +1,5 @@
 -- The bytes of formulas and actions whose facts are moved up, piece after piece. Assumes nothing.
-use Rattle.std.proofs.Common.{◌≡◌, refl, sym, ap, ◌∙◌, Bool, true, false, cond, List, [], ◌∷◌, ◌++◌, append_assoc, append-nil, map, ℕ, zero, suc, ◌+◌, ◌-◌, ◌≤◌, ◌<◌, arith, length, length-append, slice_index, drop, ltb, ltb-false, eqb, eqb-true}
+use Rattle.std.proofs.Common.{◌≡◌, refl, sym, ap, ◌∙◌, Bool, true, false, cond, List, [], ◌∷◌, ◌++◌, append_assoc, append-nil, map, ℕ, zero, suc, ◌+◌, ◌-◌, ◌≤◌, ◌<◌, arith, length, length-append, drop, ltb, ltb-false, eqb, eqb-true}
 use Rattle.std.proofs.lemmas.List.{drop_all, drop_more}
 use lib.ListN.{length-map}
 use Rattle.model.specs.Read.{bytes_of}
@@ -9,13 +9,9 @@ use Rattle.model.specs.FormulaBytes.{Group, conjunction, disjunction, grouped, m
 use Rattle.model.specs.ProblemBytes.{action_at, effects_bytes, action_bytes, actions_bytes}
 use Rattle.model.specs.Merging.{moved_literal, moved, moved_members, moved_effect, moved_action, joined, parts}
 use Rattle.model.proofs.Laws.Reading.{length-bytes_of}
-use Rattle.model.proofs.Laws.Tabulate.{length-tabulate}
 use Rattle.formula.specs.Views.{formulas}
 use Rattle.formula.specs.Decoding.{first, after}
 use Rattle.formula.proofs.Sizes.{sizes}
-use Rattle.fields.specs.ActionBytes.{action_of}
-use Rattle.blocks.specs.Values.{problem}
-use Rattle.blocks.specs.declared.problem.Problem.{Problem as View}
 use Rattle.merge.specs.declared.both.Both.{Both}
 use Rattle.merge.specs.Views.{both_of}
 use Rattle.merge.specs.Writing.{effect_bytes}
