@@ -4,6 +4,7 @@ pub mod Heads
 pub mod Items
 pub mod Lengths
 pub mod Decoding
+pub mod Counting
 pub mod Encoding
 pub mod Leaves
 pub mod Sizes
