@@ -1,15 +1,14 @@
 -- The states that are told are those of the run. Assumes nothing.
-use Rattle.std.proofs.Common.{◌≡◌, sym, ap, ◌∙◌, List, ◌++◌, ℕ, ◌+◌, ◌-◌, ◌≤◌, arith, length, take, drop, Ok, Err}
+use Rattle.std.proofs.Common.{◌≡◌, sym, ap, ◌∙◌, List, map, ◌++◌, ℕ, ◌+◌, ◌-◌, ◌≤◌, arith, length, take, drop, Ok, Err}
 use lib.ListN.{length-map}
 use Rattle.std.proofs.lemmas.List.{take-append-drop}
 use Rattle.std.proofs.Math.Nat.{min-eq_left}
 use Rattle.model.specs.Limits.{limits_of, max_steps}
-use Rattle.model.specs.Answer as Answer
 use Rattle.model.specs.Answer.{answered}
 use Rattle.model.specs.Case.{Task, state_of}
 use Rattle.model.specs.Read.{head_bytes, bytes_of, block}
 use Rattle.model.specs.ProblemBytes.{action_at, encode_plan}
-use Rattle.model.specs.Relevance.{run_states, run_rows, rows, work_bytes}
+use Rattle.model.specs.Relevance.{number_of, run_states, run_rows, rows, work_bytes}
 use Rattle.model.specs.WellFormed.{Bytes}
 use Rattle.model.specs.Operations.{task_of, read_task, read_both}
 use Rattle.model.proofs.Laws.Tasks.{answer-then}
@@ -19,6 +18,7 @@ use Rattle.model.proofs.Laws.Relevance.{start-length}
 use Rattle.model.proofs.Laws.Lists.{n≤w}
 use Rattle.model.proofs.Guarantees.{guarantees-of, read-sound, limits-sensible}
 use Rattle.answers.specs.declared.answer.Answer.TheVariants as answer
+use Rattle.reply.specs.StateLines.{numbered_states}
 use Rattle.reply.proofs.Stating.{states-numbered}
 use Rattle.ask.specs.Commands.{rows_buffer, states_of}
 use Rattle.ask.specs.TellsRun.{TellsTheRun}
@@ -57,5 +57,7 @@ tells-the-run N b T s set after bp bq h (Ok m, call, same) =
     let begins : after ≡ rows (run_states T s) ++ drop need after =
     sym (take-append-drop need after) ∙ ap (λ (x : List ℕ). x ++ drop need after) (ap (take need) k.1 ∙ held) in
     let states = states-size T.facts T.plan (state_of T.width T.facts s) (start-length T (n≤w F (limits-sensible problem) T ok) s) in
-    rw (states-counted T b.plan.now size few s, begins, ok.width)
-    (states-numbered N F T.facts 0 (run_states T s) (drop need after) states)
+    let widths : numbered_states N F T.facts 0 (map (number_of F.width) (run_states T s)) ≡ numbered_states N F T.facts 0 (map (number_of T.width) (run_states T s)) =
+    ap (λ (w : ℕ). numbered_states N F T.facts 0 (map (number_of w) (run_states T s))) (sym ok.width) in
+    rw (states-counted T b.plan.now size few s, begins)
+    (states-numbered N F T.facts 0 (run_states T s) (drop need after) states ∙ widths)

@@ -1,8 +1,8 @@
--- The lanes of a block, which the code's words show. Assumes nothing.
-use Rattle.std.proofs.Common.{◌≡◌, refl, ◌∙◌, Bool, true, ◌&&◌, List, [], ◌∷◌, ℕ, zero, suc, ◌+◌, ◌-◌, ◌≤◌, ◌<◌, arith, length, get_or, length-set, get_or-set_same, get_or-set_other, eqb, eqb-true}
+-- The lanes of a block: the parts of a lane are that lane with its next fact fixed, and the code's words show them. Assumes nothing.
+use Rattle.std.proofs.Common.{◌≡◌, refl, ap, ◌∙◌, Bool, true, cond, ◌&&◌, List, [], ◌∷◌, ℕ, zero, suc, ◌+◌, ◌*◌, ◌-◌, ◌^◌, ◌≤◌, ◌<◌, arith, length, get_or, set, length-set, get_or-set_same, get_or-set_other, set-set, eqb, eqb-true, eq-eqb, ne_eqb}
 use native.Mathlib.Decide.{ℕ_discrete}
-use lib.Seq.{set-get_or}
-use Rattle.model.specs.Kleene.{Kleene, No, Unknown}
+use lib.Seq.{set-get_or, set_comm}
+use Rattle.model.specs.Kleene.{Kleene, No, Unknown, Yes, known}
 use Rattle.model.specs.Action.{every}
 use Rattle.model.proofs.Laws.Conflicts.{every-at}
 use Rattle.model.specs.Planes.{lane_bit, some_bit, sure_bit, InLanes}
@@ -36,6 +36,32 @@ level-lanes e h =
           record { is_some = eqb-true _ _ a; is_sure = eqb-true _ _ b };
     }
 
+-- a value as a number
+abbrev code : Kleene → ℕ
+code t = some_bit t + sure_bit t
+
+code-inj : (t u : Kleene) → code t ≡ code u → t ≡ u
+code-inj No No e = refl
+code-inj No Unknown e = absurd (omega arith)
+code-inj No Yes e = absurd (omega arith)
+code-inj Unknown No e = absurd (omega arith)
+code-inj Unknown Unknown e = refl
+code-inj Unknown Yes e = absurd (omega arith)
+code-inj Yes No e = absurd (omega arith)
+code-inj Yes Unknown e = absurd (omega arith)
+code-inj Yes Yes e = refl
+
+-- lane 2i + x, for a lane i of level e, has x for the fact of its level, and for every other what lane i has
+abbrev part_value : ℕ → ℕ → ℕ → ℕ → Kleene
+part_value e i x l = cond (eqb l e) (known (eqb x 1)) (level_value l i)
+
+abbrev parts : ℕ → ℕ → ℕ → ℕ → Bool
+parts e y x l = eqb (code (level_value l (2 * (2 ^ e + y) + x))) (code (part_value e (2 ^ e + y) x l))
+
+all-parts : every 5 (λ e. every (2 ^ e) (λ y. every 2 (λ x. every 5 (parts e y x)))) ≡ true
+unfolding every level_value path_of
+all-parts = refl
+
 -- ---- the case in a lane
 
 module _ (root : List Kleene) (k : ℕ) where
@@ -57,6 +83,40 @@ module _ (root : List Kleene) (k : ℕ) where
   block-root zero h = refl
   block-root (suc d) h =
       rw (block-root d (λ f a b. h f a (omega arith)), ← h (k + d) (omega arith) (omega arith), set-get_or)
+
+-- the parts of lane i, before the fact of its level is set and from there on
+module _ (e i x : ℕ) (small : e < 5) (lo : 2 ^ e ≤ i) (hi : i < 2 ^ suc e) (b : x < 2) where
+  level-part : (l : ℕ) → l < 5 → level_value l (2 * i + x) ≡ part_value e i x l
+  level-part l h =
+      let z : i ≡ 2 ^ e + (i - 2 ^ e) = omega arith in
+      let t = every-at 2 _ (every-at (2 ^ e) _ (every-at 5 _ all-parts e small) (i - 2 ^ e) (omega arith)) x b in
+      rw z (code-inj _ _ (eqb-true _ _ (every-at 5 _ t l h)))
+
+  module _ (root : List Kleene) (k : ℕ) where
+    part-above : (d : ℕ) → d ≤ e → block_case root k d (2 * i + x) ≡ block_case root k d i
+    unfolding block_case
+    part-above zero h = refl
+    part-above (suc d) h = rw (level-part d (omega arith), ne_eqb d e (λ z. omega arith), part-above d (omega arith))
+
+    part : (d : ℕ) → d ≤ 5 → e < d → block_case root k d (2 * i + x) ≡ set (block_case root k d i) (k + e) (known (eqb x 1))
+    unfolding block_case
+    part zero few h = absurd (omega arith)
+    part (suc d) few h =
+        elim (ℕ_discrete d e) [
+          | yes z ↦ rw (level-part d (omega arith), eq-eqb d e z, part-above d (omega arith), ← z, set-set)
+          | no n ↦
+              let m : k + e ≡ k + d → ⊥ = λ y. n (omega arith) in
+              rw (level-part d (omega arith), ne_eqb d e n, part d (omega arith) (omega arith), set_comm (block_case root k d i) (k + e) (k + d))
+        ]
+
+module _ (root : List Kleene) (k d e i : ℕ) (few : d ≤ 5) (inner : e < d) (lo : 2 ^ e ≤ i) (hi : i < 2 ^ suc e) (room : k + d ≤ length root) where
+  pub part_no : block_case root k d (2 * i) ≡ set (block_case root k d i) (k + e) No
+  part_no =
+      let z : 2 * i ≡ 2 * i + 0 = omega arith in
+      ap (block_case root k d) z ∙ part e i 0 (omega arith) lo hi (omega arith) root k d few inner
+
+  pub part-yes : block_case root k d (2 * i + 1) ≡ set (block_case root k d i) (k + e) Yes
+  part-yes = part e i 1 (omega arith) lo hi (omega arith) root k d few inner
 
 -- ---- from a case to its block
 

@@ -51,11 +51,7 @@ impl Covered {
     pub fn number(self) -> u128
         ensures { result ≡ self }
     {
-        if self.full {
-            1 << 64
-        } else {
-            self.end as u128
-        }
+        if self.full { 1 << 64 } else { self.end as u128 }
     }
 
     // Whether it ends at this number, so that a line that begins there covers what comes next.

@@ -7,7 +7,7 @@ use Rattle.model.specs.Run.{missed}
 use Rattle.model.specs.Read.{block}
 use Rattle.model.specs.Walk.{right, wrong}
 use Rattle.model.specs.Text.{hex}
-use Rattle.model.specs.Trials.{Hold, read-problem, judge_with, cover-after, relevant-facts, relevant-facts-sparse, merge-in, not_merged, desk, number, verdict, text, Row, ◌⇒◌, wrote, no_step, step-0, grant, block1, accepts, refuses, initially, stalls_at, idle}
+use Rattle.model.specs.Trials.{Hold, read-problem, judge_with, cover-after, relevant-facts, relevant-facts-sparse, desk, number, verdict, text, Row, ◌⇒◌, wrote, no_step, step-0, grant, block1, accepts, refuses, initially, stalls_at, idle}
 
 -- so many effects, each on condition fact 0, from a literal byte on
 abbrev rising : ℕ → ℕ → List ℕ
@@ -28,14 +28,6 @@ deep =
 -- an "any" of 255 members
 abbrev 81ff : List ℕ
 81ff = hex "81 ff" ++ replicate 255 0
-
--- one fact, and so many actions of 776 bytes, whose preconditions are the "all" of three such
-abbrev heavy_actions : ℕ → List ℕ
-heavy_actions zero = []
-heavy_actions (suc m) = hex "0305 80 03" ++ (81ff ++ (81ff ++ (81ff ++ (0 ∷ heavy_actions m))))
-
-abbrev heavy : ℕ → List ℕ
-heavy m = block 2 (1 ∷ m ∷ (hex "0001 00 0001 00" ++ heavy_actions m))
 
 -- so many steps of action 0
 abbrev long_plan : ℕ → List ℕ
@@ -111,9 +103,6 @@ sizes =
     ∷ (judge_with deep2 no_step grant ⇒ verdict (answered (right 65 129)))
     ∷ (judge_with never2 no_step grant ⇒ verdict (answered (wrong 0xffffffffffffffff missed 129)))
     ∷ (relevant-facts deep2 no_step 0xffffffffffffffff (replicate 64 7) ⇒ wrote 1 (replicate 64 1))
-    -- two halls in one block of 32,611 bytes, which fits, and in one of 33,387
-    ∷ (merge-in [] (heavy 21) (heavy 21) [] [] ⇒ not_merged 86 0 [] [])
-    ∷ (merge-in [] (heavy 22) (heavy 21) [] [] ⇒ not_merged 85 0 [] [])
     ∷ []
 
 pub record SizesHold : Type 0 where

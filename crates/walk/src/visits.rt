@@ -128,7 +128,8 @@ fn walk_below<L: Lines>(
     walked
 }
 
-// The walk of a whole task, from the case that fixes no fact.
+// The walk of a whole task, from the case that fixes no fact. Whoever walks twice has one walk's tables on the stack at a time.
+#[inline(never)]
 pub fn walk_task<L: Lines>(task: &Task, grant: u64, lines: &mut L) -> Result<Closed, Stopped>
     ensures { Walks (L.gives task.now.problem.now.limits) (walked (task_of task.now)) grant lines.old result lines.new }
 {

@@ -23,45 +23,66 @@ pub fn literal(literal: Literal) -> u8 {
     literal.fact + if literal.denied { DENIAL } else { 0 }
 }
 
-/// A formula's bytes without its length.
-pub fn bare(formula: &Formula) -> Vec<u8> {
+fn put_bare(bytes: &mut Vec<u8>, formula: &Formula) {
     match formula {
-        Formula::Literal(l) => vec![literal(*l)],
+        Formula::Literal(l) => bytes.push(literal(*l)),
         Formula::Group(kind, members) => {
             let mark = match kind {
                 Kind::All => 0x80,
                 Kind::Any => 0x81,
             };
-            let mut bytes = vec![mark, members.len() as u8];
-            bytes.extend(members.iter().flat_map(bare));
-            bytes
+            bytes.extend([mark, members.len() as u8]);
+            for member in members {
+                put_bare(bytes, member);
+            }
         }
     }
 }
 
+fn put_formula(bytes: &mut Vec<u8>, formula: &Formula) {
+    let start = bytes.len();
+    bytes.extend([0, 0]);
+    put_bare(bytes, formula);
+    let length = (bytes.len() - start - 2) as u16;
+    bytes[start..start + 2].copy_from_slice(&length.to_be_bytes());
+}
+
+fn put_action(bytes: &mut Vec<u8>, action: &Action) {
+    put_formula(bytes, &action.precondition);
+    bytes.push(action.effects.len() as u8);
+    for effect in &action.effects {
+        bytes.push(literal(effect.literal));
+        put_formula(bytes, &effect.condition);
+    }
+}
+
+/// A formula's bytes without its length.
+pub fn bare(formula: &Formula) -> Vec<u8> {
+    let mut bytes = Vec::new();
+    put_bare(&mut bytes, formula);
+    bytes
+}
+
 /// A formula with its length before it.
 pub fn formula(formula: &Formula) -> Vec<u8> {
-    let bare = bare(formula);
-    let mut bytes = (bare.len() as u16).to_be_bytes().to_vec();
-    bytes.extend(bare);
+    let mut bytes = Vec::new();
+    put_formula(&mut bytes, formula);
     bytes
 }
 
 pub fn action(action: &Action) -> Vec<u8> {
-    let mut bytes = formula(&action.precondition);
-    bytes.push(action.effects.len() as u8);
-    for effect in &action.effects {
-        bytes.push(literal(effect.literal));
-        bytes.extend(formula(&effect.condition));
-    }
+    let mut bytes = Vec::new();
+    put_action(&mut bytes, action);
     bytes
 }
 
 pub fn problem(problem: &Problem) -> Vec<u8> {
     let mut body = vec![problem.facts, problem.actions.len() as u8];
-    body.extend(formula(&problem.initial));
-    body.extend(formula(&problem.goal));
-    body.extend(problem.actions.iter().flat_map(action));
+    put_formula(&mut body, &problem.initial);
+    put_formula(&mut body, &problem.goal);
+    for action in &problem.actions {
+        put_action(&mut body, action);
+    }
     block(&problem.version, &body)
 }
 
