@@ -1,3 +1,5 @@
 -- Laws of the definitions, for the functions' proofs.
 pub mod Failing
 pub mod TellsRun
+pub mod Known
+pub mod AskedAgain

@@ -2,3 +2,4 @@
 pub mod Asked
 pub mod Commands
 pub mod TellsRun
+pub mod AskedAgain

@@ -1,5 +1,5 @@
 // The command that makes blocks of a text.
-ghost use Rattle.std.specs.Prelude.{◌≡◌, length, option_map, IfOk};
+ghost use Rattle.std.specs.Prelude.{◌≡◌, ◌&&◌, is_none, length, option_map, IfOk};
 ghost use Rattle.std.specs.String.{string_bytes};
 ghost use Rattle.reply.specs.Making.{made_text, made_reply, GivesMade, made_of};
 
@@ -17,6 +17,13 @@ use std::alloc::AllocError;
 pub struct Made {
     pub reply: Reply,
     pub plan: Option<Vec<u8>>,
+}
+
+// Whether a plan is wanted that is not there.
+fn lacks_plan(blocks: &Blocks, wanted: bool) -> bool
+    ensures { result ≡ (wanted && is_none blocks.now.plan) }
+{
+    wanted && blocks.plan.is_none()
 }
 
 impl Telling<'_> {
@@ -39,7 +46,7 @@ impl Telling<'_> {
     fn made(&self, blocks: Blocks, wanted: bool) -> Result<Made, Unanswered>
         ensures { GivesMade (made_reply self.now.json wanted blocks.problem.items (option_map (λ p. p.items) blocks.plan)) result }
     {
-        if wanted && blocks.plan.is_none() {
+        if lacks_plan(&blocks, wanted) {
             return Err(Unanswered::NoPlan);
         }
         let text = self.made_text(blocks.problem.len())?;

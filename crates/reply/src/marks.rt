@@ -11,6 +11,13 @@ fn is_mark(byte: u8) -> bool
     byte == b'0' || byte == b'1'
 }
 
+// Whether there is one for each fact.
+fn are_enough(marks: &[u8], facts: u8) -> bool
+    ensures { result ≡ eqb (length marks.now) facts }
+{
+    marks.len() == facts as usize
+}
+
 // Whether each is a 0 or a 1.
 fn are_marks(marks: &[u8]) -> bool
     ensures { result ≡ are_marks marks.now }
@@ -39,7 +46,7 @@ pub fn state_number(bytes: &[u8], one: u8, width: u8) -> u64
 pub fn marked_state(marks: &[u8], facts: Facts) -> Option<u64>
     ensures { result ≡ marked_state facts.limits.width facts.count marks.now }
 {
-    if marks.len() != facts.count as usize || !are_marks(marks) {
+    if !are_enough(marks, facts.count) || !are_marks(marks) {
         return None;
     }
     Some(state_number(marks, b'1', facts.limits.width))

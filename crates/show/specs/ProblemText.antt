@@ -1,6 +1,8 @@
 -- A problem and a plan as a text that a person can read and change.
-use Rattle.std.specs.Prelude.{Bool, true, false, cond, List, [], ◌∷◌, ◌++◌, ℕ, zero, suc, codes, decimal}
+use Rattle.std.specs.Prelude.{Bool, true, false, cond, List, [], ◌∷◌, ◌++◌, ℕ, zero, suc, eqb, codes, decimal}
 use Rattle.model.specs.declared.Limits.{Limits}
+use Rattle.model.specs.declared.marks.Group.{Group}
+use Rattle.model.specs.declared.marks.Group.TheVariants.{All, Any}
 use Rattle.model.specs.Formula.{Literal, fact, denial, Formula, lit, all, any, none, more}
 use Rattle.model.specs.Action.{Effect, Action}
 use Rattle.model.specs.ProblemBytes.{Problem}
@@ -13,6 +15,11 @@ is_always (lit l) = false
 is_always (all none) = true
 is_always (all (more m ms)) = false
 is_always (any ms) = false
+
+-- whether the group of so many members is such a formula
+abbrev pub is_all_of_none : Group → ℕ → Bool
+is_all_of_none All n = eqb n 0
+is_all_of_none Any n = false
 
 module _ (N : Names) where
   -- a formula after a word, or nothing where it is always true

@@ -4,23 +4,26 @@ ghost use Rattle.formula.specs.Views.{formula as formula_of};
 ghost use Rattle.names.specs.Views.{names as names_of};
 ghost use Rattle.show.specs.ProblemText as text;
 
-use formula::{Formula, Members, Next};
+use formula::{Formula, Next};
 use model::Group;
 use names::{Names, push_formula};
 use std::alloc::AllocError;
 
-// Whether a formula is the "all" of nothing.
+// Whether a group of so many members is the "all" of nothing.
+fn is_all_of_none(group: Group, count: u8) -> bool
+    ensures { result ≡ text.is_all_of_none group count }
+{
+    group == Group::All && count == 0
+}
+
+// Whether a formula is.
 fn is_always(formula: Formula) -> bool
     ensures { result ≡ text.is_always (formula_of formula.entry) }
 {
-    matches!(
-        formula.alone().next(),
-        Next::Group(Members {
-            group: Group::All,
-            count: 0,
-            ..
-        })
-    )
+    match formula.alone().next() {
+        Next::Group(members) => is_all_of_none(members.group, members.count),
+        Next::Literal(..) => false,
+    }
 }
 
 // Appends what an action asks for, on a line of its own.
