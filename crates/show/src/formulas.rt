@@ -9,14 +9,14 @@ use model::Group;
 use names::{Names, push_formula};
 use std::alloc::AllocError;
 
-// Whether a group of so many members is the "all" of nothing.
+// Whether a group of this kind, with so many members, is the "all" of nothing, which is always true.
 fn is_all_of_none(group: Group, count: u8) -> bool
     ensures { result ≡ text.is_all_of_none group count }
 {
     group == Group::All && count == 0
 }
 
-// Whether a formula is.
+// Whether a formula is the "all" of nothing.
 fn is_always(formula: Formula) -> bool
     ensures { result ≡ text.is_always (formula_of formula.entry) }
 {
