@@ -271,11 +271,12 @@ larkhammock_answer larkhammock_search_plans(
  * first's: their numbers go up by the first hall's fact count. The initial
  * formula is the "all" of both initial formulas, the first hall's part first,
  * where an "all" is taken apart into its members and any other formula is one
- * member. The goal is made of both goals in the same way. The actions are those
- * of both halls, in an order that is the library's choice. The front of table
- * tells it: one byte each, the new numbers of the first hall's actions in
- * order, and then those of the second's. Bytes past the block and past the
- * table keep their values.
+ * member. The goal is made of both goals in the same way. The actions are the
+ * first hall's in their old order, and then the second's in theirs. The front
+ * of table holds one byte each: the new numbers of the first hall's actions in
+ * order, and then those of the second's. An action's number is its place among
+ * those of both halls, so the bytes are 0, 1, 2 and so on. Bytes past the block
+ * and past the table keep their values.
  */
 larkhammock_answer larkhammock_merge(
     const uint8_t *first, size_t first_len,

@@ -1,14 +1,11 @@
 -- The eight words of each answer of the C interface: word 0 tells what kind of answer it is, and words that an answer does not use are 0
-use Rattle.std.specs.Prelude.{◌≡◌, List, [], ◌∷◌, ℕ, length, get_or, Result}
+use Rattle.std.specs.Prelude.{List, [], ◌∷◌, ℕ, length, get_or}
 use Rattle.model.specs.Answer.{Answer, refused, answered}
 use Rattle.model.specs.Run.{Part, at_member, at_fact, Outcome, reached, missed, blocked}
 use Rattle.model.specs.Walk.{Verdict, right, wrong, undecided}
 use Rattle.model.specs.Search.{Search, first_right, none_right, undecided_at}
-use Rattle.model.specs.Answers.{plain_answer}
-use Rattle.model.specs.Calls.{MergeCall}
 use Rattle.model.specs.declared.Counts.{Counts}
 use Rattle.model.specs.declared.Lengths.{Lengths}
-use Rattle.model.specs.declared.Refusal.{Refusal}
 
 abbrev words : ℕ → ℕ → ℕ → ℕ → ℕ → List ℕ
 words tag a b c d = tag ∷ a ∷ b ∷ c ∷ d ∷ 0 ∷ 0 ∷ 0 ∷ []
@@ -81,9 +78,3 @@ search_words (answered r) = searched_words r
 abbrev pub merge_words : Answer Lengths → List ℕ
 merge_words (refused n q) = refusal_words n q
 merge_words (answered l) = words 1 l.block l.table 0 0
-
--- the words of a merge, which is one for some order, as both buffers are after it
-pub record MergeAnswers (first second before before_table word after after_table : List ℕ) : Type 0 where
-  pub result : Result Lengths Refusal
-  pub call : MergeCall first second before before_table result after after_table
-  pub words : word ≡ merge_words (plain_answer result)

@@ -7,7 +7,8 @@ ghost use Rattle.model.specs.Limits.{limits_of};
 ghost use Rattle.model.specs.Answers.{plain_answer, part as part_of, outcome as meaning, verdict as verdict_of, search_end};
 ghost use Rattle.model.specs.Faults.{fault_number};
 ghost use Rattle.model.specs.Operations.{read_problem, read_plan, run_state, judge, write_list, follow_list, relevant_facts, relevant_facts_sparse, search_plans};
-ghost use Rattle.larkhammock.specs.Words.{refusal_words, part_word, part_number, end_words, wrong_words, verdict_words, problem_words, count_words, run_words, judge_words, plan_words, searched_words, search_words, merge_words, MergeAnswers};
+ghost use Rattle.model.specs.Merging.{merge};
+ghost use Rattle.larkhammock.specs.Words.{refusal_words, part_word, part_number, end_words, wrong_words, verdict_words, problem_words, count_words, run_words, judge_words, plan_words, searched_words, search_words, merge_words};
 
 use model::{Lengths, Outcome, Part, Refusal, Search, ShortPlan, Verdict};
 
@@ -263,7 +264,9 @@ pub extern "C" fn larkhammock_merge(
     out: &mut [u8],
     table: &mut [u8],
 ) -> Answer
-    ensures { MergeAnswers first.now second.now out.old table.old result.word out.new table.new }
+    ensures word { result.word ≡ merge_words (merge first.now second.now out.old table.old).answer }
+    ensures block { out.new ≡ (merge first.now second.now out.old table.old).out }
+    ensures table { table.new ≡ (merge first.now second.now out.old table.old).table }
 {
     merged(merge::merge(first, second, out, table))
 }

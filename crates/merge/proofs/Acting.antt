@@ -1,7 +1,9 @@
--- What the actions of each hall do in a state that is made of one of each hall. Assumes nothing.
-use Rattle.std.proofs.Common.{◌≡◌, refl, sym, ap, ◌∙◌, Bool, true, false, cond, ◌&&◌, not, List, [], ◌∷◌, ◌++◌, map, ℕ, zero, suc, ◌+◌, ◌≤◌, ◌<◌, length, get_or, arith}
+-- What a hall's actions do in a state of the merged problem: its own values stand there between n others and some more. The first hall's have none
+-- before them, and the second's none after. Assumes nothing.
+use Rattle.std.proofs.Common.{◌≡◌, refl, sym, ap, ap₂, ◌∙◌, ◌⊎◌, inl, inr, Bool, true, false, cond, ◌&&◌, not, List, [], ◌∷◌, ◌++◌, append-nil, map, ℕ, zero, suc, ◌+◌, ◌-◌, ◌≤◌, ◌<◌, length, get_or, arith}
 use Rattle.std.proofs.lemmas.List.{get_or_append_left, get_or-append-add}
 use Rattle.std.proofs.lemmas.Bool.{ne_eqb}
+use native.Mathlib.Decide.{dec_lt}
 use Rattle.model.specs.declared.Limits.{Limits}
 use Rattle.model.specs.Kleene.{two}
 use Rattle.model.specs.Formula.{Literal, fact, denial, Formula, Formulas, lit, all, any, none, more, value_of, eval, eval_all, eval_any}
@@ -11,55 +13,227 @@ use Rattle.model.specs.WellFormed.{Declared, Formed, FormedAll, FormulaOk, Effec
 use Rattle.model.specs.Merging.{moved_literal, moved, moved_members, moved_effect, moved_action, parts, joined, both}
 use Rattle.model.proofs.Laws.Truth.{and_assoc, and_one}
 use Rattle.model.proofs.Laws.Tabulate.{tabulate-below}
-use Rattle.model.proofs.Laws.Conflicts.{every-same, lowest-is, lowest-false}
+use Rattle.model.proofs.Laws.Conflicts.{every-at, every-all, lowest-is, lowest-false}
 use Rattle.merge.specs.Beside.{moved_part}
+use Rattle.merge.proofs.Sound.{zero-formula, zero-action}
 
--- ---- formulas
+-- ---- numbers below n, m numbers from n on, and k more
 
-value-first : (n : ℕ) (s t : List Bool) → length s ≡ n → (l : Literal) → Declared n l → value_of two (s ++ t) l ≡ value_of two s l
-value-first n s t e (fact f) h = let k : f < length s = omega arith in get_or_append_left s t false f k
-value-first n s t e (denial f) h = let k : f < length s = omega arith in ap not (get_or_append_left s t false f k)
+-- f is true of all but the m in the middle, of which it says what g says of those below m
+module _ (n m k : ℕ) (f g : ℕ → Bool) (else-true : (i : ℕ) → (i < n) ⊎ (n + m ≤ i) → f i ≡ true) (same : (i : ℕ) → i < m → f (n + i) ≡ g i) where
+  -- so what holds of both holds of each
+  between : (P : Bool → Type 0) → P true → (low : ℕ) → ((i : ℕ) → i < low → P (g i)) → low ≤ m → (i : ℕ) → i < n + low → P (f i)
+  between P t low h l i j =
+      elim (dec_lt i n) [
+        | yes b ↦ rw (else-true i (inl b)) t
+        | no c ↦
+            let e : n + (i - n) ≡ i = omega arith in
+            rw (sym e) (rw (same (i - n) (omega arith)) (h (i - n) (omega arith)))
+      ]
 
-value-second : (n : ℕ) (s t : List Bool) → length s ≡ n → (l : Literal) → value_of two (s ++ t) (moved_literal n l) ≡ value_of two t l
-value-second n s t e (fact f) = rw (sym e) (get_or-append-add s t f false)
-value-second n s t e (denial f) = rw (sym e) (ap not (get_or-append-add s t f false))
+  lowest-between : every m g ≡ false → (every (n + (m + k)) f ≡ false) × (lowest_false (n + (m + k)) f ≡ n + lowest_false m g)
+  lowest-between e =
+      let l = lowest-false m g e in
+      lowest-is (n + (m + k)) f (n + lowest_false m g)
+      (record {
+        below = omega (arith, l.below);
+        here = same _ l.below ∙ l.here;
+        before = between (λ b. b ≡ true) refl (lowest_false m g) l.before (omega (arith, l.below));
+      })
 
-mutual
-  unfolding eval Formed
+  every-between : every (n + (m + k)) f ≡ every m g
+  every-between = by-test (every m g) refl
+    where
+      by-test : (b : Bool) → every m g ≡ b → every (n + (m + k)) f ≡ b
+      by-test false e = (lowest-between e).0
+      by-test true e =
+          every-all (n + (m + k)) f λ i l.
+          elim (dec_lt i (n + m)) [
+            | yes b ↦ between (λ b. b ≡ true) refl m (every-at m g e) (omega arith) i b
+            | no c ↦ else-true i (inr (omega arith))
+          ]
 
-  pub formula-first :
-      (n : ℕ) (s t : List Bool) → length s ≡ n → (f : Formula) → (left parent : ℕ) → Formed n left parent f → eval two (s ++ t) f ≡ eval two s f
-  formula-first n s t e (lit l) left parent h = value-first n s t e l h
-  formula-first n s t e (all ms) left parent h = all-first n s t e ms _ _ h.3
-  formula-first n s t e (any ms) left parent h = any-first n s t e ms _ _ h.3
+tabulate-more : {X : Type 0} (n m : ℕ) (f : ℕ → X) → tabulate (n + m) f ≡ tabulate n f ++ tabulate m (λ i. f (n + i))
+tabulate-more zero m f =
+    let e : zero + m ≡ m = omega arith in
+    rw e (tabulate-below m f (λ i. f (zero + i)) (λ i l. let z : i ≡ zero + i = omega arith in ap f z))
+tabulate-more (suc n) m f =
+    let e : suc n + m ≡ suc (n + m) = omega arith in
+    rw e
+    (ap (λ l. f zero ∷ l)
+    (tabulate-more n m (λ i. f (suc i)) ∙
+    ap (λ l. tabulate n (λ i. f (suc i)) ++ l)
+    (tabulate-below m _ _ (λ i l. let z : suc (n + i) ≡ suc n + i = omega arith in ap f z))))
 
-  all-first :
-      (n : ℕ) (s t : List Bool) → length s ≡ n → (ms : Formulas) → (left parent : ℕ) → FormedAll n left parent ms →
-      eval_all two (s ++ t) ms ≡ eval_all two s ms
-  all-first n s t e none left parent h = refl
-  all-first n s t e (more m ms) left parent h = rw (formula-first n s t e m left parent h.0, all-first n s t e ms left parent h.1)
+-- a list by its values
+tabulate-values : {X : Type 0} (d : X) (xs : List X) (n : ℕ) (f : ℕ → X) → length xs ≡ n → ((i : ℕ) → i < n → f i ≡ get_or xs i d) → tabulate n f ≡ xs
+tabulate-values d [] n f e h = rw (sym e)
+tabulate-values d (x ∷ xs) n f e h =
+    rw (sym e)
+    (ap₂ (λ y l. y ∷ l) (h zero (omega (arith, e)))
+    (tabulate-values d xs (length xs) (λ i. f (suc i)) refl (λ i l. h (suc i) (omega (arith, e)))))
 
-  any-first :
-      (n : ℕ) (s t : List Bool) → length s ≡ n → (ms : Formulas) → (left parent : ℕ) → FormedAll n left parent ms →
-      eval_any two (s ++ t) ms ≡ eval_any two s ms
-  any-first n s t e none left parent h = refl
-  any-first n s t e (more m ms) left parent h = rw (formula-first n s t e m left parent h.0, any-first n s t e ms left parent h.1)
+-- ---- the entries of an action's literals
 
-mutual
-  unfolding eval moved
+same-moved : (n : ℕ) (l k : Literal) → same_literal (moved_literal n l) (moved_literal n k) ≡ same_literal l k
+same-moved n l k = grind (arith, ne_eqb)
 
-  pub formula-second : (n : ℕ) (s t : List Bool) → length s ≡ n → (g : Formula) → eval two (s ++ t) (moved n g) ≡ eval two t g
-  formula-second n s t e (lit l) = value-second n s t e l
-  formula-second n s t e (all ms) = all-second n s t e ms
-  formula-second n s t e (any ms) = any-second n s t e ms
+moved-cond : (n : ℕ) (b : Bool) (f g : Formula) → cond b (moved n f) (moved n g) ≡ moved n (cond b f g)
+moved-cond n b f g = grind arith
 
-  all-second : (n : ℕ) (s t : List Bool) → length s ≡ n → (ms : Formulas) → eval_all two (s ++ t) (moved_members n ms) ≡ eval_all two t ms
-  all-second n s t e none = refl
-  all-second n s t e (more m ms) = rw (formula-second n s t e m, all-second n s t e ms)
+-- a fact that is none of a hall's m, and its denial, have no entry in the hall's actions
+else-fact : (n m f : ℕ) → (f < n) ⊎ (n + m ≤ f) → (k : Literal) → Declared m k → same_literal (fact f) (moved_literal n k) ≡ false
+else-fact n m f h k d = grind (arith, ne_eqb)
 
-  any-second : (n : ℕ) (s t : List Bool) → length s ≡ n → (ms : Formulas) → eval_any two (s ++ t) (moved_members n ms) ≡ eval_any two t ms
-  any-second n s t e none = refl
-  any-second n s t e (more m ms) = rw (formula-second n s t e m, any-second n s t e ms)
+else-denial : (n m f : ℕ) → (f < n) ⊎ (n + m ≤ f) → (k : Literal) → Declared m k → same_literal (denial f) (moved_literal n k) ≡ false
+else-denial n m f h k d = grind (arith, ne_eqb)
+
+else-condition :
+    (n m : ℕ) (l : Literal) → ((k : Literal) → Declared m k → same_literal l (moved_literal n k) ≡ false) → (es : List Effect) (least : ℕ) →
+    EffectsOk m least es → (found : Formula) → condition_in found l (map (moved_effect n) es) ≡ found
+unfolding condition_in
+else-condition n m l h [] least ok found = refl
+else-condition n m l h (e ∷ es) least ok found =
+    ap (λ (c : Bool). condition_in (cond c (moved n e.condition) found) l (map (moved_effect n) es)) (h e.literal ok.0) ∙
+    else-condition n m l h es _ ok.3 found
+
+-- ---- a hall's part of a state, and its formulas and actions, moved up by n
+
+module _ (n m : ℕ) (before own after : List Bool) (size : length before ≡ n) (size' : length own ≡ m) where
+  abbrev values : List Bool
+  values = before ++ (own ++ after)
+
+  own-value : (f : ℕ) → f < m → get_or values (n + f) false ≡ get_or own f false
+  own-value f h =
+      let k : f < length own = omega (arith, h, size') in
+      rw (sym size) (get_or-append-add before (own ++ after) f false ∙ get_or_append_left own after false f k)
+
+  own-literal : (l : Literal) → Declared m l → value_of two values (moved_literal n l) ≡ value_of two own l
+  own-literal (fact f) h = own-value f h
+  own-literal (denial f) h = ap not (own-value f h)
+
+  mutual
+    unfolding eval moved Formed
+
+    own-formula : (f : Formula) (left parent : ℕ) → Formed m left parent f → eval two values (moved n f) ≡ eval two own f
+    own-formula (lit l) left parent h = own-literal l h
+    own-formula (all ms) left parent h = own-all ms _ _ h.3
+    own-formula (any ms) left parent h = own-any ms _ _ h.3
+
+    own-all :
+        (ms : Formulas) (left parent : ℕ) → FormedAll m left parent ms → eval_all two values (moved_members n ms) ≡ eval_all two own ms
+    own-all none left parent h = refl
+    own-all (more x ms) left parent h = rw (own-formula x left parent h.0, own-all ms left parent h.1)
+
+    own-any :
+        (ms : Formulas) (left parent : ℕ) → FormedAll m left parent ms → eval_any two values (moved_members n ms) ≡ eval_any two own ms
+    own-any none left parent h = refl
+    own-any (more x ms) left parent h = rw (own-formula x left parent h.0, own-any ms left parent h.1)
+
+  -- a literal's condition is the one that was found, or that of one of the entries
+  own-condition :
+      (l : Literal) (es : List Effect) (least : ℕ) → EffectsOk m least es → (found : Formula) → eval two values (moved n found) ≡ eval two own found →
+      eval two values (condition_in (moved n found) (moved_literal n l) (map (moved_effect n) es)) ≡ eval two own (condition_in found l es)
+  unfolding condition_in
+  own-condition l [] least ok found same = same
+  own-condition l (x ∷ es) least ok found same =
+      ap
+      (λ (c : Bool). eval two values (condition_in (cond c (moved n x.condition) (moved n found)) (moved_literal n l) (map (moved_effect n) es)))
+      (same-moved n l x.literal) ∙
+      ap (λ (f : Formula). eval two values (condition_in f (moved_literal n l) (map (moved_effect n) es)))
+      (moved-cond n (same_literal l x.literal) x.condition found) ∙
+      own-condition l es _ ok.3 _ (chosen (same_literal l x.literal))
+    where
+      chosen : (b : Bool) → eval two values (moved n (cond b x.condition found)) ≡ eval two own (cond b x.condition found)
+      chosen true = own-formula x.condition _ _ ok.2.formed
+      chosen false = same
+
+  own-unmet : (f : Formula) (left parent : ℕ) → Formed m left parent f → unmet (holds_in two values) (moved n f) ≡ unmet (holds_in two own) f
+  unfolding unmet first_false moved Formed
+  own-unmet (lit l) left parent h = refl
+  own-unmet (any ms) left parent h = refl
+  own-unmet (all ms) left parent h = members ms _ _ h.3
+    where
+      members :
+          (ms : Formulas) (left parent : ℕ) → FormedAll m left parent ms →
+          first_false (holds_in two values) (moved_members n ms) ≡ first_false (holds_in two own) ms
+      members none left parent h = refl
+      members (more x ms) left parent h = rw (own-formula x left parent h.0, members ms left parent h.1)
+
+  module _ (F : Limits) (a : Action) (ok : ActionOk F m a) where
+    abbrev act : Action
+    act = moved_action n a
+
+    own-sets : (f : ℕ) → sets two act values (n + f) ≡ sets two a own f
+    unfolding eval moved
+    own-sets f = own-condition (fact f) a.effects 0 ok.effects (any none) refl
+
+    own-clears : (f : ℕ) → clears two act values (n + f) ≡ clears two a own f
+    unfolding eval moved
+    own-clears f = own-condition (denial f) a.effects 0 ok.effects (any none) refl
+
+    else-sets : (f : ℕ) → (f < n) ⊎ (n + m ≤ f) → sets two act values f ≡ false
+    unfolding eval
+    else-sets f h = rw (else-condition n m (fact f) (else-fact n m f h) a.effects 0 ok.effects (any none))
+
+    else-clears : (f : ℕ) → (f < n) ⊎ (n + m ≤ f) → clears two act values f ≡ false
+    unfolding eval
+    else-clears f h = rw (else-condition n m (denial f) (else-denial n m f h) a.effects 0 ok.effects (any none))
+
+    own-exclusive : (f : ℕ) → f < m → exclusive two act values (n + f) ≡ exclusive two a own f
+    unfolding exclusive
+    own-exclusive f h = rw (own-sets f, own-clears f)
+
+    else-exclusive : (f : ℕ) → (f < n) ⊎ (n + m ≤ f) → exclusive two act values f ≡ true
+    unfolding exclusive
+    else-exclusive f h = rw (else-sets f h)
+
+    own-next : (f : ℕ) → f < m → next two act values (n + f) ≡ next two a own f
+    unfolding next
+    own-next f h = rw (own-sets f, own-clears f, own-value f h)
+
+    else-next : (f : ℕ) → (f < n) ⊎ (n + m ≤ f) → next two act values f ≡ get_or values f false
+    unfolding next
+    else-next f h = rw (else-sets f h, else-clears f h) (and_one _)
+
+    module _ (k : ℕ) (size'' : length after ≡ k) where
+      applies : applicable two (n + (m + k)) act values ≡ applicable two m a own
+      unfolding applicable
+      applies =
+          rw (
+            own-formula a.precondition _ _ ok.precondition.formed,
+            every-between n m k (exclusive two act values) (exclusive two a own) else-exclusive own-exclusive,
+          )
+
+      steps : step two (n + (m + k)) act values ≡ before ++ (step two m a own ++ after)
+      unfolding step
+      steps =
+          let first = tabulate-values false before n (next two act values) size λ i h.
+          else-next i (inl h) ∙ get_or_append_left before (own ++ after) false i (omega (arith, h, size)) in
+          let middle = tabulate-below m (λ i. next two act values (n + i)) (next two a own) own-next in
+          let last = tabulate-values false after k (λ i. next two act values (n + (m + i))) size'' λ i h.
+          else-next (n + (m + i)) (inr (omega arith)) ∙
+          rw (sym size, sym size') (get_or-append-add before (own ++ after) (length own + i) false ∙ get_or-append-add own after i false) in
+          tabulate-more n (m + k) (next two act values) ∙
+          ap₂ (λ x y. x ++ y) first
+          (tabulate-more m k (λ i. next two act values (n + i)) ∙ ap₂ (λ x y. x ++ y) middle last)
+
+      -- what keeps it from being applicable
+      part-is : applicable two m a own ≡ false → part_of two (n + (m + k)) act values ≡ moved_part n (part_of two m a own)
+      unfolding applicable part_of
+      part-is e =
+          rw (own-formula a.precondition _ _ ok.precondition.formed, own-unmet a.precondition _ _ ok.precondition.formed)
+          (by-precondition (eval two own a.precondition) e)
+        where
+          by-precondition :
+              (b : Bool) → (b && every m (exclusive two a own)) ≡ false →
+              cond b (at_fact (lowest_false (n + (m + k)) (exclusive two act values))) (at_member (unmet (holds_in two own) a.precondition)) ≡
+              moved_part n (cond b (at_fact (lowest_false m (exclusive two a own))) (at_member (unmet (holds_in two own) a.precondition)))
+          by-precondition true r =
+              ap at_fact (lowest-between n m k (exclusive two act values) (exclusive two a own) else-exclusive own-exclusive r).1
+          by-precondition false r = refl
+
+-- ---- both halls
 
 joined-holds : (s : List Bool) (ms ns : Formulas) → eval_all two s (joined ms ns) ≡ (eval_all two s ms && eval_all two s ns)
 unfolding eval
@@ -72,303 +246,41 @@ parts-hold s (lit l) = and_one _
 parts-hold s (all ms) = refl
 parts-hold s (any ms) = and_one _
 
-pub both-holds :
-    (n : ℕ) (s t : List Bool) → length s ≡ n → (f g : Formula) → FormulaOk n f →
-    eval two (s ++ t) (both f (moved n g)) ≡ (eval two s f && eval two t g)
-unfolding eval
-both-holds n s t e f g ok =
-    joined-holds (s ++ t) (parts f) (parts (moved n g)) ∙
-    rw (parts-hold (s ++ t) f, parts-hold (s ++ t) (moved n g), formula-first n s t e f _ _ ok.formed, formula-second n s t e g)
-
--- ---- the members of a precondition that are not true
-
-unmet-first :
-    (n : ℕ) (s t : List Bool) → length s ≡ n → (f : Formula) → (left parent : ℕ) → Formed n left parent f →
-    unmet (holds_in two (s ++ t)) f ≡ unmet (holds_in two s) f
-unfolding unmet first_false Formed
-unmet-first n s t e (lit l) left parent h = refl
-unmet-first n s t e (all ms) left parent h = members ms _ _ h.3
-  where
-    members :
-        (ms : Formulas) (left parent : ℕ) → FormedAll n left parent ms → first_false (holds_in two (s ++ t)) ms ≡ first_false (holds_in two s) ms
-    members none left parent h = refl
-    members (more m ms) left parent h = rw (formula-first n s t e m left parent h.0, members ms left parent h.1)
-unmet-first n s t e (any ms) left parent h = refl
-
-unmet-second :
-    (n : ℕ) (s t : List Bool) → length s ≡ n → (g : Formula) → unmet (holds_in two (s ++ t)) (moved n g) ≡ unmet (holds_in two t) g
-unfolding unmet first_false moved
-unmet-second n s t e (lit l) = refl
-unmet-second n s t e (all ms) = members ms
-  where
-    members : (ms : Formulas) → first_false (holds_in two (s ++ t)) (moved_members n ms) ≡ first_false (holds_in two t) ms
-    members none = refl
-    members (more m ms) = rw (formula-second n s t e m, members ms)
-unmet-second n s t e (any ms) = refl
-
--- ---- the conditions of a literal
-
--- a literal past n is none that is declared below it
-not-declared : (n : ℕ) (l k : Literal) → (Declared n l → ⊥) → Declared n k → same_literal l k ≡ false
-not-declared n l k h d = grind (arith, ne_eqb)
-
--- nor is one that is declared below n a moved one, and two moved ones are the same exactly if they were
-not-moved : (n : ℕ) (l k : Literal) → Declared n l → same_literal l (moved_literal n k) ≡ false
-not-moved n l k d = grind (arith, ne_eqb)
-
-both-moved : (n : ℕ) (l k : Literal) → same_literal (moved_literal n l) (moved_literal n k) ≡ same_literal l k
-both-moved n l k = grind (arith, ne_eqb)
-
-moved-cond : (n : ℕ) (b : Bool) (f g : Formula) → cond b (moved n f) (moved n g) ≡ moved n (cond b f g)
-moved-cond n true f g = refl
-moved-cond n false f g = refl
-
--- so a literal past n has no entry in the first hall's actions, one below n none in the second's, and a moved one has its own, moved
-condition-past :
-    (n : ℕ) (l : Literal) → (Declared n l → ⊥) → (es : List Effect) (least : ℕ) → EffectsOk n least es → (found : Formula) →
-    condition_in found l es ≡ found
-unfolding condition_in
-condition-past n l h [] least ok found = refl
-condition-past n l h (e ∷ es) least ok found = rw (not-declared n l e.literal h ok.0) (condition-past n l h es _ ok.3 found)
-
-condition-before :
-    (n : ℕ) (l : Literal) → Declared n l → (es : List Effect) (found : Formula) → condition_in found l (map (moved_effect n) es) ≡ found
-unfolding condition_in
-condition-before n l h [] found = refl
-condition-before n l h (e ∷ es) found =
-    ap (λ (c : Bool). condition_in (cond c (moved n e.condition) found) l (map (moved_effect n) es)) (not-moved n l e.literal h) ∙
-    condition-before n l h es found
-
-condition-moved :
-    (n : ℕ) (l : Literal) (es : List Effect) (found : Formula) →
-    condition_in (moved n found) (moved_literal n l) (map (moved_effect n) es) ≡ moved n (condition_in found l es)
-unfolding condition_in
-condition-moved n l [] found = refl
-condition-moved n l (e ∷ es) found =
-    ap (λ (c : Bool). condition_in (cond c (moved n e.condition) (moved n found)) (moved_literal n l) (map (moved_effect n) es))
-    (both-moved n l e.literal) ∙
-    ap (λ (x : Formula). condition_in x (moved_literal n l) (map (moved_effect n) es)) (moved-cond n (same_literal l e.literal) e.condition found) ∙
-    condition-moved n l es (cond (same_literal l e.literal) e.condition found)
-
--- a literal's condition is the one that was found, or that of one of the entries, which are all formulas of the first hall
-condition-first :
-    (n : ℕ) (s t : List Bool) → length s ≡ n → (l : Literal) (es : List Effect) (least : ℕ) → EffectsOk n least es → (found : Formula) →
-    eval two (s ++ t) found ≡ eval two s found → eval two (s ++ t) (condition_in found l es) ≡ eval two s (condition_in found l es)
-unfolding condition_in
-condition-first n s t e l [] least ok found same = same
-condition-first n s t e l (x ∷ es) least ok found same =
-    condition-first n s t e l es _ ok.3 _ (chosen (same_literal l x.literal))
-  where
-    chosen : (b : Bool) → eval two (s ++ t) (cond b x.condition found) ≡ eval two s (cond b x.condition found)
-    chosen true = formula-first n s t e x.condition _ _ ok.2.formed
-    chosen false = same
-
--- ---- over n facts and m more
-
--- what a rule says past n, a second one says from 0 on
-tabulate-join :
-    {X : Type 0} (n m : ℕ) (f g : ℕ → X) → ((i : ℕ) → f (n + i) ≡ g i) → tabulate (n + m) f ≡ tabulate n f ++ tabulate m g
-tabulate-join zero m f g h =
-    let e : zero + m ≡ m = omega arith in
-    rw e (tabulate-below m f g (λ i l. let z : i ≡ zero + i = omega arith in ap f z ∙ h i))
-tabulate-join (suc n) m f g h =
-    let e : suc n + m ≡ suc (n + m) = omega arith in
-    rw e
-    (ap (λ l. f zero ∷ l) (tabulate-join n m (λ i. f (suc i)) g (λ i. let z : suc (n + i) ≡ suc n + i = omega arith in ap f z ∙ h i)))
-
-tabulate-list : {X : Type 0} (d : X) (xs : List X) (n : ℕ) → length xs ≡ n → tabulate n (λ i. get_or xs i d) ≡ xs
-tabulate-list d [] n e = rw (sym e)
-tabulate-list d (x ∷ xs) n e = rw (sym e) (ap (λ l. x ∷ l) (tabulate-list d xs (length xs) refl))
-
-every-agree : (n : ℕ) (f g : ℕ → Bool) → ((i : ℕ) → f i ≡ g i) → every n f ≡ every n g
-unfolding every
-every-agree zero f g h = refl
-every-agree (suc n) f g h = rw (h zero, every-agree n (λ i. f (suc i)) (λ i. g (suc i)) (λ i. h (suc i)))
-
-every-join :
-    (n m : ℕ) (f g : ℕ → Bool) → ((i : ℕ) → i < n → f i ≡ true) → ((i : ℕ) → f (n + i) ≡ g i) → every (n + m) f ≡ every m g
-unfolding every
-every-join zero m f g k h =
-    let e : zero + m ≡ m = omega arith in rw e (every-agree m f g (λ i. let z : i ≡ zero + i = omega arith in ap f z ∙ h i))
-every-join (suc n) m f g k h =
-    let e : suc n + m ≡ suc (n + m) = omega arith in
-    rw (e, k zero (omega arith))
-    (every-join n m (λ i. f (suc i)) g (λ i l. k (suc i) (omega arith)) (λ i. let z : suc (n + i) ≡ suc n + i = omega arith in ap f z ∙ h i))
-
-lowest-agree : (n : ℕ) (f g : ℕ → Bool) → ((i : ℕ) → f i ≡ g i) → lowest_false n f ≡ lowest_false n g
-unfolding lowest_false
-lowest-agree zero f g h = refl
-lowest-agree (suc n) f g h = rw (h zero, lowest-agree n (λ i. f (suc i)) (λ i. g (suc i)) (λ i. h (suc i)))
-
-lowest-join :
-    (n m : ℕ) (f g : ℕ → Bool) → ((i : ℕ) → i < n → f i ≡ true) → ((i : ℕ) → f (n + i) ≡ g i) →
-    lowest_false (n + m) f ≡ n + lowest_false m g
-unfolding lowest_false
-lowest-join zero m f g k h =
-    let e : zero + m ≡ m = omega arith in
-    let z : zero + lowest_false m g ≡ lowest_false m g = omega arith in
-    rw (e, z) (lowest-agree m f g (λ i. let z : i ≡ zero + i = omega arith in ap f z ∙ h i))
-lowest-join (suc n) m f g k h =
-    let e : suc n + m ≡ suc (n + m) = omega arith in
-    let z : suc n + lowest_false m g ≡ suc (n + lowest_false m g) = omega arith in
-    rw (e, k zero (omega arith), z)
-    (ap suc
-    (lowest-join n m (λ i. f (suc i)) g (λ i l. k (suc i) (omega arith)) (λ i. let z : suc (n + i) ≡ suc n + i = omega arith in ap f z ∙ h i)))
-
--- ---- the actions
-
+-- the values s of the first hall and t of the second
 module _ (n m : ℕ) (s t : List Bool) (size : length s ≡ n) (size' : length t ≡ m) where
-  first-value : (f : ℕ) → f < n → get_or (s ++ t) f false ≡ get_or s f false
-  first-value f h = value-first n s t size (fact f) h
+  first-formula : (f : Formula) (left parent : ℕ) → Formed n left parent f → eval two (s ++ t) f ≡ eval two s f
+  first-formula f left parent h = ap (eval two (s ++ t)) (sym (zero-formula f)) ∙ own-formula 0 n [] s t refl size f left parent h
 
-  second-value : (f : ℕ) → get_or (s ++ t) (n + f) false ≡ get_or t f false
-  second-value f = value-second n s t size (fact f)
+  second-formula : (f : Formula) (left parent : ℕ) → Formed m left parent f → eval two (s ++ t) (moved n f) ≡ eval two t f
+  second-formula f left parent h =
+      ap (λ (c : List Bool). eval two (s ++ c) (moved n f)) (sym (append-nil t)) ∙ own-formula n m s t [] size size' f left parent h
 
-  module _ (F : Limits) (a : Action) (ok : ActionOk F n a) where
-    first-sets : (f : ℕ) → sets two a (s ++ t) f ≡ sets two a s f
-    unfolding eval
-    first-sets f = condition-first n s t size (fact f) a.effects 0 ok.effects (any none) refl
+  pub both-holds : (f g : Formula) → FormulaOk n f → FormulaOk m g → eval two (s ++ t) (both f (moved n g)) ≡ (eval two s f && eval two t g)
+  unfolding eval
+  both-holds f g ok ok' =
+      joined-holds (s ++ t) (parts f) (parts (moved n g)) ∙
+      rw (parts-hold (s ++ t) f, parts-hold (s ++ t) (moved n g), first-formula f _ _ ok.formed, second-formula g _ _ ok'.formed)
 
-    first-clears : (f : ℕ) → clears two a (s ++ t) f ≡ clears two a s f
-    unfolding eval
-    first-clears f = condition-first n s t size (denial f) a.effects 0 ok.effects (any none) refl
+  -- what the merged problem's action does in both, where it is an action of one hall, whose facts are moved up by so much
+  pub record Does (act a : Action) (by own : ℕ) (values then : List Bool) : Type 0 where
+    pub applies : applicable two (n + m) act (s ++ t) ≡ applicable two own a values
+    pub steps : step two (n + m) act (s ++ t) ≡ then
+    pub part : applicable two own a values ≡ false → part_of two (n + m) act (s ++ t) ≡ moved_part by (part_of two own a values)
 
-    -- past n it has no entry
-    first-sets-past : (c : List Bool) (f : ℕ) → n ≤ f → sets two a c f ≡ false
-    unfolding eval
-    first-sets-past c f h = rw (condition-past n (fact f) (λ d. omega arith) a.effects 0 ok.effects (any none))
+  pub first-does : (F : Limits) (a : Action) → ActionOk F n a → Does a a 0 n s (step two n a s ++ t)
+  first-does F a ok =
+      let z : 0 + (n + m) ≡ n + m = omega arith in
+      record {
+        applies = rw (zero-action a, z) at (applies 0 n [] s t refl size F a ok m size');
+        steps = rw (zero-action a, z) at (steps 0 n [] s t refl size F a ok m size');
+        part = rw (zero-action a, z) at (part-is 0 n [] s t refl size F a ok m size');
+      }
 
-    first-clears-past : (c : List Bool) (f : ℕ) → n ≤ f → clears two a c f ≡ false
-    unfolding eval
-    first-clears-past c f h = rw (condition-past n (denial f) (λ d. omega arith) a.effects 0 ok.effects (any none))
-
-    first-exclusive : (f : ℕ) → exclusive two a (s ++ t) f ≡ exclusive two a s f
-    unfolding exclusive
-    first-exclusive f = rw (first-sets f, first-clears f)
-
-    first-exclusive-past : (f : ℕ) → n ≤ f → exclusive two a (s ++ t) f ≡ true
-    unfolding exclusive
-    first-exclusive-past f h = rw (first-sets-past (s ++ t) f h)
-
-    first-next : (f : ℕ) → f < n → next two a (s ++ t) f ≡ next two a s f
-    unfolding next
-    first-next f h = rw (first-sets f, first-clears f, first-value f h)
-
-    first-next-past : (f : ℕ) → next two a (s ++ t) (n + f) ≡ get_or t f false
-    unfolding next
-    first-next-past f =
-        let h : n ≤ n + f = omega arith in
-        rw (first-sets-past (s ++ t) (n + f) h, first-clears-past (s ++ t) (n + f) h, second-value f) (and_one _)
-
-    pub first-applicable : applicable two (n + m) a (s ++ t) ≡ applicable two n a s
-    unfolding applicable
-    first-applicable =
-        rw (
-          formula-first n s t size a.precondition _ _ ok.precondition.formed,
-          every-same n (n + m) (exclusive two a (s ++ t)) (omega arith) (λ i h l. first-exclusive-past i h),
-          every-agree n (exclusive two a (s ++ t)) (exclusive two a s) first-exclusive,
-        )
-
-    pub first-step : step two (n + m) a (s ++ t) ≡ step two n a s ++ t
-    unfolding step
-    first-step =
-        tabulate-join n m (next two a (s ++ t)) (λ i. get_or t i false) first-next-past ∙
-        rw (tabulate-below n (next two a (s ++ t)) (next two a s) first-next, tabulate-list false t m size')
-
-    -- the lowest conflict is below n
-    first-lowest : every n (exclusive two a s) ≡ false → lowest_false (n + m) (exclusive two a (s ++ t)) ≡ lowest_false n (exclusive two a s)
-    first-lowest e =
-        let l = lowest-false n (exclusive two a s) e in
-        (lowest-is (n + m) (exclusive two a (s ++ t)) _
-        (record {
-          below = omega (arith, l.below);
-          here = first-exclusive _ ∙ l.here;
-          before = λ k h. first-exclusive k ∙ l.before k h;
-        })).1
-
-    pub first-part : applicable two n a s ≡ false → part_of two (n + m) a (s ++ t) ≡ part_of two n a s
-    unfolding applicable part_of
-    first-part e =
-        rw (
-          formula-first n s t size a.precondition _ _ ok.precondition.formed,
-          unmet-first n s t size a.precondition _ _ ok.precondition.formed,
-        )
-        (by_precondition (eval two s a.precondition) e)
-      where
-        by_precondition :
-            (b : Bool) → (b && every n (exclusive two a s)) ≡ false →
-            cond b (at_fact (lowest_false (n + m) (exclusive two a (s ++ t)))) (at_member (unmet (holds_in two s) a.precondition)) ≡
-            cond b (at_fact (lowest_false n (exclusive two a s))) (at_member (unmet (holds_in two s) a.precondition))
-        by_precondition true r = ap at_fact (first-lowest r)
-        by_precondition false r = refl
-
-  module _ (b : Action) where
-    -- below n it has no entry
-    second-sets-before : (c : List Bool) (f : ℕ) → f < n → sets two (moved_action n b) c f ≡ false
-    unfolding eval
-    second-sets-before c f h = rw (condition-before n (fact f) h b.effects (any none))
-
-    second-clears-before : (c : List Bool) (f : ℕ) → f < n → clears two (moved_action n b) c f ≡ false
-    unfolding eval
-    second-clears-before c f h = rw (condition-before n (denial f) h b.effects (any none))
-
-    second-sets : (f : ℕ) → sets two (moved_action n b) (s ++ t) (n + f) ≡ sets two b t f
-    unfolding moved
-    second-sets f = ap (eval two (s ++ t)) (condition-moved n (fact f) b.effects (any none)) ∙ formula-second n s t size _
-
-    second-clears : (f : ℕ) → clears two (moved_action n b) (s ++ t) (n + f) ≡ clears two b t f
-    unfolding moved
-    second-clears f = ap (eval two (s ++ t)) (condition-moved n (denial f) b.effects (any none)) ∙ formula-second n s t size _
-
-    second-exclusive-before : (f : ℕ) → f < n → exclusive two (moved_action n b) (s ++ t) f ≡ true
-    unfolding exclusive
-    second-exclusive-before f h = rw (second-sets-before (s ++ t) f h)
-
-    second-exclusive : (f : ℕ) → exclusive two (moved_action n b) (s ++ t) (n + f) ≡ exclusive two b t f
-    unfolding exclusive
-    second-exclusive f = rw (second-sets f, second-clears f)
-
-    second-next-before : (f : ℕ) → f < n → next two (moved_action n b) (s ++ t) f ≡ get_or s f false
-    unfolding next
-    second-next-before f h =
-        rw (second-sets-before (s ++ t) f h, second-clears-before (s ++ t) f h, first-value f h) (and_one _)
-
-    second-next : (f : ℕ) → next two (moved_action n b) (s ++ t) (n + f) ≡ next two b t f
-    unfolding next
-    second-next f = rw (second-sets f, second-clears f, second-value f)
-
-    pub second-applicable : applicable two (n + m) (moved_action n b) (s ++ t) ≡ applicable two m b t
-    unfolding applicable
-    second-applicable =
-        rw (
-          formula-second n s t size b.precondition,
-          every-join n m (exclusive two (moved_action n b) (s ++ t)) (exclusive two b t) second-exclusive-before second-exclusive,
-        )
-
-    pub second-step : step two (n + m) (moved_action n b) (s ++ t) ≡ s ++ step two m b t
-    unfolding step
-    second-step =
-        tabulate-join n m (next two (moved_action n b) (s ++ t)) (next two b t) second-next ∙
-        rw (
-          tabulate-below n (next two (moved_action n b) (s ++ t)) (λ i. get_or s i false) second-next-before,
-          tabulate-list false s n size,
-        )
-
-    -- it is so in every state, but asked only where the action is not applicable
-    pub second-part :
-        applicable two m b t ≡ false → part_of two (n + m) (moved_action n b) (s ++ t) ≡ moved_part n (part_of two m b t)
-    unfolding part_of
-    second-part e =
-        rw (
-          formula-second n s t size b.precondition,
-          unmet-second n s t size b.precondition,
-          lowest-join n m (exclusive two (moved_action n b) (s ++ t)) (exclusive two b t) second-exclusive-before second-exclusive,
-        )
-        (by_precondition (eval two t b.precondition))
-      where
-        by_precondition :
-            (holds : Bool) →
-            cond holds (at_fact (n + lowest_false m (exclusive two b t))) (at_member (unmet (holds_in two t) b.precondition)) ≡
-            moved_part n (cond holds (at_fact (lowest_false m (exclusive two b t))) (at_member (unmet (holds_in two t) b.precondition)))
-        by_precondition true = refl
-        by_precondition false = refl
+  pub second-does : (F : Limits) (a : Action) → ActionOk F m a → Does (moved_action n a) a n m t (s ++ step two m a t)
+  second-does F a ok =
+      let z : n + (m + 0) ≡ n + m = omega arith in
+      record {
+        applies = rw (append-nil t, z) at (applies n m s t [] size size' F a ok 0 refl);
+        steps = rw (append-nil t, append-nil (step two m a t), z) at (steps n m s t [] size size' F a ok 0 refl);
+        part = rw (append-nil t, z) at (part-is n m s t [] size size' F a ok 0 refl);
+      }

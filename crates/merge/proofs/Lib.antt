@@ -3,12 +3,11 @@ pub mod Sound
 pub mod Writing
 pub mod Members
 pub mod Sizes
-pub mod Checking
 pub mod Putting
 pub mod Acting
+pub mod Steps
 pub mod Running
 pub mod Pairs
-pub mod Orders
-pub mod AnyOrder
+pub mod Together
 pub mod Refusals
 pub mod Answers

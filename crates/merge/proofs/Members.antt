@@ -14,14 +14,9 @@ use Rattle.formula.specs.declared.formulas.Formulas.{Formulas as Bytes}
 use Rattle.formula.specs.declared.formulas.Members.{Members}
 use Rattle.merge.specs.Members.{Whole, PastMembers}
 use Rattle.merge.proofs.Writing.{joined-bytes}
-use Rattle.merge.proofs.Sound.{moved-count, moved-member-bytes}
+use Rattle.merge.proofs.Sound.{moved-count, moved-member-bytes, joined-deepest}
 
 -- ---- where none comes after the first n, they are all
-
-first-whole : (n : ℕ) (ms : Formulas) → after n ms ≡ none → first n ms ≡ ms
-first-whole zero ms e = sym e
-first-whole (suc n) none e = refl
-first-whole (suc n) (more m ms) e = ap (more m) (first-whole n ms e)
 
 count-whole : (n : ℕ) (ms : Formulas) → n ≤ member_count ms → after n ms ≡ none → member_count ms ≡ n
 count-whole zero ms h e = ap member_count e
@@ -45,11 +40,11 @@ module _ {f : Formula} {ms : Formulas} (m : Members) (g : m.group ≡ All) (one 
   is-all : f ≡ all (members m)
   is-all = let i : f ≡ group m = cc in rw g at i
 
-  pub all-parts : formulas m.formulas ≡ parts f
-  all-parts = rw is-all (sym (first-whole m.count (formulas m.formulas) nothing-after))
-
   pub all-whole : Whole m
   all-whole = count-whole m.count (formulas m.formulas) m.few nothing-after
+
+  pub all-parts : formulas m.formulas ≡ parts f
+  all-parts = rw is-all (sym (members-whole m all-whole))
 
 pub parts-moved : (n : ℕ) (f : Formula) → parts (moved n f) ≡ moved_members n (parts f)
 unfolding moved
@@ -92,11 +87,6 @@ mutual
   moved-deepest : (n : ℕ) (ms : Formulas) → deepest (moved_members n ms) ≡ deepest ms
   moved-deepest n none = refl
   moved-deepest n (more m ms) = rw (moved-depth n m, moved-deepest n ms)
-
-joined-deepest : (ms ns : Formulas) → deepest (joined ms ns) ≡ max (deepest ms) (deepest ns)
-unfolding depth
-joined-deepest none ns = omega arith
-joined-deepest (more m ms) ns = omega (arith, joined-deepest ms ns)
 
 both-depth : (n : ℕ) (ms ns : Formulas) → depth (all (joined ms (moved_members n ns))) ≡ suc (max (deepest ms) (deepest ns))
 unfolding depth
@@ -211,8 +201,7 @@ module _ (f : Formula) where
 
   pub over-depth : max_depth < depth f → is_over f ≡ true
   unfolding is_over
-  over-depth h =
-      rw (lt-ltb max_depth (depth f) h, or-true (ltb max_members (member_count (parts f)))) (or-true (ltb max_formula_bytes (length (formula_bytes f))))
+  over-depth h = grind (arith, lt-ltb, or-true)
 
   pub over-none : length (formula_bytes f) ≤ max_formula_bytes → member_count (parts f) ≤ max_members → is_over f ≡ ltb max_depth (depth f)
   unfolding is_over

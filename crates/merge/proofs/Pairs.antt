@@ -1,59 +1,16 @@
 -- A state of a merged problem is a pair of states, and its plans are right where both halls' are. Assumes nothing.
-use Rattle.std.proofs.Common.{◌≡◌, sym, ap, ap₂, ◌∙◌, ◌↔◌, Bool, false, ◌&&◌, List, ◌++◌, ℕ, suc, ◌+◌, ◌-◌, ◌*◌, ◌%◌, ◌^◌, ◌≤◌, ◌<◌, arith, mul-div_cancel, pow_pos, length, get_or, take, drop, length-append, length-take, length-drop, ext_get_or}
+use Rattle.std.proofs.Common.{◌≡◌, refl, sym, ap, ap₂, ◌∙◌, ◌↔◌, Bool, ◌&&◌, List, ◌++◌, ℕ, ◌+◌, ◌≤◌, arith, length, take, drop, length-append, length-take, length-drop}
 use Rattle.std.proofs.Math.Seq.{take-append_seam, drop-append_seam}
 use Rattle.std.proofs.lemmas.List.{take-append-drop}
-use lib.ListN.{get_or-eq_default}
-use native.Mathlib.Decide.{dec_lt}
 use Rattle.model.specs.declared.Limits.{Limits}
-use Rattle.model.specs.{Limits.version2, Kleene.two, Formula.eval, Run.Outcome, Run.reached, Run.run}
-use Rattle.model.specs.Case.{bit, state_of, Task, run_of, initially, IsState, IsStart, Right}
-use Rattle.model.specs.{Relevance.number_of, ProblemBytes.Problem, WellFormed.PlanOk, Operations.task_of, Merging.halls}
-use Rattle.model.proofs.Laws.{Tabulate.get_d_tabulate, Truth.and-true, Truth.and_both, Relevance.start-length}
-use Rattle.model.proofs.Laws.Cover.{Block, rescale, pow-half, mod-of-block, block-of-mod}
-use Rattle.model.proofs.Laws.StateNumbers.{number-below, number-block, number_bit, number-of}
-use Rattle.merge.specs.Beside.{of_first, of_second, first_plan, second_plan, in_merged, beside, together, first_alone, second_alone, pair, AreStates, RunsBeside}
-
--- ---- a state and its number
-
--- no bit past the facts of a block is set
-bit-past : (w k s : ℕ) → k < w → Block w k s → bit w s k ≡ false
-unfolding bit
-bit-past w k s h b =
-    let e : s ≡ b.q * 2 * 2 ^ (w - suc k) = omega (arith, b.is ∙ ap (λ (x : ℕ). b.q * x) (pow-half w k h)) in
-    let o : b.q * 2 % 2 ≡ 0 = omega arith in
-    rw (e, mul-div_cancel (b.q * 2) (pow_pos (w - suc k)), o)
-
-module _ (T : Task) (n≤w : T.facts ≤ T.width) where
-  abbrev values : ℕ → List Bool
-  values s = state_of T.width T.facts s
-
-  values-at : (s f : ℕ) → f < T.facts → get_or (values s) f false ≡ bit T.width s f
-  unfolding state_of
-  values-at s f l = get_d_tabulate T.facts (bit T.width s) f false l
-
-  -- a list of as many values as there are facts is a state's
-  number-is-state : (c : List Bool) → length c ≡ T.facts → IsState T (number_of T.width c)
-  number-is-state c e =
-      record {
-        in_width = number-below T.width c (omega arith);
-        no_bits = rw e at (mod-of-block T.width (length c) (number_of T.width c) (number-block T.width c (omega arith)));
-      }
-
-  values-of-number : (c : List Bool) → length c ≡ T.facts → values (number_of T.width c) ≡ c
-  values-of-number c e = grind (arith, (ext_get_or false (values (number_of T.width c)) c), (start-length T n≤w), values-at, (number_bit T.width c))
-
-  -- and a state is known by its values
-  number-of-values : (s : ℕ) → IsState T s → number_of T.width (values s) ≡ s
-  number-of-values s st = sym (number-of T.width s (values s) st.in_width (omega (arith, start-length T n≤w s)) at-bit)
-    where
-      at-bit : (i : ℕ) → i < T.width → bit T.width s i ≡ get_or (values s) i false
-      at-bit i l =
-          elim (dec_lt i T.facts) [
-            | yes h ↦ sym (values-at s i h)
-            | no h ↦
-                let b = rescale T.width T.facts i s (omega arith) (omega arith) (block-of-mod T.width T.facts s st.no_bits) in
-                bit-past T.width i s l b ∙ sym (get_or-eq_default (values s) false (omega (arith, start-length T n≤w s)))
-          ]
+use Rattle.model.specs.{Limits.version2, Run.Outcome, Run.reached}
+use Rattle.model.specs.Case.{state_of, Task, run_of, initially, IsState, IsStart, Right}
+use Rattle.model.specs.{Relevance.number_of, ProblemBytes.Problem, Operations.task_of, Merging.halls}
+use Rattle.model.specs.WellFormed.{PlanOk, ProblemOk, Sensible}
+use Rattle.model.proofs.Laws.{Truth.and-true, Truth.and_both, Relevance.start-length}
+use Rattle.model.proofs.Laws.States.{number-is-state, values-of-number, number-of-values}
+use Rattle.merge.specs.Beside.{of_first, of_second, in_merged, beside, together, first_alone, second_alone, pair, AreStates, RunsBeside}
+use Rattle.merge.proofs.{Acting.both-holds, Steps.first-ok, Steps.second-ok, Running.runs}
 
 -- ---- two lists after one another
 
@@ -69,53 +26,42 @@ both-reached :
     (a b : List Bool) (m n : ℕ) (x y : Outcome) → beside (in_merged a m x) (in_merged b n y) ≡ reached → (x ≡ reached) × (y ≡ reached)
 both-reached a b m n x y e = grind arith
 
-reached-both :
-    (a b : List Bool) (m n : ℕ) (x y : Outcome) → x ≡ reached → y ≡ reached → beside (in_merged a m x) (in_merged b n y) ≡ reached
-reached-both a b m n x y e h = rw (e, h)
-
 -- ---- the merged problem
 
-module _ (order : List ℕ) (F G : Limits) (p q : Problem) (w : p.facts ≤ F.width) (w' : q.facts ≤ G.width) (few : p.facts + q.facts ≤ 64) (plan : List ℕ)
-    (first-ok : PlanOk (length p.actions) (first_plan order (length p.actions) plan))
-    (second-ok : PlanOk (length q.actions) (second_plan order (length p.actions) plan))
-    (at-start : (s t : List Bool) → length s ≡ p.facts → length t ≡ q.facts →
-    eval two (s ++ t) (halls p q).initial ≡ (eval two s p.initial && eval two t q.initial))
-    (runs : (s t : List Bool) → length s ≡ p.facts → length t ≡ q.facts →
-    run two (p.facts + q.facts) (halls p q).goal (together order F G p q plan).plan 0 (s ++ t) ≡
-    beside (in_merged (of_first order (length p.actions) plan) 0 (run two p.facts p.goal (first_alone order F G p q plan).plan 0 s))
-    (in_merged (of_second order (length p.actions) plan) p.facts (run two q.facts q.goal (second_alone order F G p q plan).plan 0 t))) where
+module _ (F G : Limits) (S : Sensible F) (S' : Sensible G) (p q : Problem) (ok : ProblemOk F p) (ok' : ProblemOk G q) (sound : ProblemOk version2 (halls p q))
+    (plan : List ℕ) (h : PlanOk (length p.actions + length q.actions) plan) where
   abbrev whole-task : Task
-  whole-task = together order F G p q plan
+  whole-task = together F G p q plan
 
   abbrev first-task : Task
-  first-task = first_alone order F G p q plan
+  first-task = first_alone F G p q plan
 
   abbrev second-task : Task
-  second-task = second_alone order F G p q plan
+  second-task = second_alone F G p q plan
 
   abbrev firsts : List Bool
-  firsts = of_first order (length p.actions) plan
+  firsts = of_first (length p.actions) plan
 
   abbrev seconds : List Bool
-  seconds = of_second order (length p.actions) plan
+  seconds = of_second (length p.actions) plan
 
   abbrev pair-of : ℕ → ℕ → ℕ
-  pair-of = pair order F G p q plan
+  pair-of = pair F G p q plan
 
   abbrev AreHalves : ℕ → ℕ → Type 0
-  AreHalves = AreStates order F G p q plan
+  AreHalves = AreStates F G p q plan
 
   whole-within : whole-task.facts ≤ whole-task.width
   unfolding task_of
-  whole-within = few
+  whole-within = sound.facts
 
   first-within : first-task.facts ≤ first-task.width
   unfolding task_of
-  first-within = w
+  first-within = omega (arith, S.width, ok.facts)
 
   second-within : second-task.facts ≤ second-task.width
   unfolding task_of
-  second-within = w'
+  second-within = omega (arith, S'.width, ok'.facts)
 
   abbrev first-values : ℕ → List Bool
   first-values s = state_of F.width p.facts s
@@ -176,7 +122,7 @@ module _ (order : List ℕ) (F G : Limits) (p q : Problem) (w : p.facts ≤ F.wi
 
   pair-starts : (s t : ℕ) → initially whole-task (pair-of s t) ≡ (initially first-task s && initially second-task t)
   unfolding task_of initially
-  pair-starts s t = rw (pair-values s t) (at-start (first-values s) (second-values t) (first-length s) (second-length t))
+  pair-starts s t = rw (pair-values s t) (both-holds p.facts q.facts (first-values s) (second-values t) (first-length s) (second-length t) p.initial q.initial ok.initial ok'.initial)
 
   starts-both : (s t : ℕ) → AreHalves s t → IsStart whole-task (pair-of s t) ↔ (IsStart first-task s × IsStart second-task t)
   starts-both s t st = (
@@ -192,7 +138,7 @@ module _ (order : List ℕ) (F G : Limits) (p q : Problem) (w : p.facts ≤ F.wi
       (s t : ℕ) →
       run_of whole-task (pair-of s t) ≡ beside (in_merged firsts 0 (run_of first-task s)) (in_merged seconds p.facts (run_of second-task t))
   unfolding task_of run_of
-  pair-runs s t = rw (pair-values s t) (runs (first-values s) (second-values t) (first-length s) (second-length t))
+  pair-runs s t = rw (pair-values s t) (runs F G p q ok ok' plan h.actions (first-values s) (second-values t) (first-length s) (second-length t))
 
   -- a right plan of the merged problem is right from both parts of a start state
   pair-right :
@@ -212,13 +158,13 @@ module _ (order : List ℕ) (F G : Limits) (p q : Problem) (w : p.facts ≤ F.wi
   right-both : Right first-task → Right second-task → Right whole-task
   right-both r r' u h =
       let (s, t, a, b, e) = start-parts u h in
-      rw e (pair-runs s t ∙ reached-both _ _ 0 p.facts _ _ (r s a) (r' t b))
+      rw e (pair-runs s t ∙ rw (r s a, r' t b) refl)
 
-  pub runs-beside : RunsBeside order F G p q plan
+  pub runs-beside : RunsBeside F G p q plan
   runs-beside =
       record {
-        first_ok = first-ok;
-        second_ok = second-ok;
+        first_ok = first-ok (length p.actions) (length q.actions) plan h;
+        second_ok = second-ok (length p.actions) (length q.actions) plan h;
         is_state = λ s t st. pair-is-state s t;
         is_pair = parts-are;
         one_pair = one-pair;

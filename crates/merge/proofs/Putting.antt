@@ -1,6 +1,5 @@
 -- The merged problem, piece after piece. Assumes nothing.
 use Rattle.std.proofs.Common.{◌≡◌, refl, sym, ap, ◌∙◌, Bool, true, false, List, [], ◌∷◌, ◌++◌, append_assoc, map, ℕ, ◌-◌, ◌≤◌, arith, length, length-append, ltb, ltb-true, ltb-false}
-use mathlib.Core.Bool.{false≢true}
 use Rattle.model.specs.Limits.{version2, max_members}
 use Rattle.model.specs.Formula.{Formula}
 use Rattle.model.specs.Read.{bytes_of, block}
@@ -9,8 +8,7 @@ use Rattle.model.specs.ProblemBytes.{Problem, actions_bytes, encode_problem}
 use Rattle.model.specs.Merging.{moved_action, parts, is_over, halls}
 use Rattle.model.proofs.Laws.Reading.{length-bytes_of}
 use Rattle.merge.specs.Writing.{problem_head}
-use Rattle.merge.proofs.{Members.over-members, Sizes.actions-append}
-use Rattle.merge.proofs.Writing.{zero-actions}
+use Rattle.merge.proofs.{Sound.zero-actions, Sound.not-over, Sizes.actions-append}
 
 pub head-pieces :
     (r : Problem) (v n f a : ℕ) → v ≡ 2 → n ≡ length (encode_problem version2 r) - 5 → f ≡ r.facts → a ≡ length r.actions →
@@ -23,7 +21,7 @@ pub problem-pieces :
     (p q : Problem) (f g : Formula) → f ≡ (halls p q).initial → g ≡ (halls p q).goal →
     encode_problem version2 (halls p q) ≡
     problem_head (halls p q) ++
-    (encode_formula f ++ (encode_formula g ++ (actions_bytes (map (moved_action 0) p.actions) ++ actions_bytes (map (moved_action p.facts) q.actions))))
+    (encode_formula f ++ (encode_formula g ++ actions_bytes (halls p q).actions))
 unfolding encode_problem block problem_head
 problem-pieces p q f g i j =
     let r = halls p q in
@@ -31,15 +29,13 @@ problem-pieces p q f g i j =
     let body = r.facts ∷ length r.actions ∷ rest in
     let size : length (encode_problem version2 r) - 5 ≡ length body =
     omega (arith, length-append (bytes_of 4 (length body)) body, length-bytes_of 4 (length body)) in
-    let seconds = map (moved_action p.facts) q.actions in
-    let same : encode_formula f ++ (encode_formula g ++ (actions_bytes (map (moved_action 0) p.actions) ++ actions_bytes seconds)) ≡ rest =
-    rw (i, j, zero-actions p.actions, actions-append p.actions seconds) refl in
-    sym (ap (λ (x : List ℕ). problem_head r ++ x) same ∙
-    rw size (ap (λ (x : List ℕ). 2 ∷ x) (append_assoc (bytes_of 4 (length body)) (r.facts ∷ length r.actions ∷ []) rest)))
+    rw (i, j, size) (ap (λ (x : List ℕ). 2 ∷ x) (sym (append_assoc (bytes_of 4 (length body)) (r.facts ∷ length r.actions ∷ []) rest)))
+
+-- the actions of both, the first hall's moved up by 0
+pub both-actions :
+    (p q : Problem) →
+    actions_bytes (halls p q).actions ≡ actions_bytes (map (moved_action 0) p.actions) ++ actions_bytes (map (moved_action p.facts) q.actions)
+both-actions p q = rw (zero-actions p.actions) (actions-append p.actions (map (moved_action p.facts) q.actions))
 
 pub few-members : (f g : Formula) → f ≡ g → is_over g ≡ false → member_count (parts f) ≤ max_members
-few-members f g i e = by-test (ltb max_members (member_count (parts f))) refl
-  where
-    by-test : (t : Bool) → ltb max_members (member_count (parts f)) ≡ t → member_count (parts f) ≤ max_members
-    by-test false t = ltb-false _ _ t
-    by-test true t = absurd (false≢true (sym e ∙ ap is_over (sym i) ∙ over-members f (ltb-true _ _ t)))
+few-members f g i e = rw i (not-over g e).members

@@ -6,12 +6,10 @@ use Rattle.model.specs.Answer.{Answer, refused, answered}
 use Rattle.model.specs.ProblemBytes.{Problem, problem_of, encode_problem}
 use Rattle.model.specs.WellFormed.{Bytes, ProblemOk}
 use Rattle.model.specs.Merging.{is_over, halls, sized, roomy, merged_for}
-use Rattle.model.proofs.Guarantees.{limits-sensible}
 use Rattle.model.proofs.Laws.Tasks.{refusal-of}
 use Rattle.model.proofs.Laws.Truth.{or_cases, or-false}
 use Rattle.merge.specs.Promise.{Reads, RefusedFor, by_first, by_second, by_facts, by_actions, by_formula, by_bytes, by_room}
-use Rattle.merge.proofs.AnyOrder.{first-sound, second-sound}
-use Rattle.merge.proofs.Sound as Sound
+use Rattle.merge.proofs.Together.{holds-of-both}
 use Rattle.merge.proofs.Sound.{halls-count}
 
 -- a test that refuses, or the refusal is of what follows it
@@ -66,9 +64,7 @@ module _ (first second : List ℕ) (b : Bytes first) (b' : Bytes second) (room p
         ]
       where
         sound : ProblemOk version2 (halls p q)
-        sound =
-            Sound.halls-sound (limits_of first) (limits_of second) (limits-sensible first) (limits-sensible second) p q
-            (first-sound first second b b' p q reads) (second-sound first second b b' p q reads) s
+        sound = (holds-of-both first second b b' p q reads).exactly.0 s
 
         short :
             (ltb room (length (encode_problem version2 (halls p q))) || ltb places (length (halls p q).actions)) ≡ true →

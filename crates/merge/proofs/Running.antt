@@ -1,14 +1,17 @@
 -- A run of a merged plan is two runs beside one another, where each of its actions does in one hall what it does there alone. Assumes nothing.
-use Rattle.std.proofs.Common.{◌≡◌, refl, sym, ap, ◌∙◌, Bool, true, false, ◌&&◌, List, [], ◌∷◌, ◌++◌, map, ℕ, zero, suc, ◌+◌, ◌-◌, ◌≤◌, ◌<◌, length, arith, ltb, ltb-true, ltb-false}
+use Rattle.std.proofs.Common.{◌≡◌, refl, sym, ap, ◌∙◌, Bool, true, false, ◌&&◌, List, [], ◌∷◌, ◌++◌, map, ℕ, suc, ◌+◌, ◌-◌, ◌<◌, length, arith, ltb, ltb-true, ltb-false}
 use Rattle.model.specs.declared.Limits.{Limits}
 use Rattle.model.specs.Kleene.{Logic, two}
 use Rattle.model.specs.Formula.{Formula, eval}
 use Rattle.model.specs.Action.{Action, applicable, step}
-use Rattle.model.specs.Run.{Part, at_member, at_fact, part_of, Outcome, reached, missed, blocked, at_end, goes_on, run}
-use Rattle.model.specs.WellFormed.{Each, ActionOk}
-use Rattle.model.specs.Merging.{moved_action, old_of}
+use Rattle.model.specs.Run.{Part, part_of, Outcome, reached, missed, blocked, at_end, goes_on, run}
+use Rattle.model.specs.ProblemBytes.{Problem, action_at}
+use Rattle.model.specs.WellFormed.{Each, ProblemOk}
+use Rattle.model.specs.Merging.{halls}
 use Rattle.model.proofs.Laws.Relevance.{step-length}
 use Rattle.merge.specs.Beside.{of_first, of_second, first_plan, second_plan, place_of, moved_part, in_merged, beside}
+use Rattle.merge.proofs.Acting.{both-holds, first-does, second-does}
+use Rattle.merge.proofs.{Sound.each-at, Steps.first-action, Steps.second-action}
 
 -- ---- a run that begins a step later
 
@@ -19,15 +22,13 @@ later missed = missed
 later (blocked p) = blocked (record { step = suc p.step; part = p.part })
 
 end-later : (b : Bool) → at_end b ≡ later (at_end b)
-end-later true = refl
-end-later false = refl
+end-later b = grind arith
 
 goes-later :
     (b : Bool) (o : Outcome) (i : ℕ) (p : Part) →
     goes_on b (later o) (record { step = suc i; part = p }) ≡ later (goes_on b o (record { step = i; part = p }))
 unfolding goes_on
-goes-later true o i p = refl
-goes-later false o i p = refl
+goes-later b o i p = grind arith
 
 pub run-later :
     {X : Type 0} (L : Logic X) (n : ℕ) (goal : Formula) (plan : List Action) (i : ℕ) (c : List X) →
@@ -41,62 +42,39 @@ run-later L n goal (a ∷ plan) i c =
 
 -- a step of the other hall comes first
 place-other : (owns : List Bool) (i : ℕ) → place_of (false ∷ owns) i ≡ suc (place_of owns i)
-place-other owns zero = refl
-place-other owns (suc i) = refl
+place-other owns i = grind arith
 
 in-merged-other : (owns : List Bool) (n : ℕ) (o : Outcome) → in_merged (false ∷ owns) n o ≡ later (in_merged owns n o)
-in-merged-other owns n reached = refl
-in-merged-other owns n missed = refl
-in-merged-other owns n (blocked p) = ap (λ (i : ℕ). blocked (record { step = i; part = moved_part n p.part })) (place-other owns p.step)
+in-merged-other owns n o = grind (arith, place-other)
 
 -- a step of the hall's own comes first
 in-merged-own : (owns : List Bool) (n : ℕ) (o : Outcome) → in_merged (true ∷ owns) n (later o) ≡ later (in_merged owns n o)
-in-merged-own owns n reached = refl
-in-merged-own owns n missed = refl
-in-merged-own owns n (blocked p) = refl
+in-merged-own owns n o = grind arith
 
 beside-later : (x y : Outcome) → beside (later x) (later y) ≡ later (beside x y)
-beside-later reached o = refl
-beside-later missed reached = refl
-beside-later missed missed = refl
-beside-later missed (blocked q) = refl
-beside-later (blocked p) reached = refl
-beside-later (blocked p) missed = refl
-beside-later (blocked p) (blocked q) = grind arith
+beside-later x y = grind arith
 
 -- a hall that is blocked at once is so before the other
 beside-first : (p : Part) (o : Outcome) → beside (blocked (record { step = 0; part = p })) (later o) ≡ blocked (record { step = 0; part = p })
-beside-first p reached = refl
-beside-first p missed = refl
-beside-first p (blocked q) = grind arith
+beside-first p o = grind arith
 
 beside-second : (o : Outcome) (p : Part) → beside (later o) (blocked (record { step = 0; part = p })) ≡ blocked (record { step = 0; part = p })
-beside-second reached p = refl
-beside-second missed p = refl
-beside-second (blocked q) p = grind arith
-
--- the first hall's facts stay where they are
-part-stays : (p : Part) → moved_part 0 p ≡ p
-part-stays (at_member m) = refl
-part-stays (at_fact f) = ap at_fact (omega arith)
+beside-second o p = grind arith
 
 both-ends : (n : ℕ) (b c : Bool) → at_end (b && c) ≡ beside (in_merged [] 0 (at_end b)) (in_merged [] n (at_end c))
-both-ends n true true = refl
-both-ends n true false = refl
-both-ends n false true = refl
-both-ends n false false = refl
+both-ends n b c = grind arith
 
 -- ---- one step of the merged plan
 
 module _ (n : ℕ) (owns others : List Bool) (x y : Outcome) (p p' : Part) where
   -- the first hall's: x is what follows it there, y the second hall's run
   first-turn :
-      (b : Bool) → (b ≡ false → p' ≡ p) →
+      (b : Bool) → (b ≡ false → p' ≡ moved_part 0 p) →
       goes_on b (later (beside (in_merged owns 0 x) (in_merged others n y))) (record { step = 0; part = p' }) ≡
       beside (in_merged (true ∷ owns) 0 (goes_on b (later x) (record { step = 0; part = p }))) (in_merged (false ∷ others) n y)
   unfolding goes_on
   first-turn true h = rw (in-merged-own owns 0 x, in-merged-other others n y) (sym (beside-later (in_merged owns 0 x) (in_merged others n y)))
-  first-turn false h = rw (in-merged-other others n y, h refl, part-stays p) (sym (beside-first p (in_merged others n y)))
+  first-turn false h = rw (in-merged-other others n y, h refl) (sym (beside-first (moved_part 0 p) (in_merged others n y)))
 
   -- the second hall's: x is the first hall's run, y what follows it there
   second-turn :
@@ -109,71 +87,60 @@ module _ (n : ℕ) (owns others : List Bool) (x y : Outcome) (p p' : Part) where
 
 -- ---- a plan
 
--- the merged problem's action b is the one that a hall has by its old number
-pub record IsOne (F : Limits) (n : ℕ) (order : List ℕ) (k : ℕ) (merged-action first-action second-action : ℕ → Action) (b : ℕ) : Type 0 where
-  pub first : old_of order b < k → (merged-action b ≡ first-action (old_of order b)) × ActionOk F n (first-action (old_of order b))
-  pub second : k ≤ old_of order b → merged-action b ≡ moved_action n (second-action (old_of order b - k))
+module _ (F G : Limits) (p q : Problem) (ok : ProblemOk F p) (ok' : ProblemOk G q) where
+  abbrev n : ℕ
+  n = p.facts
 
-module _ (n m : ℕ) (goal goal' whole-goal : Formula) (F : Limits)
-    (at-goal : (s t : List Bool) → length s ≡ n → length t ≡ m → eval two (s ++ t) whole-goal ≡ (eval two s goal && eval two t goal'))
-    (first-applicable :
-    (s t : List Bool) → length s ≡ n → length t ≡ m → (a : Action) → ActionOk F n a → applicable two (n + m) a (s ++ t) ≡ applicable two n a s)
-    (first-step :
-    (s t : List Bool) → length s ≡ n → length t ≡ m → (a : Action) → ActionOk F n a → step two (n + m) a (s ++ t) ≡ step two n a s ++ t)
-    (first-part :
-    (s t : List Bool) → length s ≡ n → length t ≡ m → (a : Action) → ActionOk F n a → applicable two n a s ≡ false →
-    part_of two (n + m) a (s ++ t) ≡ part_of two n a s)
-    (second-applicable :
-    (s t : List Bool) → length s ≡ n → length t ≡ m → (b : Action) → applicable two (n + m) (moved_action n b) (s ++ t) ≡ applicable two m b t)
-    (second-step :
-    (s t : List Bool) → length s ≡ n → length t ≡ m → (b : Action) → step two (n + m) (moved_action n b) (s ++ t) ≡ s ++ step two m b t)
-    (second-part :
-    (s t : List Bool) → length s ≡ n → length t ≡ m → (b : Action) → applicable two m b t ≡ false →
-    part_of two (n + m) (moved_action n b) (s ++ t) ≡ moved_part n (part_of two m b t)) where
-  module _ (order : List ℕ) (k : ℕ) (merged-action first-action second-action : ℕ → Action) where
-    abbrev first-alone : List ℕ → List Bool → Outcome
-    first-alone plan s = run two n goal (map first-action (first_plan order k plan)) 0 s
+  abbrev m : ℕ
+  m = q.facts
 
-    abbrev second-alone : List ℕ → List Bool → Outcome
-    second-alone plan t = run two m goal' (map second-action (second_plan order k plan)) 0 t
+  abbrev k : ℕ
+  k = length p.actions
 
-    abbrev Runs : List ℕ → Type 0
-    Runs plan =
-        (s t : List Bool) → length s ≡ n → length t ≡ m →
-        run two (n + m) whole-goal (map merged-action plan) 0 (s ++ t) ≡
-        beside (in_merged (of_first order k plan) 0 (first-alone plan s)) (in_merged (of_second order k plan) n (second-alone plan t))
+  abbrev first-alone : List ℕ → List Bool → Outcome
+  first-alone plan s = run two n p.goal (map (action_at p.actions) (first_plan k plan)) 0 s
 
-    -- one step more before a plan
-    module _ (b : ℕ) (one : IsOne F n order k merged-action first-action second-action b) (plan : List ℕ) (rest : Runs plan) where
-      -- what follows the step in both halls
-      follows :
-          (s t : List Bool) → length s ≡ n → length t ≡ m →
-          run two (n + m) whole-goal (map merged-action plan) 1 (s ++ t) ≡
-          later (beside (in_merged (of_first order k plan) 0 (first-alone plan s)) (in_merged (of_second order k plan) n (second-alone plan t)))
-      follows s t u v = run-later two (n + m) whole-goal (map merged-action plan) 0 (s ++ t) ∙ ap later (rest s t u v)
+  abbrev second-alone : List ℕ → List Bool → Outcome
+  second-alone plan t = run two m q.goal (map (action_at q.actions) (second_plan k plan)) 0 t
 
-      by-hall : (own : Bool) → ltb (old_of order b) k ≡ own → Runs (b ∷ plan)
-      unfolding run
-      by-hall true h s t u v =
-          let a = first-action (old_of order b) in
-          let (is, ok) = one.first (ltb-true _ _ h) in
-          let s' = step two n a s in
-          rw (h, is, first-applicable s t u v a ok, first-step s t u v a ok, follows s' t (step-length n a s) v)
-          (rw (run-later two n goal (map first-action (first_plan order k plan)) 0 s')
-          (first-turn n (of_first order k plan) (of_second order k plan) (first-alone plan s') (second-alone plan t) _ _ _ (first-part s t u v a ok)))
-      by-hall false h s t u v =
-          let a = second-action (old_of order b - k) in
-          let is = one.second (ltb-false (old_of order b) k h) in
-          let t' = step two m a t in
-          rw (h, is, second-applicable s t u v a, second-step s t u v a, follows s t' u (step-length m a t))
-          (rw (run-later two m goal' (map second-action (second_plan order k plan)) 0 t')
-          (second-turn n (of_first order k plan) (of_second order k plan) (first-alone plan s) (second-alone plan t') _ _ _ (second-part s t u v a)))
+  abbrev merged-run : List ℕ → ℕ → List Bool → Outcome
+  merged-run plan i c = run two (n + m) (halls p q).goal (map (action_at (halls p q).actions) plan) i c
 
-    pub runs :
-        (plan : List ℕ) → Each (IsOne F n order k merged-action first-action second-action) plan → (s t : List Bool) → length s ≡ n → length t ≡ m →
-        run two (n + m) whole-goal (map merged-action plan) 0 (s ++ t) ≡
-        beside (in_merged (of_first order k plan) 0 (run two n goal (map first-action (first_plan order k plan)) 0 s))
-        (in_merged (of_second order k plan) n (run two m goal' (map second-action (second_plan order k plan)) 0 t))
+  -- both halls' runs of a plan, beside one another
+  abbrev both-runs : List ℕ → List Bool → List Bool → Outcome
+  both-runs plan s t = beside (in_merged (of_first k plan) 0 (first-alone plan s)) (in_merged (of_second k plan) n (second-alone plan t))
+
+  abbrev Runs : List ℕ → Type 0
+  Runs plan = (s t : List Bool) → length s ≡ n → length t ≡ m → merged-run plan 0 (s ++ t) ≡ both-runs plan s t
+
+  -- one step more before a plan
+  module _ (b : ℕ) (below : b < k + length q.actions) (plan : List ℕ) (rest : Runs plan) where
+    follows : (s t : List Bool) → length s ≡ n → length t ≡ m → merged-run plan 1 (s ++ t) ≡ later (both-runs plan s t)
+    follows s t u v = run-later two (n + m) (halls p q).goal (map (action_at (halls p q).actions) plan) 0 (s ++ t) ∙ ap later (rest s t u v)
+
+    by-hall : (own : Bool) → ltb b k ≡ own → Runs (b ∷ plan)
     unfolding run
-    runs [] e s t u v = rw (at-goal s t u v) (both-ends n (eval two s goal) (eval two t goal'))
-    runs (b ∷ plan) (one, more) s t u v = by-hall b one plan (runs plan more) (ltb (old_of order b) k) refl s t u v
+    by-hall true h s t u v =
+        let l = ltb-true b k h in
+        let a = action_at p.actions b in
+        let does = first-does n m s t u v F a (each-at _ p.actions b l ok.actions) in
+        let s' = step two n a s in
+        rw (h, first-action p q b l, does.applies, does.steps, follows s' t (step-length n a s) v)
+        (rw (run-later two n p.goal (map (action_at p.actions) (first_plan k plan)) 0 s')
+        (first-turn n (of_first k plan) (of_second k plan) (first-alone plan s') (second-alone plan t) _ _ _ does.part))
+    by-hall false h s t u v =
+        let from = ltb-false b k h in
+        let l : b - k < length q.actions = omega arith in
+        let at-b : k + (b - k) ≡ b = omega arith in
+        let a = action_at q.actions (b - k) in
+        let is = rw at-b at (second-action p q (b - k) l) in
+        let does = second-does n m s t u v G a (each-at _ q.actions (b - k) l ok'.actions) in
+        let t' = step two m a t in
+        rw (h, is, does.applies, does.steps, follows s t' u (step-length m a t))
+        (rw (run-later two m q.goal (map (action_at q.actions) (second_plan k plan)) 0 t')
+        (second-turn n (of_first k plan) (of_second k plan) (first-alone plan s) (second-alone plan t') _ _ _ does.part))
+
+  pub runs : (plan : List ℕ) → Each (λ b. b < k + length q.actions) plan → Runs plan
+  unfolding run
+  runs [] e s t u v = rw (both-holds n m s t u v p.goal q.goal ok.goal ok'.goal) (both-ends n (eval two s p.goal) (eval two t q.goal))
+  runs (b ∷ plan) (below, more) s t u v = by-hall b below plan (runs plan more) (ltb b k) refl s t u v

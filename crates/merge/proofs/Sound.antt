@@ -1,25 +1,64 @@
 -- Two sound problems within the limits make a sound one, and no limit refuses a sound one. Assumes nothing.
-use Rattle.std.proofs.Common.{◌≡◌, refl, ap, ◌∙◌, Bool, false, cond, ◌||◌, List, [], ◌∷◌, map, ℕ, zero, suc, ◌+◌, ◌-◌, ◌≤◌, ◌<◌, arith, length, length-append, ltb, ltb-false, le-ltb}
+use Rattle.std.proofs.Common.{◌≡◌, refl, ap, ◌∙◌, subst, Bool, false, cond, ◌||◌, List, [], ◌∷◌, map, ℕ, zero, suc, ◌+◌, ◌-◌, ◌≤◌, ◌<◌, max, arith, length, length-append, ltb, ltb-false, le-ltb}
 use lib.ListN.{length-map}
 use Rattle.model.specs.declared.Limits.{Limits}
 use Rattle.model.specs.Limits.{version2, max_facts, max_actions, max_problem_bytes, max_formula_bytes, max_members, max_depth}
 use Rattle.model.specs.Answer.{Answer, refused, answered}
 use Rattle.model.specs.Formula.{Literal, fact, denial, Formula, Formulas, lit, all, any, none, more}
-use Rattle.model.specs.Action.{Effect, Action, tabulate}
+use Rattle.model.specs.Action.{Effect, Action}
 use Rattle.model.specs.FormulaBytes.{literal_byte, member_count, formula_bytes, member_bytes}
 use Rattle.model.specs.ProblemBytes.{Problem, action_at, encode_problem}
 use Rattle.model.specs.WellFormed.{Each, Declared, Formed, FormedAll, FormulaOk, EffectsOk, ActionOk, ProblemOk, Sensible}
-use Rattle.model.specs.Merging.{moved_literal, moved, moved_members, moved_effect, moved_action, parts, joined, both, depth, deepest, is_over, halls, IsOrder, old_of, reordered, sized}
-use Rattle.model.proofs.Laws.Plans.{each_append}
-use Rattle.model.proofs.Laws.Tabulate.{length-tabulate}
+use Rattle.model.specs.Merging.{moved_literal, moved, moved_members, moved_effect, moved_action, parts, joined, both, depth, deepest, is_over, halls, sized}
+use Rattle.model.proofs.Laws.Plans.{each_append, each_map}
 use Rattle.model.proofs.Laws.Truth.{or-false}
-use Rattle.merge.specs.Beside.{merged}
 
--- ---- literals and formulas, moved up by n
+-- ---- what is moved up by 0 stays where it is
 
-moved-declared : (n facts : ℕ) (l : Literal) → Declared facts l → Declared (n + facts) (moved_literal n l)
-moved-declared n facts (fact f) d = omega (arith, d)
-moved-declared n facts (denial f) d = omega (arith, d)
+zero-literal : (l : Literal) → moved_literal 0 l ≡ l
+zero-literal (fact f) = let z : 0 + f ≡ f = omega arith in ap fact z
+zero-literal (denial f) = let z : 0 + f ≡ f = omega arith in ap denial z
+
+mutual
+  unfolding moved
+
+  pub zero-formula : (f : Formula) → moved 0 f ≡ f
+  zero-formula (lit l) = ap lit (zero-literal l)
+  zero-formula (all ms) = ap all (zero-members ms)
+  zero-formula (any ms) = ap any (zero-members ms)
+
+  pub zero-members : (ms : Formulas) → moved_members 0 ms ≡ ms
+  zero-members none = refl
+  zero-members (more m ms) = rw (zero-formula m, zero-members ms) refl
+
+zero-effects : (es : List Effect) → map (moved_effect 0) es ≡ es
+zero-effects [] = refl
+zero-effects (e ∷ es) = rw (zero-literal e.literal, zero-formula e.condition, zero-effects es) refl
+
+-- the first hall's actions are among these
+pub zero-action : (a : Action) → moved_action 0 a ≡ a
+zero-action a = rw (zero-formula a.precondition, zero-effects a.effects) refl
+
+pub zero-actions : (as' : List Action) → map (moved_action 0) as' ≡ as'
+zero-actions [] = refl
+zero-actions (a ∷ as') = rw (zero-action a, zero-actions as') refl
+
+-- ---- how deep groups stand in one another
+
+mutual
+  unfolding Formed depth
+
+  formed-depth : (facts left parent : ℕ) (f : Formula) → Formed facts left parent f → depth f ≤ left
+  formed-depth facts left parent (lit l) d = omega arith
+  formed-depth facts left parent (all ms) (o, k, c, a) = omega (arith, formed-deepest facts (left - 1) 0x80 ms a)
+  formed-depth facts left parent (any ms) (o, k, c, a) = omega (arith, formed-deepest facts (left - 1) 0x81 ms a)
+
+  formed-deepest : (facts left parent : ℕ) (ms : Formulas) → FormedAll facts left parent ms → deepest ms ≤ left
+  formed-deepest facts left parent none d = omega arith
+  formed-deepest facts left parent (more m ms) (d, a) =
+      omega (arith, formed-depth facts left parent m d, formed-deepest facts left parent ms a)
+
+-- ---- the part of a hall of m facts, moved up by n, among more facts
 
 pub moved-byte : (n : ℕ) (l : Literal) → literal_byte (moved_literal n l) ≡ n + literal_byte l
 moved-byte n (fact f) = refl
@@ -29,22 +68,6 @@ pub moved-count : (n : ℕ) (ms : Formulas) → member_count (moved_members n ms
 unfolding moved
 moved-count n none = refl
 moved-count n (more m ms) = ap suc (moved-count n ms)
-
-mutual
-  unfolding moved Formed
-
-  moved-formed : (n facts left parent : ℕ) (f : Formula) → Formed facts left parent f → Formed (n + facts) left parent (moved n f)
-  moved-formed n facts left parent (lit l) d = moved-declared n facts l d
-  moved-formed n facts left parent (all ms) (o, k, c, a) =
-      (o, k, rw (moved-count n ms) c, moved-formed-all n facts (left - 1) 0x80 ms a)
-  moved-formed n facts left parent (any ms) (o, k, c, a) =
-      (o, k, rw (moved-count n ms) c, moved-formed-all n facts (left - 1) 0x81 ms a)
-
-  moved-formed-all :
-      (n facts left parent : ℕ) (ms : Formulas) → FormedAll facts left parent ms → FormedAll (n + facts) left parent (moved_members n ms)
-  moved-formed-all n facts left parent none d = tt
-  moved-formed-all n facts left parent (more m ms) (d, a) =
-      (moved-formed n facts left parent m d, moved-formed-all n facts left parent ms a)
 
 mutual
   unfolding moved formula_bytes
@@ -60,58 +83,67 @@ mutual
       rw (length-append (formula_bytes (moved n m)) (member_bytes (moved_members n ms)), length-append (formula_bytes m) (member_bytes ms))
       (omega (arith, moved-bytes n m, moved-member-bytes n ms))
 
--- ---- more facts
-
-more-declared : (facts facts' : ℕ) (l : Literal) → facts ≤ facts' → Declared facts l → Declared facts' l
-more-declared facts facts' (fact f) h d = omega (arith, d)
-more-declared facts facts' (denial f) h d = omega (arith, d)
-
-mutual
-  unfolding Formed
-
-  more-formed : (facts facts' left parent : ℕ) (f : Formula) → facts ≤ facts' → Formed facts left parent f → Formed facts' left parent f
-  more-formed facts facts' left parent (lit l) h d = more-declared facts facts' l h d
-  more-formed facts facts' left parent (all ms) h (o, k, c, a) = (o, k, c, more-formed-all facts facts' (left - 1) 0x80 ms h a)
-  more-formed facts facts' left parent (any ms) h (o, k, c, a) = (o, k, c, more-formed-all facts facts' (left - 1) 0x81 ms h a)
-
-  more-formed-all :
-      (facts facts' left parent : ℕ) (ms : Formulas) → facts ≤ facts' → FormedAll facts left parent ms → FormedAll facts' left parent ms
-  more-formed-all facts facts' left parent none h d = tt
-  more-formed-all facts facts' left parent (more m ms) h (d, a) =
-      (more-formed facts facts' left parent m h d, more-formed-all facts facts' left parent ms h a)
-
--- ---- how deep groups stand in one another
+module _ (n m facts : ℕ) (in-facts : n + m ≤ facts) where
+  moved-declared : (l : Literal) → Declared m l → Declared facts (moved_literal n l)
+  moved-declared (fact f) d = omega (arith, d, in-facts)
+  moved-declared (denial f) d = omega (arith, d, in-facts)
 
 mutual
-  unfolding Formed depth
+  unfolding moved Formed depth
 
   -- only the depth counts of how many groups may nest
-  depth-formed :
-      (facts left left' parent : ℕ) (f : Formula) → depth f ≤ left' → Formed facts left parent f → Formed facts left' parent f
-  depth-formed facts left left' parent (lit l) h d = d
-  depth-formed facts left left' parent (all ms) h (o, k, c, a) =
-      (omega arith, k, c, depth-formed-all facts (left - 1) (left' - 1) 0x80 ms (omega arith) a)
-  depth-formed facts left left' parent (any ms) h (o, k, c, a) =
-      (omega arith, k, c, depth-formed-all facts (left - 1) (left' - 1) 0x81 ms (omega arith) a)
+  moved-formed :
+      (n m facts left left' parent : ℕ) (f : Formula) → n + m ≤ facts → depth f ≤ left' → Formed m left parent f → Formed facts left' parent (moved n f)
+  moved-formed n m facts left left' parent (lit l) h g d = moved-declared n m facts h l d
+  moved-formed n m facts left left' parent (all ms) h g (o, k, c, a) =
+      (omega arith, k, rw (moved-count n ms) c, moved-formed-all n m facts (left - 1) (left' - 1) 0x80 ms h (omega arith) a)
+  moved-formed n m facts left left' parent (any ms) h g (o, k, c, a) =
+      (omega arith, k, rw (moved-count n ms) c, moved-formed-all n m facts (left - 1) (left' - 1) 0x81 ms h (omega arith) a)
 
-  depth-formed-all :
-      (facts left left' parent : ℕ) (ms : Formulas) → deepest ms ≤ left' → FormedAll facts left parent ms → FormedAll facts left' parent ms
-  depth-formed-all facts left left' parent none h d = tt
-  depth-formed-all facts left left' parent (more m ms) h (d, a) =
-      (depth-formed facts left left' parent m (omega arith) d, depth-formed-all facts left left' parent ms (omega arith) a)
+  moved-formed-all :
+      (n m facts left left' parent : ℕ) (ms : Formulas) → n + m ≤ facts → deepest ms ≤ left' → FormedAll m left parent ms →
+      FormedAll facts left' parent (moved_members n ms)
+  moved-formed-all n m facts left left' parent none h g d = tt
+  moved-formed-all n m facts left left' parent (more x ms) h g (d, a) =
+      (moved-formed n m facts left left' parent x h (omega arith) d, moved-formed-all n m facts left left' parent ms h (omega arith) a)
 
-mutual
-  unfolding Formed depth
+-- a lower bound that is met is met lower down
+lower-effects : (facts least least' : ℕ) (es : List Effect) → least' ≤ least → EffectsOk facts least es → EffectsOk facts least' es
+lower-effects facts least least' [] h k = tt
+lower-effects facts least least' (e ∷ es) h (d, l, f, k) = (d, omega arith, f, k)
 
-  formed-depth : (facts left parent : ℕ) (f : Formula) → Formed facts left parent f → depth f ≤ left
-  formed-depth facts left parent (lit l) d = omega arith
-  formed-depth facts left parent (all ms) (o, k, c, a) = omega (arith, formed-deepest facts (left - 1) 0x80 ms a)
-  formed-depth facts left parent (any ms) (o, k, c, a) = omega (arith, formed-deepest facts (left - 1) 0x81 ms a)
+module _ (n m facts : ℕ) (in-facts : n + m ≤ facts) where
+  moved-formula : (f : Formula) → FormulaOk m f → FormulaOk facts (moved n f)
+  moved-formula f k =
+      record {
+        formed = moved-formed n m facts max_depth max_depth 0 f in-facts (formed-depth m max_depth 0 f k.formed) k.formed;
+        short = rw (moved-bytes n f) k.short;
+      }
 
-  formed-deepest : (facts left parent : ℕ) (ms : Formulas) → FormedAll facts left parent ms → deepest ms ≤ left
-  formed-deepest facts left parent none d = omega arith
-  formed-deepest facts left parent (more m ms) (d, a) =
-      omega (arith, formed-depth facts left parent m d, formed-deepest facts left parent ms a)
+  -- moved literals keep rising
+  moved-effects : (least : ℕ) (es : List Effect) → EffectsOk m least es → EffectsOk facts (n + least) (map (moved_effect n) es)
+  moved-effects least [] k = tt
+  moved-effects least (e ∷ es) (d, l, f, k) = (
+    moved-declared n m facts in-facts e.literal d,
+    omega (arith, l, moved-byte n e.literal),
+    moved-formula e.condition f,
+    lower-effects facts (n + (literal_byte e.literal + 1)) (literal_byte (moved_literal n e.literal) + 1) (map (moved_effect n) es)
+        (omega (arith, moved-byte n e.literal))
+        (moved-effects (literal_byte e.literal + 1) es k),
+  )
+
+  moved-action-ok : (F : Limits) → F.effects ≤ version2.effects → (a : Action) → ActionOk F m a → ActionOk version2 facts (moved_action n a)
+  moved-action-ok F few a k =
+      record {
+        precondition = moved-formula a.precondition k.precondition;
+        count = omega (arith, few, k.count, length-map a.effects (moved_effect n));
+        effects = lower-effects facts (n + 0) 0 (map (moved_effect n) a.effects) (omega arith) (moved-effects 0 a.effects k.effects);
+      }
+
+  moved-actions-ok :
+      (F : Limits) → F.effects ≤ version2.effects → (as' : List Action) → Each (ActionOk F m) as' →
+      Each (ActionOk version2 facts) (map (moved_action n) as')
+  moved-actions-ok F few = each_map (ActionOk F m) (ActionOk version2 facts) (moved_action n) (moved-action-ok F few)
 
 -- ---- the "all" of two formulas
 
@@ -122,15 +154,10 @@ unfolding Formed
 joined-formed facts left parent none ns a b = b
 joined-formed facts left parent (more m ms) ns (d, a) b = (d, joined-formed facts left parent ms ns a b)
 
-joined-first : (ms ns : Formulas) → deepest ms ≤ deepest (joined ms ns)
+pub joined-deepest : (ms ns : Formulas) → deepest (joined ms ns) ≡ max (deepest ms) (deepest ns)
 unfolding depth
-joined-first none ns = omega arith
-joined-first (more m ms) ns = omega (arith, joined-first ms ns)
-
-joined-second : (ms ns : Formulas) → deepest ns ≤ deepest (joined ms ns)
-unfolding depth
-joined-second none ns = omega arith
-joined-second (more m ms) ns = omega (arith, joined-second ms ns)
+joined-deepest none ns = omega arith
+joined-deepest (more m ms) ns = omega (arith, joined-deepest ms ns)
 
 -- what a formula brings may stand in an "all", if it is not too deep: an "all" taken apart holds no "all", and an "any" or a literal is none
 parts-formed :
@@ -140,15 +167,16 @@ unfolding Formed depth
 parts-formed facts (lit l) d h = (d, tt)
 parts-formed facts (all ms) (o, k, c, a) h = a
 parts-formed facts (any ms) (o, k, c, a) h =
-    ((omega arith, λ e. omega arith, c, depth-formed-all facts (max_depth - 1) (max_depth - 1 - 1) 0x81 ms (omega arith) a), tt)
+    let same = zero-members ms in
+    ((omega arith, λ e. omega arith, c, subst (FormedAll facts (max_depth - 1 - 1) 0x81) same (moved-formed-all 0 facts facts (max_depth - 1) (max_depth - 1 - 1) 0x81 ms (omega arith) (omega arith) a)), tt)
 
 -- within its limits
-record Within (f : Formula) : Type 0 where
-  bytes : length (formula_bytes f) ≤ max_formula_bytes
-  members : member_count (parts f) ≤ max_members
-  nests : depth f ≤ max_depth
+pub record Within (f : Formula) : Type 0 where
+  pub bytes : length (formula_bytes f) ≤ max_formula_bytes
+  pub members : member_count (parts f) ≤ max_members
+  pub nests : depth f ≤ max_depth
 
-not-over : (f : Formula) → is_over f ≡ false → Within f
+pub not-over : (f : Formula) → is_over f ≡ false → Within f
 unfolding is_over
 not-over f e =
     let (a, r) = or-false (ltb max_formula_bytes (length (formula_bytes f))) (ltb max_members (member_count (parts f)) || ltb max_depth (depth f)) e in
@@ -166,8 +194,8 @@ both-ok facts f g a b e =
         λ k. omega arith,
         omega (arith, w.members),
         joined-formed facts (max_depth - 1) 0x80 (parts f) (parts g)
-            (parts-formed facts f a (omega (arith, joined-first (parts f) (parts g))))
-            (parts-formed facts g b (omega (arith, joined-second (parts f) (parts g)))),
+            (parts-formed facts f a (omega (arith, joined-deepest (parts f) (parts g))))
+            (parts-formed facts g b (omega (arith, joined-deepest (parts f) (parts g)))),
       );
       short = w.bytes;
     }
@@ -187,70 +215,6 @@ ok-not-over facts f k =
       le-ltb max_members (member_count (parts f)) (parts-count facts f k.formed),
       le-ltb max_depth (depth f) (formed-depth facts max_depth 0 f k.formed),
     )
-
--- ---- actions
-
-moved-formula : (n facts : ℕ) (f : Formula) → FormulaOk facts f → FormulaOk (n + facts) (moved n f)
-moved-formula n facts f k =
-    record { formed = moved-formed n facts max_depth 0 f k.formed; short = rw (moved-bytes n f) k.short }
-
-more-formula : (facts facts' : ℕ) (f : Formula) → facts ≤ facts' → FormulaOk facts f → FormulaOk facts' f
-more-formula facts facts' f h k = record { formed = more-formed facts facts' max_depth 0 f h k.formed; short = k.short }
-
-more-effects : (facts facts' least : ℕ) (es : List Effect) → facts ≤ facts' → EffectsOk facts least es → EffectsOk facts' least es
-more-effects facts facts' least [] h k = tt
-more-effects facts facts' least (e ∷ es) h (d, l, f, k) = (
-  more-declared facts facts' e.literal h d,
-  l,
-  more-formula facts facts' e.condition h f,
-  more-effects facts facts' (literal_byte e.literal + 1) es h k,
-)
-
--- a lower bound that is met is met lower down
-lower-effects : (facts least least' : ℕ) (es : List Effect) → least' ≤ least → EffectsOk facts least es → EffectsOk facts least' es
-lower-effects facts least least' [] h k = tt
-lower-effects facts least least' (e ∷ es) h (d, l, f, k) = (d, omega arith, f, k)
-
--- moved literals keep rising
-moved-effects :
-    (n facts least : ℕ) (es : List Effect) → EffectsOk facts least es → EffectsOk (n + facts) (n + least) (map (moved_effect n) es)
-moved-effects n facts least [] k = tt
-moved-effects n facts least (e ∷ es) (d, l, f, k) = (
-  moved-declared n facts e.literal d,
-  omega (arith, moved-byte n e.literal),
-  moved-formula n facts e.condition f,
-  lower-effects (n + facts) (n + (literal_byte e.literal + 1)) (literal_byte (moved_literal n e.literal) + 1) (map (moved_effect n) es)
-      (omega (arith, moved-byte n e.literal))
-      (moved-effects n facts (literal_byte e.literal + 1) es k),
-)
-
-module _ (F : Limits) (few : F.effects ≤ version2.effects) where
-  more-action-ok : (facts facts' : ℕ) (a : Action) → facts ≤ facts' → ActionOk F facts a → ActionOk version2 facts' a
-  more-action-ok facts facts' a h k =
-      record {
-        precondition = more-formula facts facts' a.precondition h k.precondition;
-        count = omega (arith, k.count);
-        effects = more-effects facts facts' 0 a.effects h k.effects;
-      }
-
-  moved-action-ok : (n facts : ℕ) (a : Action) → ActionOk F facts a → ActionOk version2 (n + facts) (moved_action n a)
-  moved-action-ok n facts a k =
-      record {
-        precondition = moved-formula n facts a.precondition k.precondition;
-        count = omega (arith, k.count, length-map a.effects (moved_effect n));
-        effects =
-            lower-effects (n + facts) (n + 0) 0 (map (moved_effect n) a.effects) (omega arith) (moved-effects n facts 0 a.effects k.effects);
-      }
-
-  more-actions-ok :
-      (facts facts' : ℕ) (as' : List Action) → facts ≤ facts' → Each (ActionOk F facts) as' → Each (ActionOk version2 facts') as'
-  more-actions-ok facts facts' [] h x = tt
-  more-actions-ok facts facts' (a ∷ as') h (k, x) = (more-action-ok facts facts' a h k, more-actions-ok facts facts' as' h x)
-
-  moved-actions-ok :
-      (n facts : ℕ) (as' : List Action) → Each (ActionOk F facts) as' → Each (ActionOk version2 (n + facts)) (map (moved_action n) as')
-  moved-actions-ok n facts [] x = tt
-  moved-actions-ok n facts (a ∷ as') (k, x) = (moved-action-ok n facts a k, moved-actions-ok n facts as' x)
 
 -- ---- what is asked of a merged problem
 
@@ -306,69 +270,43 @@ each-at P [] i h x = absurd (omega arith)
 each-at P (a ∷ as') zero h x = x.0
 each-at P (a ∷ as') (suc i) h x = each-at P as' i (omega arith) x.1
 
-each-tabulate : (P : Action → Type 0) (n : ℕ) (f : ℕ → Action) → ((i : ℕ) → i < n → P (f i)) → Each P (tabulate n f)
-each-tabulate P zero f h = tt
-each-tabulate P (suc n) f h = (h zero (omega arith), each-tabulate P n (λ i. f (suc i)) (λ i l. h (suc i) (omega arith)))
-
 -- ---- the merged problem
 
 module _ (F G : Limits) (S : Sensible F) (S' : Sensible G) (p q : Problem) (ok : ProblemOk F p) (ok' : ProblemOk G q) where
+  abbrev facts : ℕ
+  facts = p.facts + q.facts
+
+  -- the "all" of a formula of each hall, where the first's is moved up by 0
+  both-formed :
+      (f g : Formula) → FormulaOk p.facts f → FormulaOk q.facts g → is_over (both f (moved p.facts g)) ≡ false → FormulaOk facts (both f (moved p.facts g))
+  both-formed f g k k' =
+      let first = subst (FormulaOk facts) (zero-formula f) (moved-formula 0 p.facts facts (omega arith) f k) in
+      both-ok facts f (moved p.facts g) first.formed (moved-formula p.facts q.facts facts (omega arith) g k').formed
+
   pub halls-sound : sized (halls p q) ≡ answered (halls p q) → ProblemOk version2 (halls p q)
   halls-sound e =
       let k = sized-fits (halls p q) e in
-      let h : p.facts ≤ p.facts + q.facts = omega arith in
       record {
         some_fact = omega (arith, ok.some_fact);
         facts = k.facts;
         count = k.count;
-        initial =
-            both-ok (p.facts + q.facts) p.initial (moved p.facts q.initial)
-            (more-formed p.facts (p.facts + q.facts) max_depth 0 p.initial h ok.initial.formed)
-            (moved-formed p.facts q.facts max_depth 0 q.initial ok'.initial.formed)
-            k.initial;
-        goal =
-            both-ok (p.facts + q.facts) p.goal (moved p.facts q.goal)
-            (more-formed p.facts (p.facts + q.facts) max_depth 0 p.goal h ok.goal.formed)
-            (moved-formed p.facts q.facts max_depth 0 q.goal ok'.goal.formed)
-            k.goal;
+        initial = both-formed p.initial q.initial ok.initial ok'.initial k.initial;
+        goal = both-formed p.goal q.goal ok.goal ok'.goal k.goal;
         actions =
-            each_append (ActionOk version2 (p.facts + q.facts)) p.actions (map (moved_action p.facts) q.actions)
-            (more-actions-ok F S.effects p.facts (p.facts + q.facts) p.actions h ok.actions)
-            (moved-actions-ok G S'.effects p.facts q.facts q.actions ok'.actions);
+            each_append (ActionOk version2 facts) p.actions (map (moved_action p.facts) q.actions)
+            (subst (Each (ActionOk version2 facts)) (zero-actions p.actions)
+            (moved-actions-ok 0 p.facts facts (omega arith) F S.effects p.actions ok.actions))
+            (moved-actions-ok p.facts q.facts facts (omega arith) G S'.effects q.actions ok'.actions);
         short = k.short;
       }
 
-  -- in any order
-  module _ (order : List ℕ) (O : IsOrder (length p.actions + length q.actions) order)
-      (A : (b : ℕ) → b < length p.actions + length q.actions → old_of order b < length p.actions + length q.actions)
-      (Z : length (encode_problem version2 (reordered order (halls p q))) ≡ length (encode_problem version2 (halls p q))) where
-    merged-count : length (merged order F G p q).actions ≡ length (halls p q).actions
-    merged-count = length-tabulate (length (halls p q).actions) (λ b. action_at (halls p q).actions (old_of order b))
-
-    pub merged-sound : sized (halls p q) ≡ answered (halls p q) → ProblemOk version2 (merged order F G p q)
-    merged-sound e =
-        let k = halls-sound e in
-        record {
-          some_fact = k.some_fact;
-          facts = k.facts;
-          count = omega (arith, merged-count, k.count);
-          initial = k.initial;
-          goal = k.goal;
-          actions =
-              each-tabulate (ActionOk version2 (p.facts + q.facts)) (length (halls p q).actions)
-              (λ b. action_at (halls p q).actions (old_of order b)) λ b l.
-              each-at (ActionOk version2 (p.facts + q.facts)) (halls p q).actions (old_of order b)
-              (omega (arith, halls-count p q, A b (omega (arith, halls-count p q)))) k.actions;
-          short = omega (arith, Z, k.short);
-        }
-
-    pub merged-sized : ProblemOk version2 (merged order F G p q) → sized (halls p q) ≡ answered (halls p q)
-    merged-sized k =
-        fits-sized (halls p q)
-        (record {
-          facts = k.facts;
-          count = omega (arith, merged-count, k.count);
-          initial = ok-not-over (p.facts + q.facts) (halls p q).initial k.initial;
-          goal = ok-not-over (p.facts + q.facts) (halls p q).goal k.goal;
-          short = omega (arith, Z, k.short);
-        })
+  pub halls-sized : ProblemOk version2 (halls p q) → sized (halls p q) ≡ answered (halls p q)
+  halls-sized k =
+      fits-sized (halls p q)
+      (record {
+        facts = k.facts;
+        count = k.count;
+        initial = ok-not-over facts (halls p q).initial k.initial;
+        goal = ok-not-over facts (halls p q).goal k.goal;
+        short = k.short;
+      })

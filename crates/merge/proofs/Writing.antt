@@ -4,7 +4,7 @@ use Rattle.std.proofs.lemmas.List.{drop_all, drop_more}
 use lib.ListN.{length-map}
 use Rattle.model.specs.Read.{bytes_of}
 use Rattle.model.specs.Action.{Effect, Action}
-use Rattle.model.specs.Formula.{Literal, fact, denial, Formula, Formulas, lit, all, any, none, more}
+use Rattle.model.specs.Formula.{Literal, fact, denial, Formula, Formulas, lit, all, none, more}
 use Rattle.model.specs.FormulaBytes.{Group, conjunction, disjunction, grouped, mark, literal_of, literal_byte, member_count, formula_bytes, member_bytes, encode_formula}
 use Rattle.model.specs.ProblemBytes.{action_at, effects_bytes, action_bytes, actions_bytes}
 use Rattle.model.specs.Merging.{moved_literal, moved, moved_members, moved_effect, moved_action, joined, parts}
@@ -15,7 +15,7 @@ use Rattle.formula.proofs.Sizes.{sizes}
 use Rattle.merge.specs.declared.both.Both.{Both}
 use Rattle.merge.specs.Views.{both_of}
 use Rattle.merge.specs.Writing.{effect_bytes}
-use Rattle.merge.proofs.Sound.{moved-byte, moved-count, moved-bytes}
+use Rattle.merge.proofs.Sound.{moved-byte, moved-count, moved-bytes, zero-members}
 
 -- ---- formulas whose facts are moved up
 
@@ -87,23 +87,6 @@ formula-pieces n f ms l e i = rw (e, i, moved-bytes n f, append-nil (formula_byt
 
 -- ---- the "all" of two formulas
 
--- the first formula's facts stay where they are
-pub zero-literal : (l : Literal) → moved_literal 0 l ≡ l
-zero-literal (fact f) = let z : 0 + f ≡ f = omega arith in ap fact z
-zero-literal (denial f) = let z : 0 + f ≡ f = omega arith in ap denial z
-
-mutual
-  unfolding moved
-
-  pub zero-formula : (f : Formula) → moved 0 f ≡ f
-  zero-formula (lit l) = ap lit (zero-literal l)
-  zero-formula (all ms) = ap all (zero-members ms)
-  zero-formula (any ms) = ap any (zero-members ms)
-
-  pub zero-members : (ms : Formulas) → moved_members 0 ms ≡ ms
-  zero-members none = refl
-  zero-members (more m ms) = rw (zero-formula m, zero-members ms) refl
-
 pub joined-bytes : (ms ns : Formulas) → member_bytes (joined ms ns) ≡ member_bytes ms ++ member_bytes ns
 unfolding member_bytes
 joined-bytes none ns = refl
@@ -169,15 +152,13 @@ pub next-action :
 unfolding actions_bytes action_at
 next-action n as' i a h e = rw (drop_more as' i (record { precondition = all none; effects = [] }) h, e) refl
 
+-- and others come after them
+pub next-before :
+    (n : ℕ) (as' : List Action) (i : ℕ) (a : Action) (others : List ℕ) → i < length as' → a ≡ action_at as' i →
+    actions_bytes (map (moved_action n) (drop i as')) ++ others ≡
+    action_bytes (moved_action n a) ++ (actions_bytes (map (moved_action n) (drop (i + 1) as')) ++ others)
+next-before n as' i a others h e = ap (λ (x : List ℕ). x ++ others) (next-action n as' i a h e) ∙ append_assoc (action_bytes (moved_action n a)) _ others
+
 pub no-action : (n i : ℕ) (as' : List Action) → length as' ≤ i → actions_bytes (map (moved_action n) (drop i as')) ≡ []
 unfolding actions_bytes
 no-action n i as' h = rw (drop_all i as' h) refl
-
-zero-effects : (es : List Effect) → map (moved_effect 0) es ≡ es
-zero-effects [] = refl
-zero-effects (e ∷ es) = rw (zero-literal e.literal, zero-formula e.condition, zero-effects es) refl
-
--- the first hall's actions stay as they are
-pub zero-actions : (as' : List Action) → map (moved_action 0) as' ≡ as'
-zero-actions [] = refl
-zero-actions (a ∷ as') = rw (zero-formula a.precondition, zero-effects a.effects, zero-actions as') refl

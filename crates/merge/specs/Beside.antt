@@ -1,6 +1,5 @@
--- What holds of a merged problem in every order of its actions: a plan of it is two plans, one for each hall, and a run of it two runs that go on
--- beside one another.
-use Rattle.std.specs.Prelude.{◌≡◌, ◌↔◌, Bool, cond, not, List, [], ◌∷◌, ◌++◌, map, ℕ, zero, suc, ◌+◌, ◌-◌, ◌<◌, length, get_or, ltb}
+-- What holds of a merged problem: a plan of it is two plans, one for each hall, and a run of it two runs that go on beside one another.
+use Rattle.std.specs.Prelude.{◌≡◌, ◌↔◌, Bool, cond, not, List, [], ◌∷◌, ◌++◌, map, filter, ℕ, zero, suc, ◌+◌, ◌-◌, ◌<◌, length, get_or, ltb}
 use Rattle.model.specs.declared.Limits.{Limits}
 use Rattle.model.specs.Limits.{version2}
 use Rattle.model.specs.Answer.{answered}
@@ -10,29 +9,23 @@ use Rattle.model.specs.Relevance.{number_of}
 use Rattle.model.specs.ProblemBytes.{Problem, problem_of, action_at, encode_problem}
 use Rattle.model.specs.WellFormed.{PlanOk, ProblemOk}
 use Rattle.model.specs.Operations.{task_of}
-use Rattle.model.specs.Merging.{moved_action, halls, old_of, reordered, sized}
+use Rattle.model.specs.Merging.{moved_action, halls, new_numbers, sized}
 
 -- ---- the steps of a merged plan
 
 -- for each step whether it is the first hall's, of m actions, and whether it is the second's
-abbrev pub of_first : List ℕ → ℕ → List ℕ → List Bool
-of_first order m = map (λ b. ltb (old_of order b) m)
+abbrev pub of_first : ℕ → List ℕ → List Bool
+of_first m = map (λ b. ltb b m)
 
-abbrev pub of_second : List ℕ → ℕ → List ℕ → List Bool
-of_second order m = map (λ b. not (ltb (old_of order b) m))
-
--- the steps that are a hall's own
-abbrev pub own_steps : List Bool → List ℕ → List ℕ
-own_steps [] bs = []
-own_steps (own ∷ owns) [] = []
-own_steps (own ∷ owns) (b ∷ bs) = cond own (b ∷ own_steps owns bs) (own_steps owns bs)
+abbrev pub of_second : ℕ → List ℕ → List Bool
+of_second m = map (λ b. not (ltb b m))
 
 -- the steps of each hall, by the numbers that its actions have there
-abbrev pub first_plan : List ℕ → ℕ → List ℕ → List ℕ
-first_plan order m plan = map (old_of order) (own_steps (of_first order m plan) plan)
+abbrev pub first_plan : ℕ → List ℕ → List ℕ
+first_plan m = filter (λ b. ltb b m)
 
-abbrev pub second_plan : List ℕ → ℕ → List ℕ → List ℕ
-second_plan order m plan = map (λ b. old_of order b - m) (own_steps (of_second order m plan) plan)
+abbrev pub second_plan : ℕ → List ℕ → List ℕ
+second_plan m plan = map (λ b. b - m) (filter (λ b. not (ltb b m)) plan)
 
 -- where in the merged plan step i of a hall's own steps is
 abbrev pub place_of : List Bool → ℕ → ℕ
@@ -66,26 +59,23 @@ beside (blocked p) (blocked q) = cond (ltb p.step q.step) (blocked p) (blocked q
 abbrev pub HasStart : Task → Type 0
 HasStart T = (s : ℕ) × IsStart T s
 
-module _ (order : List ℕ) (F G : Limits) (p q : Problem) where
-  abbrev pub merged : Problem
-  merged = reordered order (halls p q)
-
+module _ (F G : Limits) (p q : Problem) where
   module _ (plan : List ℕ) where
     abbrev firsts : List Bool
-    firsts = of_first order (length p.actions) plan
+    firsts = of_first (length p.actions) plan
 
     abbrev seconds : List Bool
-    seconds = of_second order (length p.actions) plan
+    seconds = of_second (length p.actions) plan
 
     -- the merged plan, and what each hall does of it alone
     abbrev pub together : Task
-    together = task_of version2 merged plan
+    together = task_of version2 (halls p q) plan
 
     abbrev pub first_alone : Task
-    first_alone = task_of F p (first_plan order (length p.actions) plan)
+    first_alone = task_of F p (first_plan (length p.actions) plan)
 
     abbrev pub second_alone : Task
-    second_alone = task_of G q (second_plan order (length p.actions) plan)
+    second_alone = task_of G q (second_plan (length p.actions) plan)
 
     -- the number of the state that a state of each hall makes
     abbrev pub pair : ℕ → ℕ → ℕ
@@ -98,8 +88,8 @@ module _ (order : List ℕ) (F G : Limits) (p q : Problem) where
     -- halls alone: what a merged plan does is what its steps do in each hall
     pub record RunsBeside : Type 0 where
       -- the steps of each hall are a plan for it
-      pub first_ok : PlanOk (length p.actions) (first_plan order (length p.actions) plan)
-      pub second_ok : PlanOk (length q.actions) (second_plan order (length p.actions) plan)
+      pub first_ok : PlanOk (length p.actions) (first_plan (length p.actions) plan)
+      pub second_ok : PlanOk (length q.actions) (second_plan (length p.actions) plan)
       -- a state of the merged problem is a pair of states, one of each hall
       pub is_state : (s t : ℕ) → AreStates s t → IsState together (pair s t)
       pub is_pair : (u : ℕ) → IsState together u → (s t : ℕ) × AreStates s t × (u ≡ pair s t)
@@ -118,20 +108,19 @@ module _ (order : List ℕ) (F G : Limits) (p q : Problem) where
 
   -- what a merged problem is, and what its plans do, within the limits
   pub record Merged : Type 0 where
-    -- its block is read as it, with as many bytes in every order
-    pub sound : ProblemOk version2 merged
-    pub read : problem_of version2 (encode_problem version2 merged) ≡ answered merged
-    pub size : length (encode_problem version2 merged) ≡ length (encode_problem version2 (halls p q))
-    -- the order gives each old action the number by which it is found, and it is found by that number alone
-    pub first_action : (i : ℕ) → i < length p.actions → action_at merged.actions (get_or order i 0) ≡ action_at p.actions i
+    -- its block is read as it
+    pub sound : ProblemOk version2 (halls p q)
+    pub read : problem_of version2 (encode_problem version2 (halls p q)) ≡ answered (halls p q)
+    -- the table gives each action the number that is its place among those of both halls, and there it is found
+    pub numbered :
+        (i : ℕ) → i < length p.actions + length q.actions → get_or (new_numbers (length p.actions + length q.actions)) i 0 ≡ i
+    pub first_action : (i : ℕ) → i < length p.actions → action_at (halls p q).actions i ≡ action_at p.actions i
     pub second_action :
-        (i : ℕ) → i < length q.actions →
-        action_at merged.actions (get_or order (length p.actions + i) 0) ≡ moved_action p.facts (action_at q.actions i)
-    pub numbered : (i : ℕ) → i < length p.actions + length q.actions → old_of order (get_or order i 0) ≡ i
+        (i : ℕ) → i < length q.actions → action_at (halls p q).actions (length p.actions + i) ≡ moved_action p.facts (action_at q.actions i)
     -- its plans
-    pub plans : (plan : List ℕ) → PlanOk (length merged.actions) plan → RunsBeside plan
+    pub plans : (plan : List ℕ) → PlanOk (length (halls p q).actions) plan → RunsBeside plan
 
-  -- any order: the limits are those of a sound problem, whatever the order; within them all of that holds
-  pub record InAnyOrder : Type 0 where
-    pub exactly : (sized (halls p q) ≡ answered (halls p q)) ↔ ProblemOk version2 merged
+  -- both halls: the limits are those of a sound problem, and within them all of that holds
+  pub record BothHalls : Type 0 where
+    pub exactly : (sized (halls p q) ≡ answered (halls p q)) ↔ ProblemOk version2 (halls p q)
     pub holds : sized (halls p q) ≡ answered (halls p q) → Merged

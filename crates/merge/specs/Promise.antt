@@ -5,8 +5,8 @@ use Rattle.model.specs.Limits.{version2, limits_of, max_facts, max_actions, max_
 use Rattle.model.specs.Answer.{Answer, refused, answered}
 use Rattle.model.specs.ProblemBytes.{Problem, problem_of, encode_problem}
 use Rattle.model.specs.WellFormed.{Bytes, ProblemOk}
-use Rattle.model.specs.Merging.{is_over, halls, IsOrder}
-use Rattle.merge.specs.Beside.{merged, Merged, InAnyOrder}
+use Rattle.model.specs.Merging.{is_over, halls, new_numbers}
+use Rattle.merge.specs.Beside.{Merged, BothHalls}
 
 module _ (first second : List ℕ) where
   -- both blocks are read
@@ -34,18 +34,16 @@ module _ (first second : List ℕ) where
         (p q : Problem) → Reads p q → ProblemOk version2 (halls p q) →
         (room < length (encode_problem version2 (halls p q))) ⊎ (places < length p.actions + length q.actions) → RefusedFor room places 86 0
 
-  -- the lengths n were answered: the block of the merged problem, and the order that it has, stand in the first bytes of the buffers, and the rest of
-  -- them is as it was
+  -- the lengths n were answered: the block of the merged problem, and the new numbers of all actions, stand in the first bytes of the buffers, and
+  -- the rest of them is as it was
   pub record Merges (before before_table : List ℕ) (n : Lengths) (after after_table : List ℕ) : Type 0 where
     pub p : Problem
     pub q : Problem
     pub reads : Reads p q
-    pub order : List ℕ
-    pub is_order : IsOrder (length p.actions + length q.actions) order
-    pub block : take n.block after ≡ encode_problem version2 (merged order (limits_of first) (limits_of second) p q)
-    pub table : take n.table after_table ≡ order
+    pub block : take n.block after ≡ encode_problem version2 (halls p q)
+    pub table : take n.table after_table ≡ new_numbers (length p.actions + length q.actions)
     pub count : n.table ≡ length p.actions + length q.actions
-    pub holds : Merged order (limits_of first) (limits_of second) p q
+    pub holds : Merged (limits_of first) (limits_of second) p q
     pub fits : n.block ≤ length before
     pub table_fits : n.table ≤ length before_table
     pub rest : drop n.block after ≡ drop n.block before
@@ -57,8 +55,6 @@ module _ (first second : List ℕ) where
       (after ≡ before) × (after_table ≡ before_table) × RefusedFor (length before) (length before_table) n place
   MergePromised before before_table (answered n) after after_table = Merges before before_table n after after_table
 
-  -- what holds in any order of the actions of two problems that are read
-  abbrev pub OrdersFree : Type 0
-  OrdersFree =
-      Bytes first → Bytes second → (p q : Problem) → Reads p q → (order : List ℕ) → IsOrder (length p.actions + length q.actions) order →
-      InAnyOrder order (limits_of first) (limits_of second) p q
+  -- what holds of the merged problem of two that are read
+  abbrev pub KeepsBoth : Type 0
+  KeepsBoth = Bytes first → Bytes second → (p q : Problem) → Reads p q → BothHalls (limits_of first) (limits_of second) p q

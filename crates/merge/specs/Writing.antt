@@ -1,6 +1,6 @@
 -- The pieces in which a merged problem is written.
 use Rattle.std.specs.Prelude.{List, [], ◌∷◌, ◌++◌, ℕ, ◌-◌, length}
-use Rattle.model.specs.Action.{Effect, tabulate}
+use Rattle.model.specs.Action.{Effect}
 use Rattle.model.specs.Limits.{version2}
 use Rattle.model.specs.Read.{head_bytes, bytes_of}
 use Rattle.model.specs.FormulaBytes.{literal_byte, encode_formula}
@@ -8,10 +8,6 @@ use Rattle.model.specs.ProblemBytes.{Problem, encode_problem}
 
 abbrev pub effect_bytes : Effect → List ℕ
 effect_bytes e = literal_byte e.literal ∷ encode_formula e.condition
-
--- the order in which each of m actions keeps its number
-abbrev pub in_order : ℕ → List ℕ
-in_order m = tabulate m (λ i. i)
 
 -- what stands before a problem's initial formula, in version 2
 unfoldable pub problem_head : Problem → List ℕ

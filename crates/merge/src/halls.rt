@@ -1,6 +1,6 @@
 // Two halls as one problem.
 use crate::both::Both;
-use crate::write::{put_actions, put_both};
+use crate::write::{put_action, put_both};
 use blocks::Problem;
 use model::{Fault, Limits, Problem as Bounds, Refusal};
 use numbers::Writer;
@@ -16,7 +16,7 @@ impl<'a> Halls<'a> {
     ghost use Rattle.std.specs.Prelude.{◌≡◌, length};
     ghost use Rattle.model.specs.Limits.{version2};
     ghost use Rattle.model.specs.Answer.{answered};
-    ghost use Rattle.model.specs.ProblemBytes.{encode_problem};
+    ghost use Rattle.model.specs.ProblemBytes.{actions_bytes, encode_problem};
     ghost use Rattle.model.specs.Merging.{sized};
     ghost use Rattle.numbers.specs.Writing.{HasRoom, Writes};
     ghost use Rattle.merge.specs.Views.{both_of, halls_of, ChecksSize};
@@ -87,6 +87,25 @@ impl<'a> Halls<'a> {
         writer.put_pair(self.facts(), self.actions());
     }
 
+    // The actions of both, the first hall's first.
+    fn put_actions(&self, writer: &mut Writer)
+        requires { HasRoom writer.old (actions_bytes (halls_of self.now).actions) }
+        ensures { Writes writer.old (actions_bytes (halls_of self.now).actions) writer.new }
+    {
+        // Its place stays in a register. A store to the buffer might change that of `writer`, for all that the compiler knows.
+        let mut place = Writer {
+            out: &mut *writer.out,
+            at: writer.at,
+        };
+        for step in 0..self.first.actions.count {
+            put_action(&mut place, self.first.actions.get(step), 0);
+        }
+        for step in 0..self.second.actions.count {
+            put_action(&mut place, self.second.actions.get(step), self.first.facts);
+        }
+        writer.at = place.at;
+    }
+
     // Writes their problem, of version 2.
     pub fn put(&self, writer: &mut Writer)
         requires sized { sized (halls_of self.now) ≡ answered (halls_of self.now) }
@@ -96,7 +115,6 @@ impl<'a> Halls<'a> {
         self.put_head(writer);
         put_both(writer, self.initial());
         put_both(writer, self.goal());
-        put_actions(writer, self.first, 0);
-        put_actions(writer, self.second, self.first.facts);
+        self.put_actions(writer);
     }
 }

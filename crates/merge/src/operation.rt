@@ -2,20 +2,20 @@
 ghost use Rattle.std.specs.Prelude.{◌≤◌};
 ghost use Rattle.model.specs.Calls.{MergeCall};
 ghost use Rattle.model.specs.Answers.{plain_answer};
+ghost use Rattle.model.specs.Merging.{new_numbers};
 ghost use Rattle.merge.specs.Promise.{MergePromised};
 ghost use Rattle.numbers.specs.Writing.{HasRoom, Writes};
-ghost use Rattle.merge.specs.Writing.{in_order};
 
 use crate::halls::Halls;
 use blocks::Problem;
 use model::{Fault, Lengths, Refusal};
 use numbers::Writer;
 
-// Each of so many actions keeps its number.
+// The new number of each of so many actions is its place among them.
 fn put_table(writer: &mut Writer, count: usize)
     requires few { count ≤ 64 }
-    requires room { HasRoom writer.old (in_order count) }
-    ensures { Writes writer.old (in_order count) writer.new }
+    requires room { HasRoom writer.old (new_numbers count) }
+    ensures { Writes writer.old (new_numbers count) writer.new }
 {
     for number in 0..count {
         writer.put(number as u8);

@@ -1,9 +1,8 @@
-// What holds of a merged problem in every order of its actions, as the contract of a function, which has nothing to do: a check that passes has
-// proved it.
+// What holds of a merged problem, as the contract of a function, which has nothing to do: a check that passes has proved it.
 ghost use Rattle.std.specs.Prelude.{List, ℕ};
-ghost use Rattle.merge.specs.Promise.{OrdersFree};
+ghost use Rattle.merge.specs.Promise.{KeepsBoth};
 
-// The order of a merged problem's actions is free, whatever two problems are merged.
-pub fn orders_are_free()
-    ensures { (first second : List ℕ) → OrdersFree first second }
+// The merged problem of two is both of them, beside one another.
+pub fn both_halls_are_kept()
+    ensures { (first second : List ℕ) → KeepsBoth first second }
 {}

@@ -1,18 +1,16 @@
 // Writing formulas and actions whose facts are moved up: they are copied byte by byte, and only the bytes of literals change.
-ghost use Rattle.std.specs.Prelude.{◌≤◌, map};
+ghost use Rattle.std.specs.Prelude.{◌≤◌};
 ghost use Rattle.model.specs.Limits.{max_facts, max_members};
 ghost use Rattle.model.specs.FormulaBytes.{member_bytes, encode_formula, member_count};
-ghost use Rattle.model.specs.ProblemBytes.{action_bytes, actions_bytes};
+ghost use Rattle.model.specs.ProblemBytes.{action_bytes};
 ghost use Rattle.model.specs.Merging.{moved, moved_members, moved_effect, moved_action, parts};
 ghost use Rattle.numbers.specs.Writing.{HasRoom, Writes};
 ghost use Rattle.formula.specs.Views.{formulas as formulas_of, formula as formula_of};
 ghost use Rattle.fields.specs.Actions.{effect as effect_of, action as action_of};
-ghost use Rattle.blocks.specs.Values.{problem as problem_of};
 ghost use Rattle.merge.specs.Views.{both_of};
 ghost use Rattle.merge.specs.Writing.{effect_bytes};
 
 use crate::both::Both;
-use blocks::Problem;
 use fields::{Action, Effect};
 use formula::{Formula, Formulas, Next};
 use model::{Group, Problem as Bounds};
@@ -71,7 +69,7 @@ fn put_effect(writer: &mut Writer, effect: Effect, shift: u8)
     put_formula(writer, effect.condition, shift);
 }
 
-fn put_action(writer: &mut Writer, action: Action, shift: u8)
+pub fn put_action(writer: &mut Writer, action: Action, shift: u8)
     requires room { HasRoom writer.old (action_bytes (moved_action shift (action_of action))) }
     requires shift { shift ≤ max_facts }
     ensures { Writes writer.old (action_bytes (moved_action shift (action_of action.entry))) writer.new }
@@ -81,21 +79,4 @@ fn put_action(writer: &mut Writer, action: Action, shift: u8)
     for effect in action.effects {
         put_effect(writer, effect, shift);
     }
-}
-
-// All actions of a hall.
-pub fn put_actions(writer: &mut Writer, problem: &Problem, shift: u8)
-    requires room { HasRoom writer.old (actions_bytes (map (moved_action shift) (problem_of problem.now).actions)) }
-    requires shift { shift ≤ max_facts }
-    ensures { Writes writer.old (actions_bytes (map (moved_action shift) (problem_of problem.now).actions)) writer.new }
-{
-    // Its place stays in a register. A store to the buffer might change that of `writer`, for all that the compiler knows.
-    let mut place = Writer {
-        out: &mut *writer.out,
-        at: writer.at,
-    };
-    for step in 0..problem.actions.count {
-        put_action(&mut place, problem.actions.get(step), shift);
-    }
-    writer.at = place.at;
 }

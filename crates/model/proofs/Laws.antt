@@ -7,6 +7,7 @@ pub mod Planes
 pub mod Cover
 pub mod StateNumbers
 pub mod Relevance
+pub mod States
 pub mod Splitting
 pub mod Verdicts
 pub mod Beliefs

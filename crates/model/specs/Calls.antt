@@ -1,14 +1,13 @@
 -- The calls of the operations: what a call answered, and what it left in the lent buffer, is what the definitions give. Each is the contract of the
 -- operation, for statements about several calls.
-use Rattle.std.specs.Prelude.{◌≡◌, List, ℕ, ◌+◌, length, Result}
+use Rattle.std.specs.Prelude.{◌≡◌, List, ℕ, Result}
 use Rattle.model.specs.Limits.{limits_of}
 use Rattle.model.specs.declared.Limits.{Limits}
-use Rattle.model.specs.Answer.{Answer, answered}
+use Rattle.model.specs.Answer.{Answer}
 use Rattle.model.specs.Case.{Task}
 use Rattle.model.specs.Relevance.{Layout}
 use Rattle.model.specs.Operations.{Written, run_read, judge_read, relevant_read, write_read, follow_read, search_plans}
-use Rattle.model.specs.ProblemBytes.{Problem, problem_of}
-use Rattle.model.specs.Merging.{IsOrder, merge}
+use Rattle.model.specs.Merging.{merge}
 use Rattle.model.specs.Answers.{plain_answer, run_answer, judge_answer, search_answer}
 use Rattle.model.specs.declared.Refusal.{Refusal}
 use Rattle.model.specs.declared.Lengths.{Lengths}
@@ -42,16 +41,8 @@ module _ (R : Answer Task) where
 abbrev pub SearchCall : List ℕ → ℕ → ℕ → Result Search Refusal → Type 0
 SearchCall problem longest grant r = search_answer r ≡ search_plans (limits_of problem) problem longest grant
 
--- an order of the actions of both problems, where they are read
-abbrev pub Orders : List ℕ → List ℕ → List ℕ → Type 0
-Orders first second order =
-    (p q : Problem) → problem_of (limits_of first) first ≡ answered p → problem_of (limits_of second) second ≡ answered q →
-    IsOrder (length p.actions + length q.actions) order
-
--- free order: a merge is what the definition gives for some order; where it answers, this is the one in the table
-pub record MergeCall (first second before before_table : List ℕ) (r : Result Lengths Refusal) (after after_table : List ℕ) : Type 0 where
-  pub order : List ℕ
-  pub orders : Orders first second order
-  pub answer : plain_answer r ≡ (merge order first second before before_table).answer
-  pub out : after ≡ (merge order first second before before_table).out
-  pub table : after_table ≡ (merge order first second before before_table).table
+-- asked of both halls' blocks
+abbrev pub MergeCall : List ℕ → List ℕ → List ℕ → List ℕ → Result Lengths Refusal → List ℕ → List ℕ → Type 0
+MergeCall first second before before_table r after after_table =
+    let m = merge first second before before_table in
+    (plain_answer r ≡ m.answer) × (after ≡ m.out) × (after_table ≡ m.table)

@@ -1,12 +1,12 @@
 -- Two halls as one problem. They share no fact and no action, and the second hall's facts follow the first's.
-use Rattle.std.specs.Prelude.{◌≡◌, Bool, cond, ◌||◌, List, [], ◌∷◌, ◌++◌, map, ℕ, suc, ◌+◌, ◌<◌, max, length, get_or, drop, eqb, ltb}
+use Rattle.std.specs.Prelude.{Bool, ◌||◌, cond, List, ◌++◌, map, ℕ, suc, ◌+◌, max, length, drop, ltb}
 use Rattle.model.specs.declared.Lengths.{Lengths}
 use Rattle.model.specs.Limits.{version2, limits_of, max_facts, max_actions, max_problem_bytes, max_formula_bytes, max_members, max_depth}
 use Rattle.model.specs.Answer.{Answer, refused, answered, ◌>>=◌}
 use Rattle.model.specs.Formula.{Literal, fact, denial, Formula, Formulas, lit, all, any, none, more}
 use Rattle.model.specs.Action.{Effect, Action, tabulate}
 use Rattle.model.specs.FormulaBytes.{member_count, formula_bytes}
-use Rattle.model.specs.ProblemBytes.{Problem, problem_of, action_at, encode_problem}
+use Rattle.model.specs.ProblemBytes.{Problem, problem_of, encode_problem}
 
 -- ---- the second hall's facts, moved up by n
 
@@ -61,9 +61,9 @@ unfoldable pub is_over : Formula → Bool
 is_over f =
     ltb max_formula_bytes (length (formula_bytes f)) || (ltb max_members (member_count (parts f)) || ltb max_depth (depth f))
 
--- ---- the merged problem, in an order that is free
+-- ---- the merged problem
 
--- both halls as one problem, the first hall's actions first
+-- both halls as one problem: the first hall's actions in their old order, and then the second's in theirs
 abbrev pub halls : Problem → Problem → Problem
 halls p q =
     record {
@@ -73,27 +73,9 @@ halls p q =
       actions = p.actions ++ map (moved_action p.facts) q.actions;
     }
 
--- free order: which new number each of m actions gets: each number below m goes to one of them
-pub record IsOrder (m : ℕ) (order : List ℕ) : Type 0 where
-  pub size : length order ≡ m
-  pub below : (i : ℕ) → i < m → get_or order i 0 < m
-  pub once : (i j : ℕ) → i < m → j < m → get_or order i 0 ≡ get_or order j 0 → i ≡ j
-  pub each : (b : ℕ) → b < m → (i : ℕ) × (i < m) × (get_or order i 0 ≡ b)
-
--- the old number of the action that has the new number b
-unfoldable pub old_of : List ℕ → ℕ → ℕ
-old_of [] b = 0
-old_of (k ∷ ks) b = cond (eqb k b) 0 (suc (old_of ks b))
-
--- the same problem with its actions in that order
-abbrev pub reordered : List ℕ → Problem → Problem
-reordered order r =
-    record {
-      facts = r.facts;
-      initial = r.initial;
-      goal = r.goal;
-      actions = tabulate (length r.actions) (λ b. action_at r.actions (old_of order b));
-    }
+-- table of numbers: which new number each of so many old actions has, the first hall's first: its place among both halls' actions
+abbrev pub new_numbers : ℕ → List ℕ
+new_numbers count = tabulate count (λ i. i)
 
 -- ---- the operation
 
@@ -127,19 +109,18 @@ pub record Merge : Type 0 where
   pub out : List ℕ
   pub table : List ℕ
 
--- a refusal leaves both as they were; else the one begins with the block, of version 2, in that order, and the other with the new number of each
--- old action, the first hall's first, a byte each. The answer is their lengths.
-unfoldable pub laid_out : List ℕ → List ℕ → List ℕ → Answer Problem → Merge
-laid_out order out table (refused n q) = record { answer = refused n q; out = out; table = table }
-laid_out order out table (answered r) =
+-- a refusal leaves both as they were; else the one begins with the block, of version 2, and the other with the new numbers, a byte each. The
+-- answer is their lengths.
+unfoldable pub laid_out : List ℕ → List ℕ → Answer Problem → Merge
+laid_out out table (refused n q) = record { answer = refused n q; out = out; table = table }
+laid_out out table (answered r) =
     let size = length (encode_problem version2 r) in
     let count = length r.actions in
     record {
       answer = answered (record { block = size; table = count });
-      out = encode_problem version2 (reordered order r) ++ drop size out;
-      table = order ++ drop count table;
+      out = encode_problem version2 r ++ drop size out;
+      table = new_numbers count ++ drop count table;
     }
 
--- merge: with the actions in that order
-unfoldable pub merge : List ℕ → List ℕ → List ℕ → List ℕ → List ℕ → Merge
-merge order first second out table = laid_out order out table (merged_for first second (length out) (length table))
+unfoldable pub merge : List ℕ → List ℕ → List ℕ → List ℕ → Merge
+merge first second out table = laid_out out table (merged_for first second (length out) (length table))

@@ -1,6 +1,6 @@
 -- Examples that are proved on their bytes: a call and what it gives, among them each refusal at its edge and inside it. What no row can say, for
 -- every plan or for walks of a million visits, is a statement beside the tables.
-use Rattle.std.specs.Prelude.{◌≡◌, List, [], ◌∷◌, ◌++◌, ℕ, zero, suc, ◌≤◌, ◌<◌, length, drop, replicate, map, codes}
+use Rattle.std.specs.Prelude.{◌≡◌, List, [], ◌∷◌, ◌++◌, ℕ, zero, suc, ◌+◌, ◌≤◌, ◌<◌, length, drop, replicate, map, codes}
 use Rattle.std.specs.Fmt.{digits}
 use Rattle.model.specs.declared.Limits.{Limits}
 use Rattle.model.specs.Limits.{version1, version2, limits_of}
@@ -18,7 +18,7 @@ use Rattle.model.specs.Search.{Search, first_right, none_right, undecided_at, ea
 use Rattle.model.specs.Read.{and_then, ◌>>=◌, ◌>>◌, done, position, require, answer_of, big_endian_from, bytes_of, block, byte, counted, of_version, header, count}
 use Rattle.model.specs.FormulaBytes.{formula_bytes, encode_formula, is_literal, literal_of, group_head, head_from, head, members, whole, item, stated, formula}
 use Rattle.model.specs.ProblemBytes.{effect, effects, effect_list, action, actions, ending, parts, body, problem, problem_of, steps, plan, plan_of, action_at, effects_bytes, action_bytes, actions_bytes, encode_problem}
-use Rattle.model.specs.Merging.{Merge, moved, depth, is_over, old_of, sized, roomy, merged_for, laid_out, merge}
+use Rattle.model.specs.Merging.{Merge, moved, depth, is_over, sized, roomy, merged_for, laid_out, merge}
 use Rattle.model.specs.ListBytes.{line_at, lines_from, of_the_problem, case_list, list_of, line_bytes, lines_bytes, encode_list}
 use Rattle.model.specs.Text.{hex}
 use Rattle.model.specs.DeskText.{desk_grant, marks, verdict_line, lines_text, list_text, verdict_rest, answer_line, answer_rest, first_line, later_lines, desk_text}
@@ -36,7 +36,7 @@ pub data Call : Type 0 where
   relevant-facts : List ℕ → List ℕ → ℕ → List ℕ → Call
   relevant-facts-sparse : List ℕ → List ℕ → ℕ → List ℕ → Call
   search-plans : List ℕ → ℕ → ℕ → Call
-  merge-in : List ℕ → List ℕ → List ℕ → List ℕ → List ℕ → Call
+  merge-halls : List ℕ → List ℕ → List ℕ → List ℕ → Call
   desk : Limits → List ℕ → List ℕ → Call
 
 pub data Reply : Type 0 where
@@ -51,7 +51,7 @@ pub data Reply : Type 0 where
 
 -- what the definitions give; a proof that unfolds this computes with all of them
 unfoldable pub reply : Call → Reply
-unfolding eval condition_in every exclusive applicable next step first_false unmet lowest_false part_of goes_on run bit state_of case_of run_of walk_from walk look_at walked judged Answer.◌>>=◌ first refuse_at ends fault follow cover_end and_then ◌>>=◌ ◌>>◌ done position require answer_of big_endian_from bytes_of block byte counted of_version header count is_literal literal_of group_head head_from head members whole item stated formula effect effects effect_list action actions ending parts body problem problem_of steps plan plan_of action_at line_at lines_from of_the_problem case_list list_of line_bytes lines_bytes encode_list is_state_number read_problem read_plan task_of read_task run_read judge_read list_bytes lines_for written lines_read write_read follow_read cover_read names some has_entry matters_before relevant states number_of rows relevant_to run_rows sparse_rows reached_read relevant_read each_step plans_of plans_from plans_up_to plan_count search search_plans formula_bytes encode_formula effects_bytes action_bytes actions_bytes encode_problem moved depth is_over old_of sized roomy merged_for laid_out merge hex digits marks lines_text list_text verdict_rest answer_line answer_rest first_line later_lines desk_text
+unfolding eval condition_in every exclusive applicable next step first_false unmet lowest_false part_of goes_on run bit state_of case_of run_of walk_from walk look_at walked judged Answer.◌>>=◌ first refuse_at ends fault follow cover_end and_then ◌>>=◌ ◌>>◌ done position require answer_of big_endian_from bytes_of block byte counted of_version header count is_literal literal_of group_head head_from head members whole item stated formula effect effects effect_list action actions ending parts body problem problem_of steps plan plan_of action_at line_at lines_from of_the_problem case_list list_of line_bytes lines_bytes encode_list is_state_number read_problem read_plan task_of read_task run_read judge_read list_bytes lines_for written lines_read write_read follow_read cover_read names some has_entry matters_before relevant states number_of rows relevant_to run_rows sparse_rows reached_read relevant_read each_step plans_of plans_from plans_up_to plan_count search search_plans formula_bytes encode_formula effects_bytes action_bytes actions_bytes encode_problem moved depth is_over sized roomy merged_for laid_out merge hex digits marks lines_text list_text verdict_rest answer_line answer_rest first_line later_lines desk_text
 reply (read-problem p) = counts (read_problem (limits_of p) p)
 reply (read-plan p q) = number (read_plan (limits_of p) p q)
 reply (run-state p q s) = outcome (run_state (limits_of p) p q s)
@@ -62,7 +62,7 @@ reply (cover-after p q l m) = number (cover_after (limits_of p) p q l m)
 reply (relevant-facts p q s work) = writes (relevant_facts (limits_of p) p q s work)
 reply (relevant-facts-sparse p q s work) = writes (relevant_facts_sparse (limits_of p) p q s work)
 reply (search-plans p l g) = searched (search_plans (limits_of p) p l g)
-reply (merge-in order p q out table) = merges (merge order p q out table)
+reply (merge-halls p q out table) = merges (merge p q out table)
 reply (desk F p q) = text (desk_text F p q)
 
 pub record Row : Type 0 where
@@ -671,46 +671,56 @@ any_of n = 0x81 ∷ n ∷ replicate n 0
 abbrev long_all : List ℕ
 long_all = 0x80 ∷ 3 ∷ (any_of 255 ++ (any_of 255 ++ any_of 255))
 
+-- two halls that idle as one problem: the second's actions ask for its fact, which is fact 1 now
+abbrev idle_moved : ℕ → List ℕ
+idle_moved zero = []
+idle_moved (suc n) = 0 ∷ 1 ∷ 1 ∷ 0 ∷ idle_moved n
+
+abbrev both_idling : ℕ → ℕ → List ℕ
+both_idling m n = block 2 (2 ∷ (m + n) ∷ (hex "0004 80 02 40 41 0004 80 02 00 01" ++ (idle m ++ idle_moved n)))
+
 abbrev merged_as : ℕ → List ℕ → List ℕ → Reply
 merged_as count out table =
     merges (record { answer = answered (record { block = length out; table = count }); out = out; table = table })
 
-abbrev pub not_merged : ℕ → ℕ → List ℕ → List ℕ → Reply
+abbrev not_merged : ℕ → ℕ → List ℕ → List ℕ → Reply
 not_merged n q out table = merges (record { answer = refused n q; out = out; table = table })
 
--- merge: two halls in three orders of their actions, with room to spare and without, and exchanged; too short a buffer for the block and for the
+-- merge: two halls with room to spare and without, and exchanged; no action, one and 64 of them; too short a buffer for the block and for the
 -- table; 64 facts and 65; an "any" that gets too deep, and an "all" as deep that does not; 255 members and 256; 1,024 bytes and 1,025; 65 actions;
 -- and what is refused of the halls, the first hall's first
 abbrev pub merge_rows : List Row
 merge_rows =
-    (merge-in (2 ∷ 0 ∷ 1 ∷ []) hall other_hall (replicate 62 7) (replicate 4 7) ⇒
+    (merge-halls hall other_hall (replicate 62 7) (replicate 4 7) ⇒
     merges
     (record {
       answer = answered (record { block = 60; table = 3 });
-      out = hex "02 00000037 04 03 0008 80 03 81 02 00 01 02 43 0007 80 02 01 81 02 42 03 0001 02 01 03 0002 80 00 0002 80 00 02 42 0001 43 43 0004 81 02 02 03 0002 80 00 01 01 0001 00" ++ (7 ∷ 7 ∷ []);
-      table = 2 ∷ 0 ∷ 1 ∷ 7 ∷ [];
+      out = hex "02 00000037 04 03 0008 80 03 81 02 00 01 02 43 0007 80 02 01 81 02 42 03 0002 80 00 01 01 0001 00 0001 02 01 03 0002 80 00 0002 80 00 02 42 0001 43 43 0004 81 02 02 03" ++ (7 ∷ 7 ∷ []);
+      table = 0 ∷ 1 ∷ 2 ∷ 7 ∷ [];
     }))
-    ∷ (merge-in (0 ∷ 1 ∷ 2 ∷ []) hall other_hall (replicate 60 7) (replicate 3 7) ⇒
-    merged_as 3 (hex "02 00000037 04 03 0008 80 03 81 02 00 01 02 43 0007 80 02 01 81 02 42 03 0002 80 00 01 01 0001 00 0001 02 01 03 0002 80 00 0002 80 00 02 42 0001 43 43 0004 81 02 02 03") (0 ∷ 1 ∷ 2 ∷ []))
-    ∷ (merge-in (2 ∷ 0 ∷ 1 ∷ []) other_hall hall (replicate 60 7) (replicate 3 7) ⇒
-    merged_as 3 (hex "02 00000037 04 03 0008 80 03 00 41 81 02 02 03 0007 80 02 81 02 40 01 03 0002 80 00 02 40 0001 41 41 0004 81 02 00 01 0002 80 00 01 03 0001 02 0001 00 01 01 0002 80 00") (2 ∷ 0 ∷ 1 ∷ []))
-    ∷ (merge-in (0 ∷ 1 ∷ 2 ∷ []) hall other_hall (replicate 59 7) (replicate 3 7) ⇒ not_merged 86 0 (replicate 59 7) (replicate 3 7))
-    ∷ (merge-in (0 ∷ 1 ∷ 2 ∷ []) hall other_hall (replicate 60 7) (replicate 2 7) ⇒ not_merged 86 0 (replicate 60 7) (replicate 2 7))
-    ∷ (merge-in [] (hall_of 63 always always) (hall_of 1 always (0 ∷ [])) (replicate 16 7) [] ⇒ merged_as 0 (hall_of 64 always (hex "80 01 3f")) [])
-    ∷ (merge-in [] (hall_of 64 always always) (hall_of 1 always always) (replicate 15 7) [] ⇒ not_merged 82 0 (replicate 15 7) [])
-    ∷ (merge-in [] (hall_of 64 deep_any always) (hall_of 1 always always) [] [] ⇒ not_merged 82 0 [] [])
-    ∷ (merge-in [] (hall_of 1 deep_any always) (hall_of 1 always always) [] [] ⇒ not_merged 84 0 [] [])
-    ∷ (merge-in [] (hall_of 1 always always) (hall_of 1 always deep_any) [] [] ⇒ not_merged 84 0 [] [])
-    ∷ (merge-in [] (hall_of 1 deep_all always) (hall_of 1 always deep_all) (replicate 43 7) [] ⇒ merged_as 0 (hall_of 2 deep_all deep_all) [])
-    ∷ (merge-in [] (hall_of 1 (all_of 254) always) (hall_of 1 (0 ∷ []) always) (replicate 270 7) [] ⇒
+    ∷ (merge-halls other_hall hall (replicate 60 7) (replicate 3 7) ⇒
+    merged_as 3 (hex "02 00000037 04 03 0008 80 03 00 41 81 02 02 03 0007 80 02 81 02 40 01 03 0001 00 01 01 0002 80 00 0002 80 00 02 40 0001 41 41 0004 81 02 00 01 0002 80 00 01 03 0001 02") (0 ∷ 1 ∷ 2 ∷ []))
+    ∷ (merge-halls (idling 0) (idling 0) (replicate 19 7) [] ⇒ merged_as 0 (both_idling 0 0) [])
+    ∷ (merge-halls (idling 0) (idling 1) (replicate 23 7) (7 ∷ []) ⇒ merged_as 1 (both_idling 0 1) (0 ∷ []))
+    ∷ (merge-halls (idling 31) (idling 33) (replicate 275 7) (replicate 64 7) ⇒
+    merged_as 64 (both_idling 31 33) (hex "000102030405060708090a0b0c0d0e0f 101112131415161718191a1b1c1d1e1f 202122232425262728292a2b2c2d2e2f 303132333435363738393a3b3c3d3e3f"))
+    ∷ (merge-halls hall other_hall (replicate 59 7) (replicate 3 7) ⇒ not_merged 86 0 (replicate 59 7) (replicate 3 7))
+    ∷ (merge-halls hall other_hall (replicate 60 7) (replicate 2 7) ⇒ not_merged 86 0 (replicate 60 7) (replicate 2 7))
+    ∷ (merge-halls (hall_of 63 always always) (hall_of 1 always (0 ∷ [])) (replicate 16 7) [] ⇒ merged_as 0 (hall_of 64 always (hex "80 01 3f")) [])
+    ∷ (merge-halls (hall_of 64 always always) (hall_of 1 always always) (replicate 15 7) [] ⇒ not_merged 82 0 (replicate 15 7) [])
+    ∷ (merge-halls (hall_of 64 deep_any always) (hall_of 1 always always) [] [] ⇒ not_merged 82 0 [] [])
+    ∷ (merge-halls (hall_of 1 deep_any always) (hall_of 1 always always) [] [] ⇒ not_merged 84 0 [] [])
+    ∷ (merge-halls (hall_of 1 always always) (hall_of 1 always deep_any) [] [] ⇒ not_merged 84 0 [] [])
+    ∷ (merge-halls (hall_of 1 deep_all always) (hall_of 1 always deep_all) (replicate 43 7) [] ⇒ merged_as 0 (hall_of 2 deep_all deep_all) [])
+    ∷ (merge-halls (hall_of 1 (all_of 254) always) (hall_of 1 (0 ∷ []) always) (replicate 270 7) [] ⇒
     merged_as 0 (hall_of 2 (0x80 ∷ 255 ∷ (replicate 254 0 ++ (1 ∷ []))) always) [])
-    ∷ (merge-in [] (hall_of 1 (all_of 254) always) (hall_of 1 (all_of 2) always) (replicate 271 7) [] ⇒ not_merged 84 0 (replicate 271 7) [])
-    ∷ (merge-in [] (hall_of 1 always long_all) (hall_of 1 always (any_of 249)) [] [] ⇒ not_merged 86 0 [] [])
-    ∷ (merge-in [] (hall_of 1 always long_all) (hall_of 1 always (any_of 250)) [] [] ⇒ not_merged 84 0 [] [])
-    ∷ (merge-in [] (idling 64) (idling 1) [] [] ⇒ not_merged 83 0 [] [])
-    ∷ (merge-in [] [] [] (7 ∷ []) (7 ∷ []) ⇒ not_merged 11 0 (7 ∷ []) (7 ∷ []))
-    ∷ (merge-in [] (3 ∷ hex "00000000") [] [] [] ⇒ not_merged 12 0 [] [])
-    ∷ (merge-in [] hall (2 ∷ hex "00000001 41") (7 ∷ []) [] ⇒ not_merged 15 5 (7 ∷ []) [])
+    ∷ (merge-halls (hall_of 1 (all_of 254) always) (hall_of 1 (all_of 2) always) (replicate 271 7) [] ⇒ not_merged 84 0 (replicate 271 7) [])
+    ∷ (merge-halls (hall_of 1 always long_all) (hall_of 1 always (any_of 249)) [] [] ⇒ not_merged 86 0 [] [])
+    ∷ (merge-halls (hall_of 1 always long_all) (hall_of 1 always (any_of 250)) [] [] ⇒ not_merged 84 0 [] [])
+    ∷ (merge-halls (idling 64) (idling 1) [] [] ⇒ not_merged 83 0 [] [])
+    ∷ (merge-halls [] [] (7 ∷ []) (7 ∷ []) ⇒ not_merged 11 0 (7 ∷ []) (7 ∷ []))
+    ∷ (merge-halls (3 ∷ hex "00000000") [] [] [] ⇒ not_merged 12 0 [] [])
+    ∷ (merge-halls hall (2 ∷ hex "00000001 41") (7 ∷ []) [] ⇒ not_merged 15 5 (7 ∷ []) [])
     ∷ []
 
 -- tables: every row gives what it says

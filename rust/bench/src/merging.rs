@@ -166,9 +166,8 @@ const ABOUT: &str = "
 ## Merge, beside plain Rust
 
 Nanoseconds of merging two halls, reading included: `larkhammock_merge` of the proved archive (ours), and one written by hand in Rust
-(`rust/bench/src/plain/merge.rs`), which has the reading of all plain Rust here, refuses alike and gives the same problem, up to the order of
-its actions, which is free. The second hall is of version 2. The bytes, and those a second, are of the problem that is written; about as many
-are read. In the last two rows every formula of both halls is a group of this one kind, and their problem is nearly the longest there is.
+(`rust/bench/src/plain/merge.rs`), which has the reading of all plain Rust here, refuses alike and gives the same bytes. The second hall is of
+version 2. The bytes, and those a second, are of the problem that is written; about as many are read. In the last two rows every formula of both halls is a group of this one kind, and their problem is nearly the longest there is.
 ";
 
 fn growth_table(rows: &[Row]) -> String {

@@ -173,24 +173,10 @@ fn hex(bytes: &[u8]) -> String {
     bytes.iter().map(|b| format!("{b:02x}")).collect()
 }
 
-/// The oracle in a library's place. A merged problem's actions may be in any order: it
-/// takes that of this table where one is told there, and the first hall's first elsewhere.
-struct Oracle<'a> {
-    table: &'a [u8],
-}
+/// The oracle in a library's place.
+struct Oracle;
 
-impl Oracle<'_> {
-    fn order(&self, actions: usize) -> Vec<usize> {
-        let numbers = self.table.iter().copied().map(usize::from);
-        let told: Vec<usize> = numbers.take(actions).collect();
-        if told.len() == actions && oracle::is_order(&told) {
-            return told;
-        }
-        (0..actions).collect()
-    }
-}
-
-impl Subject for Oracle<'_> {
+impl Subject for Oracle {
     fn read_problem(&self, problem: &[u8]) -> Answer {
         answer::read_problem(&oracle::read_problem(problem))
     }
@@ -249,7 +235,7 @@ impl Subject for Oracle<'_> {
 
     fn merge(&self, first: &[u8], second: &[u8], out: &mut Arena, table: &mut Arena) -> Answer {
         let lent = [out.room.len(), table.room.len()];
-        let merged = oracle::merge_blocks([first, second], lent, |count| self.order(count));
+        let merged = oracle::merge_blocks([first, second], lent);
         if let Ok(merged) = &merged {
             out.out()[..merged.block.len()].copy_from_slice(&merged.block);
             table.out()[..merged.numbers.len()].copy_from_slice(&merged.numbers);
@@ -267,14 +253,7 @@ fn put<'a>(arena: &mut Arena, values: impl Iterator<Item = &'a bool>) {
 
 /// What the oracle says of one call.
 pub fn expected(operation: Operation, case: &Case) -> Effect {
-    observed(&Oracle { table: &[] }, operation, case)
-}
-
-/// The same beside what a subject made of it, whose order of merged actions is as good as
-/// any other.
-fn expected_beside(got: &Effect, operation: Operation, case: &Case) -> Effect {
-    let table = got.table.lent();
-    observed(&Oracle { table }, operation, case)
+    observed(&Oracle, operation, case)
 }
 
 /// What the subject makes of one call.
@@ -329,8 +308,7 @@ pub fn check(
     case: &Case,
 ) -> Result<Answer, Box<Difference>> {
     let got = observed(subject, operation, case);
-    let expected = expected_beside(&got, operation, case);
-    compare(operation, case, expected, got)
+    compare(operation, case, expected(operation, case), got)
 }
 
 fn compare(
@@ -363,7 +341,7 @@ pub fn check_all(subject: &dyn Subject, case: &Case) -> Result<Vec<Answer>, Box<
 #[track_caller]
 pub fn expect(subject: &dyn Subject, operation: Operation, case: &Case, named: &[u64]) {
     let got = observed(subject, operation, case);
-    let expected = expected_beside(&got, operation, case);
+    let expected = expected(operation, case);
     assert_eq!(expected.answer, words(named), "the oracle's {operation:?}");
     if let Err(difference) = compare(operation, case, expected, got) {
         panic!("{difference:?}");

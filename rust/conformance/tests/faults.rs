@@ -815,10 +815,8 @@ fn the_oracle_without_a_fault_is_not_found_out(version: &Version) {
         check(&layout, Operation::RelevantFactsSparse, &case).expect("the layout is as written");
         let search = Fault::Searches(Searcher::AsWritten);
         check(&search, Operation::SearchPlans, &case).expect("the search is as written");
-        for merger in Merger::RIGHT {
-            let merge = Fault::Merges(merger);
-            check(&merge, Operation::Merge, &case).expect("the merge is as written");
-        }
+        let merge = Fault::Merges(Merger::AsWritten);
+        check(&merge, Operation::Merge, &case).expect("the merge is as written");
     }
     let list = trial::list(version);
     let state = version.number(&[false, true, true]);

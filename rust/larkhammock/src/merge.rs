@@ -13,8 +13,10 @@ use crate::{accepted, broken, raw, Refusal};
 /// first hall's fact count. The initial formula is the "all" of both initial formulas
 /// and the goal that of both goals, the first hall's part first; an "all" among them is
 /// taken apart into its members, and any other formula is one member. Every action keeps
-/// its bytes but for the facts of the second hall. Which number it gets is the library's
-/// choice, and [`Merged::numbers`] tells it.
+/// its bytes but for the facts of the second hall. The first hall's actions come first
+/// in their old order and keep their numbers, and the second's follow in theirs: each of
+/// their numbers goes up by the first hall's action count. So two halls have one merged
+/// problem, byte for byte.
 ///
 /// The block is written to the front of `out` and the numbers to the front of `table`,
 /// a byte each. Bytes past them keep their values, and so do all bytes where the call
@@ -98,12 +100,11 @@ pub struct Merged<'a> {
     /// The merged problem's block, of version 2.
     pub problem: &'a [u8],
     /// The merged number of each action, a byte each: of those of the first hall in
-    /// order, and then of those of the second. Each number below the count of all is
-    /// there once.
+    /// order, and then of those of the second: 0, 1, 2 and so on.
     pub numbers: &'a [u8],
     first_facts: u64,
-    /// At most as many as there are numbers.
-    first_actions: usize,
+    first_actions: u8,
+    second_actions: u8,
 }
 
 impl<'a> Merged<'a> {
@@ -119,40 +120,33 @@ impl<'a> Merged<'a> {
             return None;
         };
         // The first problem is sound: it has its counts after five bytes.
-        let (facts, actions) = (*first.get(5)?, usize::from(*first.get(6)?));
-        let numbers = front(table, count)?;
-        (actions <= numbers.len()).then_some(Merged {
+        let (facts, actions) = (*first.get(5)?, *first.get(6)?);
+        Some(Merged {
             problem: front(out, block)?,
-            numbers,
+            numbers: front(table, count)?,
             first_facts: facts.into(),
             first_actions: actions,
+            second_actions: u8::try_from(count).ok()?.checked_sub(actions)?,
         })
-    }
-
-    /// The numbers of one hall's actions.
-    fn numbers_of(&self, hall: Hall) -> &'a [u8] {
-        let (first, second) = self.numbers.split_at(self.first_actions);
-        match hall {
-            Hall::First => first,
-            Hall::Second => second,
-        }
     }
 
     /// The merged problem's action that is this action of a hall; none where the hall
     /// has no such action. It is what a step of the hall's plan becomes in a merged
     /// plan.
     pub fn step(&self, hall: Hall, action: u8) -> Option<u8> {
-        self.numbers_of(hall).get(usize::from(action)).copied()
+        match hall {
+            Hall::First => (action < self.first_actions).then_some(action),
+            Hall::Second => (action < self.second_actions).then(|| self.first_actions + action),
+        }
     }
 
     /// The hall's action that a step of a merged plan is; none where the merged problem
     /// has no such action.
     pub fn action(&self, step: u8) -> Option<(Hall, u8)> {
-        [Hall::First, Hall::Second].into_iter().find_map(|hall| {
-            let mut numbers = self.numbers_of(hall).iter();
-            let action = numbers.position(|number| *number == step)?;
-            Some((hall, action as u8))
-        })
+        match step.checked_sub(self.first_actions) {
+            None => Some((Hall::First, step)),
+            Some(action) => (action < self.second_actions).then_some((Hall::Second, action)),
+        }
     }
 
     /// The hall's fact that a fact of the merged problem is, such as that which blocks a
@@ -173,7 +167,7 @@ mod tests {
 
     #[test]
     fn lengths_past_a_buffer_are_no_answer() {
-        let (out, table) = ([7; 20], [0, 2, 1]);
+        let (out, table) = ([7; 20], [0, 1, 2]);
         let told = |lengths: &[u64]| Merged::of_words(&FIRST, lengths, &out, &table);
         let merged = told(&[20, 3]).expect("both buffers are long enough");
         assert_eq!((merged.problem, merged.numbers), (&out[..], &table[..]));
@@ -185,13 +179,13 @@ mod tests {
 
     #[test]
     fn an_action_of_each_hall_has_its_step() {
-        let (out, table) = ([7; 20], [3, 0, 1, 2]);
+        let (out, table) = ([7; 20], [0, 1, 2, 3]);
         let merged = Merged::of_words(&FIRST, &[20, 4], &out, &table).expect("it is one");
         let steps = |hall| [0, 1, 2].map(|action| merged.step(hall, action));
-        assert_eq!(steps(Hall::First), [Some(3), Some(0), None]);
-        assert_eq!(steps(Hall::Second), [Some(1), Some(2), None]);
-        assert_eq!(merged.action(3), Some((Hall::First, 0)));
-        assert_eq!(merged.action(2), Some((Hall::Second, 1)));
+        assert_eq!(steps(Hall::First), [Some(0), Some(1), None]);
+        assert_eq!(steps(Hall::Second), [Some(2), Some(3), None]);
+        assert_eq!(merged.action(0), Some((Hall::First, 0)));
+        assert_eq!(merged.action(3), Some((Hall::Second, 1)));
         assert_eq!(merged.action(4), None);
         assert_eq!(merged.fact(2), (Hall::First, 2));
         assert_eq!(merged.fact(3), (Hall::Second, 0));

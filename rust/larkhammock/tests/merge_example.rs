@@ -56,39 +56,6 @@ fn merged(test: &str) -> (Vec<u8>, Vec<u8>) {
     written.read()
 }
 
-/// What follows a formula and the length before it.
-fn past_formula(bytes: &[u8]) -> &[u8] {
-    let length = usize::from(u16::from_be_bytes([bytes[0], bytes[1]]));
-    &bytes[2 + length..]
-}
-
-/// A sound problem taken apart: what comes before its actions, and each of them.
-fn parts(problem: &[u8]) -> (&[u8], Vec<&[u8]>) {
-    let before = |rest: &[u8]| problem.len() - rest.len();
-    let mut rest = past_formula(past_formula(&problem[7..]));
-    let head = &problem[..before(rest)];
-    let mut actions = Vec::new();
-    for _ in 0..problem[6] {
-        let begin = before(rest);
-        rest = past_formula(rest);
-        let effects = rest[0];
-        rest = (0..effects).fold(&rest[1..], |rest, _| past_formula(&rest[1..]));
-        actions.push(&problem[begin..before(rest)]);
-    }
-    (head, actions)
-}
-
-/// Each action of both halls in turn, which the table has under one number each.
-fn in_turn<'a>(actions: &[&'a [u8]], table: &[u8]) -> Vec<&'a [u8]> {
-    let mut numbers = table.to_vec();
-    numbers.sort_unstable();
-    assert!(numbers.into_iter().eq(0..actions.len() as u8));
-    table
-        .iter()
-        .map(|number| actions[usize::from(*number)])
-        .collect()
-}
-
 /// A plan's block.
 fn plan(steps: &[u8]) -> Vec<u8> {
     [&[1, 0, 0, 0, steps.len() as u8], steps].concat()
@@ -108,7 +75,7 @@ fn by_turns(table: &[u8], second_plan: &[u8]) -> Vec<u8> {
     plan(&steps.copied().collect::<Vec<u8>>())
 }
 
-/// As the page of the example has it, up to the order of the actions.
+/// As the page of the example has it, byte by byte.
 #[test]
 fn it_merges_the_two_halls() {
     let (problem, table) = merged("halls");
@@ -118,12 +85,13 @@ fn it_merges_the_two_halls() {
         actions: 8,
     };
     assert_eq!(read_problem(&problem), Ok(counts));
-    let (expected, numbers) = (file("problem"), file("table"));
-    let (head, actions) = parts(&problem);
-    let (expected_head, expected_actions) = parts(&expected);
-    assert_eq!(head, expected_head);
-    let expected_actions = in_turn(&expected_actions, &numbers);
-    assert_eq!(in_turn(&actions, &table), expected_actions);
+    assert_eq!((problem, table), (file("problem"), file("table")));
+}
+
+/// Whoever merges the same halls again writes the same files.
+#[test]
+fn two_merges_are_the_same_files() {
+    assert_eq!(merged("once"), merged("again"));
 }
 
 #[test]

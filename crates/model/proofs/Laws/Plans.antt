@@ -13,7 +13,7 @@ module _ {A : Type 0} where
   each-if P Q f [] x = tt
   each-if P Q f (a ∷ l) x = (f a x.0, each-if P Q f l x.1)
 
-  each_map : (P Q : A → Type 0) (f : A → A) → ((a : A) → P a → Q (f a)) → (l : List A) → Each P l → Each Q (map f l)
+  pub each_map : (P Q : A → Type 0) (f : A → A) → ((a : A) → P a → Q (f a)) → (l : List A) → Each P l → Each Q (map f l)
   each_map P Q f h [] x = tt
   each_map P Q f h (a ∷ l) x = (h a x.0, each_map P Q f h l x.1)
 

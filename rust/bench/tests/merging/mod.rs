@@ -1,7 +1,7 @@
 //! The library's merging beside that in plain Rust.
 
 use bench::plain::merge::merge;
-use bench::plain::read::{Refusal, Task};
+use bench::plain::read::Refusal;
 use bench::problems::{bombs, grid, sorting, store, Full, Measured};
 use conformance::families::idle;
 use conformance::gen::{formula_of_size, Rng};
@@ -48,7 +48,7 @@ pub fn rooms(rng: &mut Rng, first: &[u8], second: &[u8]) -> Rooms {
     }
 }
 
-/// Holds plain Rust to the library, whose order of actions is its own; the number of
+/// Holds plain Rust to the library, every byte of both buffers with it; the number of
 /// their refusal, or else 0.
 #[track_caller]
 pub fn alike(first: &[u8], second: &[u8], (out, table): Rooms, what: &str) -> u64 {
@@ -56,49 +56,17 @@ pub fn alike(first: &[u8], second: &[u8], (out, table): Rooms, what: &str) -> u6
     let (mut block, mut numbers) = buffers();
     let told = raw::merge(first, second, &mut block, &mut numbers).word;
     let (mut plain, mut in_turn) = buffers();
-    match merge(first, second, &mut plain, &mut in_turn) {
-        Ok((length, count)) => {
-            let words = [1, length as u64, count as u64, 0, 0, 0, 0, 0];
-            assert_eq!(told, words, "{what}");
-            let expected = reordered(&plain[..length], &numbers[..count], what);
-            assert_eq!(block[..length], expected, "{what}");
-            assert!(
-                in_turn[..count].iter().copied().eq(0..count as u8),
-                "{what}"
-            );
-            let past = [
-                &block[length..],
-                &numbers[count..],
-                &plain[length..],
-                &in_turn[count..],
-            ];
-            assert!(past.concat().iter().all(|byte| *byte == BEFORE), "{what}");
-            0
-        }
+    let (words, refused) = match merge(first, second, &mut plain, &mut in_turn) {
+        Ok((length, count)) => ([1, length as u64, count as u64, 0, 0, 0, 0, 0], 0),
         Err(Refusal { number, place }) => {
-            let words = [0, number.into(), place as u64, 0, 0, 0, 0, 0];
-            assert_eq!(told, words, "{what}");
-            let untouched = buffers();
-            assert!((block, numbers) == untouched, "{what}");
-            assert!((plain, in_turn) == untouched, "{what}");
-            number.into()
+            assert!((&plain, &in_turn) == (&buffers().0, &buffers().1), "{what}");
+            let number = u64::from(number);
+            ([0, number, place as u64, 0, 0, 0, 0, 0], number)
         }
-    }
-}
-
-/// The same block with each action under its new number, which no other has.
-fn reordered(block: &[u8], numbers: &[u8], what: &str) -> Vec<u8> {
-    let task = Task::of_problem(block).expect("what was merged is sound");
-    let ends = task.actions[..numbers.len()].iter().copied();
-    let ends: Vec<usize> = ends.chain([block.len()]).collect();
-    let mut actions = vec![None; numbers.len()];
-    for (bounds, number) in ends.windows(2).zip(numbers) {
-        let place = &mut actions[usize::from(*number)];
-        assert!(place.is_none(), "{what}: two actions are {number}");
-        *place = Some(&block[bounds[0]..bounds[1]]);
-    }
-    let actions = actions.into_iter().flatten().flatten();
-    block[..ends[0]].iter().chain(actions).copied().collect()
+    };
+    assert_eq!(told, words, "{what}");
+    assert!(block == plain && numbers == in_turn, "{what}");
+    refused
 }
 
 /// Some that fit together, and some that do not: too many facts, actions or bytes, and

@@ -21,15 +21,13 @@ pub struct Merging {
 impl Merging {
     /// Each action keeps its number, and the second hall's come after the first's.
     pub fn new(first: &Problem, second: &Problem) -> Merging {
-        let actions = first.actions.len();
-        let order: Vec<usize> = (0..actions + second.actions.len()).collect();
-        let merged = merge(first, second, &order).expect("the halls are small");
+        let merged = merge(first, second).expect("the halls are small");
         Merging {
             first: encode::problem(first),
             second: encode::problem(second),
             problem: encode::problem(&merged),
-            table: order.iter().map(|number| *number as u8).collect(),
-            actions,
+            table: (0..merged.actions.len() as u8).collect(),
+            actions: first.actions.len(),
             story: String::new(),
         }
     }
@@ -55,14 +53,9 @@ impl Merging {
 
     /// The names of both halls in the merged problem.
     pub fn names(&self, first: &Names, second: &Names) -> Names {
-        let of_both = || first.actions.iter().chain(&second.actions);
-        let mut actions = vec![String::new(); self.table.len()];
-        for (name, number) in of_both().zip(&self.table) {
-            actions[usize::from(*number)] = name.clone();
-        }
         Names {
             facts: [&first.facts[..], &second.facts[..]].concat(),
-            actions,
+            actions: [&first.actions[..], &second.actions[..]].concat(),
         }
     }
 

@@ -116,10 +116,11 @@ step is fact 2 of the second hall, which is fact 8 here.";
 
 const MERGING: &str = "\
 `problem` and `table` are the files `first` and `second` merged, by the operation
-`merge`. Which numbers the actions get is free; the table tells: its byte i is the
-new number of the first hall's action i, and its byte 6 + i that of the second's.
-In this file they are NUMBERS. The facts are not free: the second
-hall's follow the first's, so that its fact f is fact 6 + f.
+`merge`. The first hall's actions come first in their old order, and then the
+second's in theirs. The table tells their new numbers: its byte i is that of the
+first hall's action i, and its byte 6 + i that of the second's. Here they
+are NUMBERS. The second hall's facts follow the first's too, so
+that its fact f is fact 6 + f.
 
 A plan for a hall becomes steps of a merged plan by the table: `first-plan` is
 FIRST there, and `second-plan` is SECOND.";

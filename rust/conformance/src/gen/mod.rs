@@ -222,8 +222,7 @@ fn settle_merge(case: &mut Case) {
         return;
     };
     let count = first.actions.len() + second.actions.len();
-    let order: Vec<usize> = (0..count).collect();
-    let Ok(merged) = merge(&first, &second, &order) else {
+    let Ok(merged) = merge(&first, &second) else {
         return;
     };
     let block = encode::problem(&merged).len();

@@ -15,16 +15,16 @@ pub struct Merged {
     pub numbers: Vec<u8>,
 }
 
-/// The merged problem. The order of its actions is free: the one that was number `i`,
-/// those of the second hall counted on from the first's, gets the number `order[i]`.
-pub fn merge(first: &Problem, second: &Problem, order: &[usize]) -> Result<Problem, Refusal> {
+/// The merged problem, with the first hall's actions in their order and then the second's
+/// in theirs.
+pub fn merge(first: &Problem, second: &Problem) -> Result<Problem, Refusal> {
     if usize::from(first.facts) + usize::from(second.facts) > VERSION_2.most_facts.into() {
         return Refusal::at(82, 0);
     }
     if first.actions.len() + second.actions.len() > MOST_ACTIONS {
         return Refusal::at(83, 0);
     }
-    let merged = halls(first, second, order);
+    let merged = halls(first, second);
     if is_over(&merged.initial) || is_over(&merged.goal) {
         return Refusal::at(84, 0);
     }
@@ -34,42 +34,36 @@ pub fn merge(first: &Problem, second: &Problem, order: &[usize]) -> Result<Probl
     Ok(merged)
 }
 
-/// The same of blocks, for buffers of so many bytes for the block and for the numbers,
-/// with an order of as many actions as there are.
+/// The same of blocks, for buffers of so many bytes for the block and for the numbers.
 pub fn merge_blocks(
     [first, second]: [&[u8]; 2],
     [room, places]: [usize; 2],
-    order: impl FnOnce(usize) -> Vec<usize>,
 ) -> Result<Merged, Refusal> {
     let first = parse::problem(first)?;
     let second = parse::problem(second)?;
-    let order = order(first.actions.len() + second.actions.len());
-    let block = encode::problem(&merge(&first, &second, &order)?);
-    if room < block.len() || places < order.len() {
+    let merged = merge(&first, &second)?;
+    let (block, count) = (encode::problem(&merged), merged.actions.len());
+    if room < block.len() || places < count {
         return Refusal::at(86, 0);
     }
-    let numbers = order.iter().map(|number| *number as u8).collect();
+    let numbers = (0..count as u8).collect();
     Ok(Merged { block, numbers })
 }
 
-/// Whether it is a one-to-one numbering: each number below their count is there.
-pub fn is_order(order: &[usize]) -> bool {
-    (0..order.len()).all(|number| order.contains(&number))
-}
-
 /// Both halls in one, whatever its size.
-fn halls(first: &Problem, second: &Problem, order: &[usize]) -> Problem {
+fn halls(first: &Problem, second: &Problem) -> Problem {
     let by = first.facts;
     let both = |one: &Formula, other: &Formula| {
         let parts = [parts(one.clone()), parts(moved(other, by))];
         Formula::all(parts.concat())
     };
+    let moved_actions = second.actions.iter().map(|action| moved_action(action, by));
     Problem {
         version: VERSION_2,
         facts: by + second.facts,
         initial: both(&first.initial, &second.initial),
         goal: both(&first.goal, &second.goal),
-        actions: ordered(first, second, order),
+        actions: first.actions.iter().cloned().chain(moved_actions).collect(),
     }
 }
 
@@ -79,18 +73,6 @@ fn parts(formula: Formula) -> Vec<Formula> {
         Formula::Group(Kind::All, members) => members,
         other => vec![other],
     }
-}
-
-/// Looked for by its new number, one action after the other.
-fn ordered(first: &Problem, second: &Problem, order: &[usize]) -> Vec<Action> {
-    let moved = second.actions.iter().map(|a| moved_action(a, first.facts));
-    let old: Vec<Action> = first.actions.iter().cloned().chain(moved).collect();
-    assert!(old.len() == order.len() && is_order(order), "{order:?}");
-    let of_number = |number| {
-        let at = order.iter().position(|n| *n == number);
-        old[at.expect("each number is one action's")].clone()
-    };
-    (0..old.len()).map(of_number).collect()
 }
 
 /// The same of other facts, their numbers so much higher.
@@ -144,31 +126,20 @@ mod tests {
     #[test]
     fn two_trials_byte_by_byte() {
         let merged = "02 0000003a 06 04 000c 80 04 81 02 00 01 42 81 02 03 04 45 0004 80 02 02 05
-                      0002 80 00 01 05 0001 04 0002 80 00 01 02 0001 00
-                      0002 80 00 01 05 0001 03 0002 80 00 01 02 0001 01";
+                      0002 80 00 01 02 0001 00 0002 80 00 01 02 0001 01
+                      0002 80 00 01 05 0001 03 0002 80 00 01 05 0001 04";
         for first in VERSIONS {
             for second in VERSIONS {
                 let halls = [trial::problem(&first), trial::problem(&second)];
                 let halls = [&halls[0][..], &halls[1]];
-                let told = merge_blocks(halls, [63, 4], |_| vec![1, 3, 2, 0]);
+                let told = merge_blocks(halls, [63, 4]);
                 let block = trial::hex(merged);
-                let numbers = vec![1, 3, 2, 0];
+                let numbers = vec![0, 1, 2, 3];
                 assert_eq!(told, Ok(Merged { block, numbers }));
                 for room in [[62, 4], [63, 3], [0, 0]] {
-                    let told = merge_blocks(halls, room, |_| vec![0, 1, 2, 3]);
-                    assert_eq!(told, Refusal::at(86, 0));
+                    assert_eq!(merge_blocks(halls, room), Refusal::at(86, 0));
                 }
             }
-        }
-    }
-
-    #[test]
-    fn an_order_has_each_number() {
-        for order in [&[][..], &[0], &[1, 0], &[2, 0, 1]] {
-            assert!(is_order(order), "{order:?}");
-        }
-        for order in [&[1][..], &[0, 0], &[0, 2], &[1, 2, 3]] {
-            assert!(!is_order(order), "{order:?}");
         }
     }
 
@@ -183,7 +154,7 @@ mod tests {
 
     #[test]
     fn facts_and_actions_past_the_most() {
-        let of = |first, second| merge(&idle(VERSION_1, first), &idle(VERSION_2, second), &[]);
+        let of = |first, second| merge(&idle(VERSION_1, first), &idle(VERSION_2, second));
         assert!(of(48, 16).is_ok());
         assert_eq!(of(48, 17), Refusal::at(82, 0));
     }

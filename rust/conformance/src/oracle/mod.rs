@@ -16,7 +16,7 @@ use crate::model::{Action, Line, Problem};
 use crate::version::STRETCH;
 
 pub use cases::{closes, walk, End, Walk};
-pub use merge::{is_order, merge, merge_blocks, Merged};
+pub use merge::{merge, merge_blocks, Merged};
 pub use relevance::{conditions, named, Facts};
 pub use search::{plans, Search};
 pub use states::{after, conflicts, holds, lowest_failing, outcome, states};

@@ -11,10 +11,15 @@ use conformance::version::{Version, VERSION_2};
 
 #[derive(Clone, Copy, Debug, PartialEq, Eq)]
 pub enum Merger {
-    /// With the last action first, which is as good an order as any.
     AsWritten,
-    /// With another order, which is not its own inverse.
-    Turned,
+    /// The second hall's actions come first, as the table says.
+    SecondHallFirst,
+    /// An action of each hall in turn, as the table says.
+    ByTurns,
+    /// The last action comes first, as the table says.
+    LastFirst,
+    /// The first action comes last, which is not its own inverse, as the table says.
+    FirstLast,
     SecondNotMoved,
     MovedBySecond,
     DenialsNotMoved,
@@ -31,9 +36,10 @@ pub enum Merger {
     LastActionForgotten,
     /// The numbers of the second hall come first.
     TableOfSecondFirst,
-    /// For each new number the old one, and not the other way about.
-    TableOfOldNumbers,
-    TableInOrder,
+    /// The numbers of the second hall begin at 0 again.
+    TableOfSecondFromZero,
+    TableFromOne,
+    TableFromTheLast,
     TableNotWritten,
     /// The first action has the number of the second.
     NumberTwice,
@@ -54,9 +60,11 @@ pub enum Merger {
 use Merger::*;
 
 impl Merger {
-    pub const RIGHT: [Merger; 2] = [AsWritten, Turned];
-
-    pub const WRONG: [Merger; 39] = [
+    pub const WRONG: [Merger; 44] = [
+        SecondHallFirst,
+        ByTurns,
+        LastFirst,
+        FirstLast,
         SecondNotMoved,
         MovedBySecond,
         DenialsNotMoved,
@@ -72,8 +80,9 @@ impl Merger {
         VersionOfFirst,
         LastActionForgotten,
         TableOfSecondFirst,
-        TableOfOldNumbers,
-        TableInOrder,
+        TableOfSecondFromZero,
+        TableFromOne,
+        TableFromTheLast,
         TableNotWritten,
         NumberTwice,
         RestCleared,
@@ -233,35 +242,59 @@ impl Merger {
         Some(number)
     }
 
-    /// What both buffers begin with then; the length of the block.
-    fn write(self, halls: &Problem, first: usize, [out, table]: [&mut [u8]; 2]) -> usize {
-        let count = halls.actions.len();
-        let order: Vec<usize> = match self {
-            AsWritten => (0..count).rev().collect(),
-            _ => (1..count).chain([0]).take(count).collect(),
-        };
-        let old = |new| order.iter().position(|n| *n == new).expect("it is told");
-        let actions = (0..count).map(|new| halls.actions[old(new)].clone());
-        let block = encode::problem(&Problem {
-            actions: actions.collect(),
-            ..halls.clone()
-        });
-        let mut numbers = match self {
-            TableOfOldNumbers => (0..count).map(old).collect(),
-            TableInOrder => (0..count).collect(),
+    /// The old number of each action, of which so many are the first hall's.
+    fn order(self, count: usize, first: usize) -> Vec<usize> {
+        let first = first.min(count);
+        match self {
+            SecondHallFirst => (first..count).chain(0..first).collect(),
+            ByTurns => by_turns((0..first).collect(), (first..count).collect()),
+            LastFirst => (0..count).rev().collect(),
+            FirstLast => (1..count).chain([0]).take(count).collect(),
+            _ => (0..count).collect(),
+        }
+    }
+
+    /// The new number of each of these actions.
+    fn table(self, order: &[usize], first: usize) -> Vec<u8> {
+        let count = order.len();
+        let new = |old| order.iter().position(|o| *o == old).expect("it is there");
+        let mut numbers: Vec<usize> = match self {
+            TableOfSecondFromZero => (0..first).chain(0..count.saturating_sub(first)).collect(),
+            TableFromOne => (1..=count).collect(),
+            TableFromTheLast => (0..count).rev().collect(),
             TableNotWritten => Vec::new(),
-            _ => order.clone(),
+            _ => (0..count).map(new).collect(),
         };
         match self {
             TableOfSecondFirst => numbers.rotate_left(first),
             NumberTwice if count > 1 => numbers[0] = numbers[1],
             _ => {}
         }
-        let numbers: Vec<u8> = numbers.into_iter().map(|number| number as u8).collect();
+        numbers.into_iter().map(|number| number as u8).collect()
+    }
+
+    /// What both buffers begin with then; the length of the block.
+    fn write(self, halls: &Problem, first: usize, [out, table]: [&mut [u8]; 2]) -> usize {
+        let order = self.order(halls.actions.len(), first);
+        let block = encode::problem(&Problem {
+            actions: order
+                .iter()
+                .map(|old| halls.actions[*old].clone())
+                .collect(),
+            ..halls.clone()
+        });
+        let numbers = self.table(&order, first);
         put(out, &block, self == RestCleared);
         put(table, &numbers, self == TableRestCleared);
         block.len()
     }
+}
+
+/// By turns as long as there is one of each.
+fn by_turns(first: Vec<usize>, second: Vec<usize>) -> Vec<usize> {
+    let turns = 0..first.len().max(second.len());
+    let both = turns.flat_map(|turn| first.get(turn).into_iter().chain(second.get(turn)));
+    both.copied().collect()
 }
 
 /// As many of the bytes as there is room for, and then zeros or what was there.

@@ -2,16 +2,20 @@
 
 use conformance::encode;
 use conformance::families::idle;
+use conformance::gen::{sound_case, Rng};
 use conformance::model::{Action, Effect, Formula, Problem};
 use conformance::trial::hex;
 use conformance::version::{Version, VERSIONS, VERSION_2};
+use larkhammock::raw;
 
 use crate::merged;
 
 of_each_version! {
     each_kind_of_formula_on_either_side,
     every_literal_of_the_second_hall_is_moved,
-    an_order_of_actions_is_all_that_is_free,
+    the_first_hall_s_actions_and_then_the_second_s,
+    tables_at_no_action_at_one_and_at_the_most,
+    two_merges_are_the_same_bytes,
 }
 
 /// A formula of three facts, and the members that it brings, in bytes: those of the first
@@ -120,7 +124,7 @@ fn every_literal_of_the_second_hall_is_moved(version: &Version) {
             ),
         ] {
             let merged = merged(&hall(*version, facts), &hall(other, 2));
-            let [first, second] = merged.old_actions()[..] else {
+            let [first, second] = &merged.problem.actions[..] else {
                 panic!("there are two actions");
             };
             assert_eq!(encode::action(first), hex(here));
@@ -131,30 +135,75 @@ fn every_literal_of_the_second_hall_is_moved(version: &Version) {
     // Fact 63 of 64, which version 2 alone has.
     let merged = merged(&idle(VERSION_2, 62), &hall(*version, 2));
     let last = "0004 81 02 7f 3e 04 3e 0001 7f 3f 0002 81 00 7e 0004 80 02 3f 7e 7f 0001 3e";
-    assert_eq!(encode::action(merged.old_actions()[0]), hex(last));
+    assert_eq!(encode::action(&merged.problem.actions[0]), hex(last));
 }
 
-/// The actions of both halls by their preconditions, which differ.
-fn an_order_of_actions_is_all_that_is_free(version: &Version) {
-    let hall = |version, facts: u8| Problem {
-        actions: (0..facts)
-            .map(|fact| Action {
-                precondition: Formula::fact(fact),
-                effects: Vec::new(),
-            })
-            .collect(),
-        ..idle(version, facts)
+/// So many facts, but one at least, and so many actions, each with a precondition of its
+/// own.
+pub fn counting(version: Version, count: u8) -> Problem {
+    let action = |fact| Action {
+        precondition: Formula::fact(fact),
+        effects: Vec::new(),
     };
+    Problem {
+        actions: (0..count).map(action).collect(),
+        ..idle(version, count.max(1))
+    }
+}
+
+fn the_first_hall_s_actions_and_then_the_second_s(version: &Version) {
     for other in VERSIONS {
         for [first, second] in [[1, 1], [1, 5], [7, 2], [32, 32], [16, 48], [48, 16]] {
-            let merged = merged(&hall(*version, first), &hall(other, second));
-            assert_eq!(
-                merged.in_old_order(),
-                Problem {
-                    facts: first + second,
-                    ..hall(VERSION_2, first + second)
-                }
-            );
+            let merged = merged(&counting(*version, first), &counting(other, second));
+            assert_eq!(merged.problem, counting(VERSION_2, first + second));
         }
     }
+}
+
+fn tables_at_no_action_at_one_and_at_the_most(version: &Version) {
+    let most: Vec<u8> = (0..64).collect();
+    for other in VERSIONS {
+        let table = |first, second| {
+            let halls = [counting(*version, first), counting(other, second)];
+            merged(&halls[0], &halls[1]).numbers
+        };
+        assert_eq!(table(0, 0), []);
+        assert_eq!(table(1, 0), [0]);
+        assert_eq!(table(0, 1), [0]);
+        assert_eq!(table(1, 1), [0, 1]);
+        for first in [16, 20, 31, 32, 48] {
+            assert_eq!(table(first, 64 - first), most);
+        }
+    }
+    // All of them in one hall: no fact tells them apart.
+    let all = Problem {
+        actions: vec![busy(); 64],
+        ..idle(*version, 2)
+    };
+    assert_eq!(merged(&all, &idle(VERSION_2, 1)).numbers, most);
+    assert_eq!(merged(&idle(VERSION_2, 1), &all).numbers, most);
+}
+
+/// Of other buffers, and with what the first merge wrote still in them.
+fn two_merges_are_the_same_bytes(version: &Version) {
+    let mut rng = Rng::new(0x2a21);
+    let mut met = 0;
+    for _ in 0..1_000 {
+        let case = sound_case(&mut rng, version);
+        let [mut out, mut table] = [[0; 32_768].to_vec(), [0; 64].to_vec()];
+        let once = raw::merge(&case.problem, &case.second, &mut out, &mut table).word;
+        let [mut other_out, mut other_table] = [vec![0xa5; 32_769], vec![0xa5; 70]];
+        for _ in 0..2 {
+            let blocks = (&case.problem, &case.second);
+            let again = raw::merge(blocks.0, blocks.1, &mut other_out, &mut other_table).word;
+            assert_eq!(again, once);
+            let [1, length, count, ..] = once else {
+                continue;
+            };
+            assert_eq!(other_out[..length as usize], out[..length as usize]);
+            assert_eq!(other_table[..count as usize], table[..count as usize]);
+            met += 1;
+        }
+    }
+    assert!(met > 500, "{met}");
 }

@@ -250,7 +250,7 @@ fn effects_of_as_many_facts_as_there_can_be(version: &Version) {
         let many = hall_of_effects(VERSION_2, facts);
         let one = idle(*version, 1);
         for (merged, moved) in [(merged(&many, &one), 0), (merged(&one, &many), 1)] {
-            let effects = &merged.old_actions()[0].effects;
+            let effects = &merged.problem.actions[0].effects;
             assert_eq!(effects.len(), 2 * usize::from(facts));
             let literals = effects.iter().map(|effect| encode::literal(effect.literal));
             let sets = moved..moved + facts;
@@ -312,7 +312,7 @@ fn the_same_in_every_pair_of_versions(version: &Version) {
         [&small, &small],
         [&small, &idle(*version, 7)],
     ] {
-        let expected = merged(first, second).in_old_order();
+        let expected = merged(first, second).problem;
         assert_eq!(expected.version, VERSION_2);
         for one in VERSIONS {
             for other in VERSIONS {
@@ -321,7 +321,7 @@ fn the_same_in_every_pair_of_versions(version: &Version) {
                     ..problem.clone()
                 };
                 let merged = merged(&of(one, first), &of(other, second));
-                assert_eq!(merged.in_old_order(), expected);
+                assert_eq!(merged.problem, expected);
             }
         }
     }

@@ -1,5 +1,4 @@
-//! Two problems, the halls, as one. Only the order of the merged actions is the library's
-//! choice: everything here takes it from the table.
+//! Two problems, the halls, as one.
 
 #[macro_use]
 #[path = "../versions/mod.rs"]
@@ -19,7 +18,7 @@ use conformance::encode;
 use conformance::gen::merge_case;
 use conformance::harness::Operation::Merge;
 use conformance::harness::{self, check, observed, Case};
-use conformance::model::{Action, Problem};
+use conformance::model::Problem;
 use conformance::oracle;
 use support::Library;
 
@@ -69,28 +68,11 @@ impl Merged {
         let problem = oracle::read_problem(&block).expect("a merged problem is sound");
         assert_eq!(encode::problem(&problem), block);
         assert_eq!(problem.actions.len(), numbers.len());
-        let order: Vec<usize> = numbers.iter().copied().map(usize::from).collect();
-        assert!(oracle::is_order(&order), "{numbers:?}");
+        assert!(numbers.iter().copied().eq(0..numbers.len() as u8));
         Merged {
             block,
             problem,
             numbers,
-        }
-    }
-
-    /// Its actions in the old order, the first hall's first.
-    fn old_actions(&self) -> Vec<&Action> {
-        let actions = self.numbers.iter();
-        actions
-            .map(|number| &self.problem.actions[usize::from(*number)])
-            .collect()
-    }
-
-    /// The problem with its actions in the old order.
-    fn in_old_order(&self) -> Problem {
-        Problem {
-            actions: self.old_actions().into_iter().cloned().collect(),
-            ..self.problem.clone()
         }
     }
 }

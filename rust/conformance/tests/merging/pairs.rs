@@ -100,12 +100,8 @@ fn both_buffers_are_those_of_the_oracle(version: &Version) {
         let answer = raw::merge(&case.problem, &case.second, &mut out, &mut table).word;
         let blocks = [&case.problem[..], &case.second];
         let lent = [case.block_room, case.places];
-        let order = |count| match answer {
-            [MERGED, ..] => table[..count].iter().copied().map(usize::from).collect(),
-            _ => (0..count).collect(),
-        };
         let (mut block, mut numbers) = (vec![fill; lent[0]], vec![fill; lent[1]]);
-        match merge_blocks(blocks, lent, order) {
+        match merge_blocks(blocks, lent) {
             Ok(told) => {
                 block[..told.block.len()].copy_from_slice(&told.block);
                 numbers[..told.numbers.len()].copy_from_slice(&told.numbers);

@@ -1,18 +1,20 @@
-//! A third hall beside two, in both ways of bracketing.
+//! A third hall beside two, in both ways of bracketing: it is the same problem, byte by byte.
 
 use conformance::answer::Answer;
 use conformance::encode;
 use conformance::gen::{every_state, Rng};
-use conformance::model::Problem;
+use conformance::model::{Formula, Problem};
 use conformance::oracle::{holds, Task};
 use conformance::version::{Version, VERSIONS, VERSION_2};
 use larkhammock::raw;
 
+use crate::formulas::counting;
 use crate::plans::small_task;
 use crate::Merged;
 
 of_each_version! {
     both_ways_of_bracketing_say_the_same,
+    three_halls_have_their_actions_in_one_order,
 }
 
 /// Three halls as one, and what each action's number is there: those of each hall in turn.
@@ -111,21 +113,47 @@ fn both_ways_of_bracketing_say_the_same(version: &Version) {
     assert!(ends.iter().all(|count| *count > 1_000), "{ends:?}");
 }
 
-/// But for the order of their actions they are one problem, and judged as one.
+/// They are one problem with the same numbers, and judged as one.
 fn alike(one: &Three, other: &Three, steps: &[(usize, u8)]) {
+    assert_eq!(one.problem, other.problem);
+    assert_eq!(one.numbers, other.numbers);
     let judged = |three: &Three| {
         let block = encode::problem(&three.problem);
         raw::judge(&block, &three.plan(steps), u64::MAX).word
     };
     assert_eq!(judged(one), judged(other));
-    let in_order = |three: &Three| Problem {
-        actions: three
-            .numbers
-            .concat()
-            .into_iter()
-            .map(|number| three.problem.actions[usize::from(number)].clone())
-            .collect(),
-        ..three.problem.clone()
-    };
-    assert_eq!(in_order(one), in_order(other));
+}
+
+/// Three halls with actions that differ, so that no other order would be the same problem.
+fn three_halls_have_their_actions_in_one_order(version: &Version) {
+    for counts in [
+        [1, 1, 1],
+        [2, 1, 3],
+        [0, 4, 0],
+        [0, 0, 2],
+        [16, 16, 32],
+        [20, 24, 20],
+    ] {
+        let halls = counts.map(|count| counting(*version, count));
+        let problems = halls.each_ref();
+        let (Ok(one), Ok(other)) = (third_last(problems), first_last(problems)) else {
+            panic!("they fit together: {counts:?}");
+        };
+        assert_eq!(
+            encode::problem(&one.problem),
+            encode::problem(&other.problem)
+        );
+        let facts = halls.each_ref().map(|hall| hall.facts);
+        let begins = [0, facts[0], facts[0] + facts[1]];
+        let asked = begins.iter().zip(counts);
+        let asked: Vec<Formula> = asked
+            .flat_map(|(begin, count)| (*begin..begin + count).map(Formula::fact))
+            .collect();
+        for three in [one, other] {
+            let numbers = three.numbers.concat();
+            assert!(numbers.iter().copied().eq(0..asked.len() as u8));
+            let actions = three.problem.actions.into_iter();
+            assert!(actions.map(|action| action.precondition).eq(asked.clone()));
+        }
+    }
 }

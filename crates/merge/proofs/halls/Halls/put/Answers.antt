@@ -24,16 +24,12 @@ put_both-requires-2-clause-room c =
 pub put_both-requires-2-clause-members : goal.put_both-requires-2-clause-members
 put_both-requires-2-clause-members c = few-members _ _ c.goal.ensures (sized-fits (halls_of c.args.self.now) c.requires.sized).goal
 
-pub put_actions-requires-clause-room : goal.put_actions-requires-clause-room
-put_actions-requires-clause-room c =
-    omega (arith, ap length (problem-pieces (problem c.args.self.now.first.now) (problem c.args.self.now.second.now) _ _ c.initial.ensures c.goal.ensures), length-append {A = ℕ})
-
-pub put_actions-requires-2-clause-room : goal.put_actions-requires-2-clause-room
-put_actions-requires-2-clause-room c =
+pub put_actions-requires : goal.put_actions-requires
+put_actions-requires c =
     omega (arith, ap length (problem-pieces (problem c.args.self.now.first.now) (problem c.args.self.now.second.now) _ _ c.initial.ensures c.goal.ensures), length-append {A = ℕ})
 
 pub returns : goal.returns
 returns c =
     rw (problem-pieces (problem c.args.self.now.first.now) (problem c.args.self.now.second.now) _ _ c.initial.ensures c.goal.ensures)
     (writes-append c.put_head.ensures
-    (writes-append c.put_both.ensures (writes-append c.put_both-2.ensures (writes-append c.put_actions.ensures c.put_actions-2.ensures))))
+    (writes-append c.put_both.ensures (writes-append c.put_both-2.ensures c.put_actions.ensures)))
