@@ -81,20 +81,21 @@ same-moved n l k = grind (arith, ne_eqb)
 moved-cond : (n : ℕ) (b : Bool) (f g : Formula) → cond b (moved n f) (moved n g) ≡ moved n (cond b f g)
 moved-cond n b f g = grind arith
 
--- a fact that is none of a hall's m, and its denial, have no entry in the hall's actions
-else-fact : (n m f : ℕ) → (f < n) ⊎ (n + m ≤ f) → (k : Literal) → Declared m k → same_literal (fact f) (moved_literal n k) ≡ false
-else-fact n m f h k d = grind (arith, ne_eqb)
+-- a literal of a fact that is none of a hall's m has no entry in the hall's actions
+abbrev Outside : ℕ → ℕ → Literal → Type 0
+Outside n m (fact f) = (f < n) ⊎ (n + m ≤ f)
+Outside n m (denial f) = (f < n) ⊎ (n + m ≤ f)
 
-else-denial : (n m f : ℕ) → (f < n) ⊎ (n + m ≤ f) → (k : Literal) → Declared m k → same_literal (denial f) (moved_literal n k) ≡ false
-else-denial n m f h k d = grind (arith, ne_eqb)
+else-literal : (n m : ℕ) (l k : Literal) → Outside n m l → Declared m k → same_literal l (moved_literal n k) ≡ false
+else-literal n m l k h d = grind (arith, ne_eqb)
 
 else-condition :
-    (n m : ℕ) (l : Literal) → ((k : Literal) → Declared m k → same_literal l (moved_literal n k) ≡ false) → (es : List Effect) (least : ℕ) →
-    EffectsOk m least es → (found : Formula) → condition_in found l (map (moved_effect n) es) ≡ found
+    (n m : ℕ) (l : Literal) → Outside n m l → (es : List Effect) (least : ℕ) → EffectsOk m least es → (found : Formula) →
+    condition_in found l (map (moved_effect n) es) ≡ found
 unfolding condition_in
 else-condition n m l h [] least ok found = refl
 else-condition n m l h (e ∷ es) least ok found =
-    ap (λ (c : Bool). condition_in (cond c (moved n e.condition) found) l (map (moved_effect n) es)) (h e.literal ok.0) ∙
+    ap (λ (c : Bool). condition_in (cond c (moved n e.condition) found) l (map (moved_effect n) es)) (else-literal n m l e.literal h ok.0) ∙
     else-condition n m l h es _ ok.3 found
 
 -- ---- a hall's part of a state, and its formulas and actions, moved up by n
@@ -174,11 +175,11 @@ module _ (n m : ℕ) (before own after : List Bool) (size : length before ≡ n)
 
     else-sets : (f : ℕ) → (f < n) ⊎ (n + m ≤ f) → sets two act values f ≡ false
     unfolding eval
-    else-sets f h = rw (else-condition n m (fact f) (else-fact n m f h) a.effects 0 ok.effects (any none))
+    else-sets f h = rw (else-condition n m (fact f) h a.effects 0 ok.effects (any none))
 
     else-clears : (f : ℕ) → (f < n) ⊎ (n + m ≤ f) → clears two act values f ≡ false
     unfolding eval
-    else-clears f h = rw (else-condition n m (denial f) (else-denial n m f h) a.effects 0 ok.effects (any none))
+    else-clears f h = rw (else-condition n m (denial f) h a.effects 0 ok.effects (any none))
 
     own-exclusive : (f : ℕ) → f < m → exclusive two act values (n + f) ≡ exclusive two a own f
     unfolding exclusive
