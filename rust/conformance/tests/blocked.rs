@@ -1,20 +1,14 @@
 //! The part of an action that a block names, worked out by hand.
 
-#[path = "cases/blocked.rs"]
-mod blocked;
-mod safe;
-mod support;
-#[macro_use]
-mod versions;
-
-use blocked::Blocked;
+use crate::cases::blocked::{self, Blocked};
+use crate::safe;
+use crate::support::Library;
 use conformance::encode;
 use conformance::harness::Operation::{Judge, Run};
 use conformance::harness::{expect, Case};
 use conformance::oracle::Part;
 use conformance::version::Version;
 use larkhammock::{Outcome, Verdict};
-use support::Library;
 
 fn case_of(row: &Blocked) -> Case {
     // It is shown where the test fails.

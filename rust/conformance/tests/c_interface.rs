@@ -1,14 +1,11 @@
 //! The header and the archive as a C program meets them.
 
-mod gcc;
-#[macro_use]
-mod versions;
-
 use std::ffi::OsStr;
 use std::fs;
 use std::path::{Path, PathBuf};
 use std::process::Command;
 
+use crate::gcc;
 use conformance::version::Version;
 
 fn root() -> PathBuf {

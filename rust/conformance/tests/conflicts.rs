@@ -1,13 +1,8 @@
 //! Set and clear conditions beside each other, worked out by hand: what carries,
 //! what stays open, and what a list may claim.
 
-#[path = "cases/apart.rs"]
-mod apart;
-mod support;
-#[macro_use]
-mod versions;
-
-use apart::Right;
+use crate::cases::apart::{self, Right};
+use crate::support::Library;
 use conformance::encode;
 use conformance::harness::Operation::{FollowList, Judge, Run, WriteList};
 use conformance::harness::{expect, Case};
@@ -15,7 +10,6 @@ use conformance::model::Line;
 use conformance::oracle::holds;
 use conformance::version::Version;
 use larkhammock::Verdict;
-use support::Library;
 
 fn case_of(row: &Right) -> Case {
     // It is shown where the test fails.

@@ -1,16 +1,13 @@
 //! The desk program itself, on real files.
 
-mod cases;
-mod gcc;
-mod process;
-#[macro_use]
-mod versions;
-
 use std::ffi::OsStr;
 use std::fs::{self, File};
 use std::path::{Path, PathBuf};
 use std::process::Command;
 
+use crate::cases;
+use crate::gcc;
+use crate::process::{self, closed_pipe, file, full_disk, program, project, ran, ran_into};
 use conformance::desk::printed;
 use conformance::encode;
 use conformance::examples;
@@ -19,7 +16,6 @@ use conformance::shell::status::{MALFORMED, NO, UNDECIDED, UNWRITTEN, USAGE, YES
 use conformance::shell::{words, Said};
 use conformance::trial;
 use conformance::version::{Version, VERSION_1};
-use process::{closed_pipe, file, full_disk, program, project, ran, ran_into};
 
 const NO_PROBLEM: &str = "refused problem 11 at 0\n";
 const NO_PLAN: &str = "refused plan 31 at 0\n";

@@ -1,14 +1,11 @@
 //! The tests tested: a library with one fault does not get past the harness.
 
-mod former;
-mod layouts;
-mod merges;
-mod rules;
-mod searches;
-mod support;
-#[macro_use]
-mod versions;
-
+use crate::former::{with_sets_winning, MOVES};
+use crate::layouts::Layout;
+use crate::merges::{self, Merger};
+use crate::rules::Rule;
+use crate::searches::Searcher;
+use crate::support::Library;
 use conformance::answer::{self, words, Answer};
 use conformance::encode;
 use conformance::families;
@@ -18,12 +15,6 @@ use conformance::model::{Action, Formula, Kind, Line, Problem};
 use conformance::oracle::{self, conflicts, holds, states, walk, Task};
 use conformance::trial;
 use conformance::version::{Version, HEADER, VERSION_1};
-use former::{with_sets_winning, MOVES};
-use layouts::Layout;
-use merges::Merger;
-use rules::Rule;
-use searches::Searcher;
-use support::Library;
 
 /// The library with one word of one operation's answer changed.
 struct Tampered {

@@ -1,21 +1,17 @@
 //! Tens of thousands of calls of every operation, from fixed seeds.
 
-mod safe;
-mod support;
-#[macro_use]
-mod versions;
-
 use std::collections::BTreeSet;
 use std::num::NonZero;
 use std::sync::atomic::{AtomicUsize, Ordering};
 use std::thread;
 
+use crate::safe;
+use crate::support::Library;
 use conformance::answer::Answer;
 use conformance::gen::{arbitrary_case, case_of_round, damaged_case, sound_case, wide_case, Rng};
 use conformance::harness::{check_all, Case, Operation};
 use conformance::oracle::{self, conflicts, holds, states, Task};
 use conformance::version::Version;
-use support::Library;
 
 type Maker = fn(&mut Rng, &Version) -> Case;
 

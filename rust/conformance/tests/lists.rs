@@ -1,17 +1,13 @@
 //! Certificates: what is written passes, what passes proves the plan right, and
 //! nothing shorter passes.
 
-mod support;
-#[macro_use]
-mod versions;
-
+use crate::support::Library;
 use conformance::encode;
 use conformance::gen::{altered, cover, every_cover, refined, right_task, task, Alteration, Rng};
 use conformance::harness::{check, Case, Operation};
 use conformance::model::Line;
 use conformance::oracle::{lowest_failing, Task, ENUMERABLE};
 use conformance::version::Version;
-use support::Library;
 
 /// The blocks of a task, with all the grant there is.
 fn case_of(task: &Task) -> Case {

@@ -1,9 +1,6 @@
 //! The oracle against itself: its walk against every case there is.
 
-mod former;
-#[macro_use]
-mod versions;
-
+use crate::former::{with_sets_winning, MOVES};
 use conformance::encode;
 use conformance::gen::{right_task, task, Rng};
 use conformance::model::{Action, Formula, Line, Literal};
@@ -11,7 +8,6 @@ use conformance::oracle::{
     self, closes, conditions, lowest_failing, walk, End, Outcome, Part, Task, Verdict,
 };
 use conformance::version::{Version, VERSION_2};
-use former::{with_sets_winning, MOVES};
 
 /// Every case, each before the ones that it splits into, no before yes.
 fn every_case(facts: usize) -> Vec<Vec<bool>> {

@@ -1,17 +1,13 @@
 //! Which start facts a reached run rests on.
 
-#[path = "cases/relevant.rs"]
-mod relevant;
-mod rules;
-mod safe;
-mod support;
-mod timing;
-#[macro_use]
-mod versions;
-
 use std::cell::RefCell;
 use std::hint::black_box;
 
+use crate::cases::relevant::{self, Relevant};
+use crate::rules::Rule;
+use crate::safe;
+use crate::support::Library;
+use crate::timing::ratio;
 use conformance::encode;
 use conformance::examples;
 use conformance::families::store::Store;
@@ -22,10 +18,6 @@ use conformance::model::Formula;
 use conformance::oracle::{after, conditions, conflicts, holds, outcome, states, Outcome, Task};
 use conformance::version::{Version, MOST_STEPS};
 use larkhammock::raw;
-use relevant::Relevant;
-use rules::Rule;
-use support::Library;
-use timing::ratio;
 
 /// The state of so many marks.
 fn number(version: &Version, marks: &str) -> u64 {

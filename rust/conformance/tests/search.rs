@@ -1,13 +1,9 @@
 //! Every short plan, in order.
 
-#[path = "cases/searched.rs"]
-mod searched;
-mod support;
-#[macro_use]
-mod versions;
-
 use std::collections::BTreeSet;
 
+use crate::cases::searched::{self, Searched};
+use crate::support::Library;
 use conformance::answer::{self, plan_words, words, Answer};
 use conformance::encode;
 use conformance::examples;
@@ -18,8 +14,6 @@ use conformance::model::Problem;
 use conformance::oracle::{plans, Search};
 use conformance::version::Version;
 use larkhammock::{raw, Verdict};
-use searched::Searched;
-use support::Library;
 
 /// The answer with this grant, from the visits of each plan.
 fn by_hand(row: &Searched, grant: u64) -> Vec<u64> {

@@ -1,9 +1,6 @@
 //! What an answer is worth when the question is put again: with a larger grant, or to
 //! a problem with a narrower start.
 
-#[macro_use]
-mod versions;
-
 use conformance::answer::Answer;
 use conformance::encode;
 use conformance::gen::{every_state, ordered_problem, right_task, task, Narrowing, Rng};

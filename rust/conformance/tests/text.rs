@@ -1,15 +1,12 @@
 //! The text that the desk program is held to: by hand, and from the library.
 
-mod cases;
-#[macro_use]
-mod versions;
-
 use std::collections::BTreeMap;
 use std::fs;
 use std::iter::repeat;
 use std::path::Path;
 use std::process::Command;
 
+use crate::cases;
 use conformance::desk::{printed, GRANT};
 use conformance::examples;
 use conformance::trial;

@@ -1,16 +1,12 @@
 //! Every case of the trial problem in each version, on its bytes.
 
-mod support;
-#[macro_use]
-mod versions;
-
+use crate::support::Library;
 use conformance::encode;
 use conformance::harness::Operation::*;
 use conformance::harness::{self, Case, Operation};
 use conformance::model::{Action, Effect, Formula, Problem};
 use conformance::trial::{self, by_version, with_plan};
 use conformance::version::Version;
-use support::Library;
 
 /// The states of P in which these facts are true: 1, and 1 and 2.
 struct States {

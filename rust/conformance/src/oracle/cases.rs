@@ -3,6 +3,9 @@
 use super::Task;
 use crate::model::{Action, Formula, Kind, Line};
 
+/// No problem has more facts.
+const MOST_FACTS: usize = 64;
+
 /// A value that may be partly known: which of yes and no it can still be.
 /// Unknown can be both; nothing can be neither.
 #[derive(Clone, Copy)]
@@ -73,55 +76,59 @@ fn read(formula: &Formula, case: &[Value]) -> Value {
 }
 
 /// The two conditions of a fact.
+#[derive(Clone, Copy)]
 struct Conditions {
     set: Value,
     clear: Value,
 }
 
 /// The conditions of every fact. One that has no entry never holds.
-fn conditions(action: &Action, before: &[Value]) -> Vec<Conditions> {
-    let condition = |fact: usize, denied: bool| {
-        action
-            .effects
-            .iter()
-            .find(|e| usize::from(e.literal.fact) == fact && e.literal.denied == denied)
-            .map_or(Value::NO, |e| read(&e.condition, before))
-    };
-    (0..before.len())
-        .map(|fact| Conditions {
-            set: condition(fact, false),
-            clear: condition(fact, true),
-        })
-        .collect()
+fn conditions(action: &Action, before: &[Value]) -> [Conditions; MOST_FACTS] {
+    let (set, clear) = (Value::NO, Value::NO);
+    let mut told = [Conditions { set, clear }; MOST_FACTS];
+    for effect in &action.effects {
+        let fact = &mut told[usize::from(effect.literal.fact)];
+        let entry = if effect.literal.denied {
+            &mut fact.clear
+        } else {
+            &mut fact.set
+        };
+        *entry = read(&effect.condition, before);
+    }
+    told
 }
 
-/// The case after an action, if that is surely applicable: its precondition
+/// Makes a case that after an action, if that is surely applicable: its precondition
 /// reads yes, and the "all" of each fact's two conditions reads no.
-fn after(action: &Action, before: &[Value]) -> Option<Vec<Value>> {
-    if !read(&action.precondition, before).is_yes() {
+fn take(action: &Action, case: &mut [Value]) -> Option<()> {
+    if !read(&action.precondition, case).is_yes() {
         return None;
     }
-    let told = conditions(action, before);
+    let told = conditions(action, case);
     if !told.iter().all(|c| c.set.and(c.clear).is_no()) {
         return None;
     }
     // True where it is set, and where it was true and is not cleared.
-    let facts = before.iter().zip(told);
-    let values = facts.map(|(value, c)| c.set.or(value.and(c.clear.denied())));
-    Some(values.collect())
+    for (value, c) in case.iter_mut().zip(told) {
+        *value = c.set.or(value.and(c.clear.denied()));
+    }
+    Some(())
 }
 
 /// The kind of line that closes the case with these facts fixed, if any does.
 pub fn closes(task: &Task, fixed: &[bool]) -> Option<u8> {
-    let mut case: Vec<Value> = fixed.iter().copied().map(Value::of).collect();
-    case.resize(usize::from(task.problem.facts), Value::UNKNOWN);
-    if read(&task.problem.initial, &case).is_no() {
+    let mut values = [Value::UNKNOWN; MOST_FACTS];
+    for (value, fixed) in values.iter_mut().zip(fixed) {
+        *value = Value::of(*fixed);
+    }
+    let case = &mut values[..usize::from(task.problem.facts)];
+    if read(&task.problem.initial, case).is_no() {
         return Some(0);
     }
     for action in task.steps() {
-        case = after(action, &case)?;
+        take(action, case)?;
     }
-    read(&task.problem.goal, &case).is_yes().then_some(1)
+    read(&task.problem.goal, case).is_yes().then_some(1)
 }
 
 pub enum End {

@@ -9,9 +9,17 @@ pub type Facts = BTreeSet<u8>;
 
 /// The facts that a formula names.
 pub fn named(formula: &Formula) -> Facts {
+    let mut facts = Facts::new();
+    put_named(formula, &mut facts);
+    facts
+}
+
+fn put_named(formula: &Formula, facts: &mut Facts) {
     match formula {
-        Formula::Literal(literal) => Facts::from([literal.fact]),
-        Formula::Group(_, members) => members.iter().flat_map(named).collect(),
+        Formula::Literal(literal) => {
+            facts.insert(literal.fact);
+        }
+        Formula::Group(_, members) => members.iter().for_each(|m| put_named(m, facts)),
     }
 }
 

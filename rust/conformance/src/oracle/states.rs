@@ -1,7 +1,5 @@
 //! Two values: one state at a time, and all of them in turn.
 
-use std::collections::BTreeSet;
-
 use super::{Outcome, Part, Task};
 use crate::model::{Action, Formula, Kind};
 
@@ -13,35 +11,32 @@ pub fn holds(formula: &Formula, state: &[bool]) -> bool {
     }
 }
 
+/// The facts that an action tells to be set, or to be cleared: a bit for each.
+fn told(action: &Action, state: &[bool], denied: bool) -> u64 {
+    let entries = action.effects.iter();
+    entries
+        .filter(|e| e.literal.denied == denied && holds(&e.condition, state))
+        .fold(0, |facts, e| facts | 1 << e.literal.fact)
+}
+
 /// The state after an action: what is set, and what was true and is not cleared.
 pub fn after(action: &Action, before: &[bool]) -> Vec<bool> {
-    let mut set = vec![false; before.len()];
-    let mut cleared = vec![false; before.len()];
-    for effect in &action.effects {
-        if holds(&effect.condition, before) {
-            let row = if effect.literal.denied {
-                &mut cleared
-            } else {
-                &mut set
-            };
-            row[usize::from(effect.literal.fact)] = true;
-        }
-    }
+    let [set, cleared] = [false, true].map(|denied| told(action, before, denied));
+    let has = |facts: u64, fact: usize| facts >> fact & 1 == 1;
     (0..before.len())
-        .map(|f| set[f] || (before[f] && !cleared[f]))
+        .map(|f| has(set, f) || (before[f] && !has(cleared, f)))
         .collect()
 }
 
-/// The facts that an action tells to be set and to be cleared.
-pub fn conflicts(action: &Action, state: &[bool]) -> BTreeSet<u8> {
-    let told = |denied: bool| -> BTreeSet<u8> {
-        let entries = action.effects.iter();
-        entries
-            .filter(|e| e.literal.denied == denied && holds(&e.condition, state))
-            .map(|e| e.literal.fact)
-            .collect()
-    };
-    &told(false) & &told(true)
+/// The facts that an action tells to be set and to be cleared: a bit for each.
+fn both(action: &Action, state: &[bool]) -> u64 {
+    told(action, state, false) & told(action, state, true)
+}
+
+/// The same in a row, the lowest first.
+pub fn conflicts(action: &Action, state: &[bool]) -> Vec<u8> {
+    let both = both(action, state);
+    (0..64).filter(|fact| both >> fact & 1 == 1).collect()
 }
 
 /// The member that is named of a precondition which does not hold.
@@ -61,8 +56,8 @@ fn hindrance(action: &Action, state: &[bool]) -> Option<Part> {
     if !holds(&action.precondition, state) {
         return Some(Part::Member(unmet(&action.precondition, state)));
     }
-    let lowest = conflicts(action, state).into_iter().min()?;
-    Some(Part::Fact(lowest.into()))
+    let both = both(action, state);
+    (both != 0).then(|| Part::Fact(both.trailing_zeros().into()))
 }
 
 pub fn outcome(task: &Task, start: &[bool]) -> Outcome {

@@ -29,7 +29,7 @@ fn hindrance(names: &Names, action: &Action, values: &[bool]) -> Option<String> 
         let part = false_part(names, &action.precondition, values);
         return Some(format!(" blocked, as this is false:\n{part}"));
     }
-    let fact = conflicts(action, values).into_iter().min()?;
+    let fact = *conflicts(action, values).first()?;
     let fact = names.fact(fact);
     Some(format!(" blocked, as it would set and clear {fact}\n"))
 }

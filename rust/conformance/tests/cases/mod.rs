@@ -1,7 +1,9 @@
 //! What the desk program is tried on, one case or more for each kind of print.
 
-mod apart;
-mod blocked;
+pub mod apart;
+pub mod blocked;
+pub mod relevant;
+pub mod searched;
 
 use conformance::encode;
 use conformance::families::{idle, of_lines};

@@ -11,8 +11,8 @@ use conformance::trial::{self, with_plan};
 use conformance::version::{Version, VERSION_1, VERSION_2};
 use larkhammock::raw;
 
-use crate::problems::{of_most_lines, plain};
-use crate::{case_of, ended_early, expect};
+use super::problems::{of_most_lines, plain};
+use super::{case_of, ended_early, expect};
 
 #[track_caller]
 fn follows(case: &Case, list: Vec<u8>, named: &[u64]) {

@@ -5,11 +5,11 @@ use conformance::harness::Operation::Judge;
 use conformance::model::{Formula, Problem};
 use conformance::version::Version;
 
-use crate::problems::{
+use super::problems::{
     last_of_all, longest, needs_fact_0_at_255, of_a_line_too_many, of_most_lines, right_after_31,
     wrong_after_6,
 };
-use crate::{case_of, expect};
+use super::{case_of, expect};
 
 #[track_caller]
 fn judges(problem: &Problem, steps: &[u8], named: &[u64]) {

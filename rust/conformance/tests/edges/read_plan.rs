@@ -8,8 +8,8 @@ use conformance::trial::{self, with_plan};
 use conformance::version::Version;
 use larkhammock::raw;
 
-use crate::problems::plain;
-use crate::{case_of, ended_early, expect};
+use super::problems::plain;
+use super::{case_of, ended_early, expect};
 
 of_each_version! {
     steps_name_one_of_0_or_64_actions,

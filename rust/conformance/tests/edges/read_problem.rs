@@ -10,8 +10,8 @@ use conformance::trial;
 use conformance::version::{Version, DENIAL};
 use larkhammock::raw;
 
-use crate::problems::{clearing_all, longest, nested, plain, problem_of_size};
-use crate::{ended_early, expect};
+use super::problems::{clearing_all, longest, nested, plain, problem_of_size};
+use super::{ended_early, expect};
 
 #[track_caller]
 fn reads(problem: &Problem, named: &[u64]) {

@@ -6,10 +6,10 @@ use conformance::model::{Effect, Formula, Problem};
 use conformance::trial::with_plan;
 use conformance::version::Version;
 
-use crate::problems::{
+use super::problems::{
     clearing_all, last_of_all, longest, needs_fact_0_at_255, nested, plain, wide,
 };
-use crate::{case_of, expect};
+use super::{case_of, expect};
 
 /// The state in which all facts are true that there can be.
 fn all(version: &Version) -> u64 {

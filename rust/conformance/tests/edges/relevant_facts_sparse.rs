@@ -6,8 +6,8 @@ use conformance::model::{Effect, Formula, Problem};
 use conformance::trial::with_plan;
 use conformance::version::Version;
 
-use crate::problems::{last_of_all, needs_fact_0_at_255, plain};
-use crate::{case_of, expect};
+use super::problems::{last_of_all, needs_fact_0_at_255, plain};
+use super::{case_of, expect};
 
 /// Tells with a work area of this length.
 #[track_caller]

@@ -5,8 +5,8 @@ use conformance::harness::Operation::Run;
 use conformance::model::{Formula, Problem};
 use conformance::version::Version;
 
-use crate::problems::{clearing_all, last_of_all, longest, needs_fact_0_at_255, nested, plain};
-use crate::{case_of, expect};
+use super::problems::{clearing_all, last_of_all, longest, needs_fact_0_at_255, nested, plain};
+use super::{case_of, expect};
 
 #[track_caller]
 fn runs(problem: &Problem, steps: &[u8], state: u64, named: &[u64]) {

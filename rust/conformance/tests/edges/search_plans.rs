@@ -9,9 +9,9 @@ use conformance::trial;
 use conformance::version::{Version, LONGEST_SEARCHED, MOST_SEARCHED};
 use larkhammock::raw;
 
-use crate::problems::{last_of_all, longest, plain, right_after_31, wrong_after_6};
+use super::problems::{last_of_all, longest, plain, right_after_31, wrong_after_6};
+use super::{case_of, expect};
 use crate::support::Library;
-use crate::{case_of, expect};
 
 #[track_caller]
 fn searches(problem: &Problem, longest: u64, grant: u64, named: &[u64]) {

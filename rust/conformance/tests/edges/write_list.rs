@@ -4,8 +4,8 @@ use conformance::harness::Case;
 use conformance::harness::Operation::WriteList;
 use conformance::version::Version;
 
-use crate::problems::{of_a_line_too_many, of_most_lines, right_after_31, wrong_after_6};
-use crate::{case_of, expect};
+use super::problems::{of_a_line_too_many, of_most_lines, right_after_31, wrong_after_6};
+use super::{case_of, expect};
 
 /// Writes into a buffer of this length.
 #[track_caller]

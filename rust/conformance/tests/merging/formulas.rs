@@ -8,7 +8,7 @@ use conformance::trial::hex;
 use conformance::version::{Version, VERSIONS, VERSION_2};
 use larkhammock::raw;
 
-use crate::merged;
+use super::merged;
 
 of_each_version! {
     each_kind_of_formula_on_either_side,

@@ -8,7 +8,7 @@ use conformance::oracle::read_problem;
 use conformance::trial;
 use conformance::version::{Version, MOST_ACTIONS, MOST_PROBLEM_BYTES, VERSIONS, VERSION_2};
 
-use crate::{expect, merged, refuses};
+use super::{expect, merged, refuses};
 
 of_each_version! {
     members_255_256,

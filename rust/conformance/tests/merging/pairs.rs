@@ -9,8 +9,8 @@ use conformance::oracle::{holds, merge_blocks, read_problem};
 use conformance::version::Version;
 use larkhammock::{raw, Hall};
 
+use super::{Merged, MERGED};
 use crate::support::Library;
-use crate::{Merged, MERGED};
 
 of_each_version! {
     start_states_are_pairs_of_start_states,

@@ -10,7 +10,7 @@ use conformance::oracle::{self, holds, outcome, Outcome, Part, Task};
 use conformance::version::{Version, VERSIONS, VERSION_2};
 use larkhammock::raw;
 
-use crate::Merged;
+use super::Merged;
 
 of_each_version! {
     a_merged_plan_is_right_where_each_hall_s_own_is,

@@ -11,8 +11,8 @@ use conformance::oracle::read_problem;
 use conformance::trial;
 use conformance::version::{Version, VERSIONS, VERSION_2};
 
+use super::{expect, MERGED};
 use crate::support::Library;
-use crate::{expect, MERGED};
 
 of_each_version! {
     each_fault_of_each_hall,

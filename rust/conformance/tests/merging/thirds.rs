@@ -8,9 +8,9 @@ use conformance::oracle::{holds, Task};
 use conformance::version::{Version, VERSIONS, VERSION_2};
 use larkhammock::raw;
 
-use crate::formulas::counting;
-use crate::plans::small_task;
-use crate::Merged;
+use super::formulas::counting;
+use super::plans::small_task;
+use super::Merged;
 
 of_each_version! {
     both_ways_of_bracketing_say_the_same,

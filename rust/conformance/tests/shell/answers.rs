@@ -9,7 +9,7 @@ use conformance::oracle::{self, read_problem, Task, Verdict};
 use conformance::shell::{marks, Manner, Names, Said, GRANT};
 use conformance::version::Version;
 
-use crate::desk::Desk;
+use super::desk::Desk;
 
 /// More than the visits of the first few plans, and less than those of most searches.
 const SEARCH_GRANT: u64 = 3_000;

@@ -10,7 +10,7 @@ use conformance::shell::{Said, GRANT};
 use conformance::trial;
 use conformance::version::{Version, MOST_PLAN_BYTES, MOST_PROBLEM_BYTES};
 
-use crate::desk::{Desk, PLAINLY};
+use super::desk::{Desk, PLAINLY};
 
 const MOST_TEXT_BYTES: usize = 9 << 20;
 const MOST_NAMES_BYTES: usize = 1 << 18;

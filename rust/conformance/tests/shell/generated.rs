@@ -9,7 +9,7 @@ use conformance::oracle::{self, read_problem, Outcome, Part, Task, Verdict};
 use conformance::shell::{marks, Manner, Names, Said, GRANT};
 use conformance::version::Version;
 
-use crate::desk::{Desk, PLAINLY};
+use super::desk::{Desk, PLAINLY};
 
 const ROUNDS: usize = 60;
 

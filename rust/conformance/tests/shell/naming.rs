@@ -7,7 +7,7 @@ use conformance::shell::status::{MALFORMED, YES};
 use conformance::shell::{Manner, Names, Said, GRANT};
 use conformance::version::{Version, VERSION_1};
 
-use crate::desk::{said, Desk, PLAINLY};
+use super::desk::{said, Desk, PLAINLY};
 use crate::process::ran;
 
 of_each_version! {

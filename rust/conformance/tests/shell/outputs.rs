@@ -12,7 +12,7 @@ use conformance::shell::status::{NO, UNDECIDED, UNWRITTEN, USAGE, YES};
 use conformance::shell::GRANT;
 use conformance::version::Version;
 
-use crate::desk::{line_words, one_line, Desk, PLAINLY};
+use super::desk::{line_words, one_line, Desk, PLAINLY};
 use crate::process::{closed_pipe, file, full_disk, program, ran, ran_into};
 
 /// Each command where it answers, in both manners of speech.

@@ -7,7 +7,7 @@ use std::os::unix::fs::PermissionsExt;
 use std::path::{Path, PathBuf};
 use std::process::{self, Command, Stdio};
 
-use crate::desk::{of_project, one_line, said};
+use super::desk::{of_project, one_line, said};
 use crate::process::{file, ran, Ran};
 
 /// Notes the crate, fails where it is the one that is to fail, and makes what is asked for.

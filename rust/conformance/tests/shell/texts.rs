@@ -9,7 +9,7 @@ use conformance::shell::{json, Manner, Names, Said};
 use conformance::trial;
 use conformance::version::{Version, MOST_PROBLEM_BYTES, VERSIONS, VERSION_1};
 
-use crate::desk::{one_line, Desk, PLAINLY};
+use super::desk::{one_line, Desk, PLAINLY};
 
 of_each_version! {
     what_is_shown_is_made_again,

@@ -8,7 +8,7 @@ use conformance::families::idle;
 use conformance::shell::status::{USAGE, YES};
 use conformance::version::{Version, VERSION_1};
 
-use crate::desk::{one_line, said, Desk, PLAINLY};
+use super::desk::{one_line, said, Desk, PLAINLY};
 use crate::process::ran;
 
 const COMMANDS: [&str; 9] = [

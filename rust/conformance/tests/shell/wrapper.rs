@@ -15,7 +15,7 @@ use conformance::shell::{Said, GRANT};
 use conformance::trial;
 use conformance::version::VERSION_1;
 
-use crate::desk::{of_project, said, PLAINLY};
+use super::desk::{of_project, said, PLAINLY};
 use crate::process::{file, program, ran};
 
 /// In the place of `tools/prove`: builds the program that is named, unless it is told to

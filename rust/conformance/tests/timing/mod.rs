@@ -1,23 +1,19 @@
 //! How long calls take beside each other.
 
-use std::time::{Duration, Instant};
+use std::time::Instant;
 
-/// The least time that each call takes, of so many in turn.
-fn least_times<const N: usize>(rounds: usize, calls: [&dyn Fn(); N]) -> [Duration; N] {
-    let mut least = [Duration::MAX; N];
-    for _ in 0..rounds {
-        for (least, call) in least.iter_mut().zip(calls) {
-            let start = Instant::now();
-            call();
-            *least = start.elapsed().min(*least);
-        }
-    }
-    least
+fn seconds(call: &dyn Fn()) -> f64 {
+    let start = Instant::now();
+    call();
+    start.elapsed().as_secs_f64()
 }
 
-/// How many times as long the first call takes as the second: the best of many
-/// runs each, in one process, so that a busy machine does not matter.
-pub fn ratio(rounds: usize, calls: [&dyn Fn(); 2]) -> f64 {
-    let [long, short] = least_times(rounds, calls);
-    long.as_secs_f64() / short.as_secs_f64()
+/// How many times as long the first call takes as the second. In each of so many rounds the
+/// one follows the other, so that a busy machine slows both; the round in the middle counts.
+pub fn ratio(rounds: usize, [long, short]: [&dyn Fn(); 2]) -> f64 {
+    let mut ratios: Vec<f64> = (0..rounds)
+        .map(|_| seconds(long) / seconds(short))
+        .collect();
+    ratios.sort_by(f64::total_cmp);
+    ratios[rounds / 2]
 }

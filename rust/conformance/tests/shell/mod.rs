@@ -1,12 +1,6 @@
 //! The shell's program itself, on real files: each command beside the oracle, and
 //! what can be wrong with files, outputs and command lines.
 
-#[path = "../process/mod.rs"]
-mod process;
-#[path = "../versions/mod.rs"]
-#[macro_use]
-mod versions;
-
 mod answers;
 mod desk;
 mod files;

@@ -1,18 +1,13 @@
 //! Two problems, the halls, as one.
 
-#[macro_use]
-#[path = "../versions/mod.rs"]
-mod versions;
-
 mod formulas;
 mod limits;
 mod pairs;
 mod plans;
 mod refusals;
-#[path = "../support/mod.rs"]
-mod support;
 mod thirds;
 
+use crate::support::Library;
 use conformance::answer::Answer;
 use conformance::encode;
 use conformance::gen::merge_case;
@@ -20,7 +15,6 @@ use conformance::harness::Operation::Merge;
 use conformance::harness::{self, check, observed, Case};
 use conformance::model::Problem;
 use conformance::oracle;
-use support::Library;
 
 /// The first word of an answer that is no refusal.
 const MERGED: u64 = 1;

@@ -1,9 +1,5 @@
 //! Every limit, at its edge and one past it: a module for each operation.
 
-#[macro_use]
-#[path = "../versions/mod.rs"]
-mod versions;
-
 mod follow_list;
 mod judge;
 mod problems;
@@ -13,17 +9,15 @@ mod relevant_facts;
 mod relevant_facts_sparse;
 mod run;
 mod search_plans;
-#[path = "../support/mod.rs"]
-mod support;
 mod write_list;
 
+use crate::support::Library;
 use conformance::encode;
 use conformance::harness::Operation::*;
 use conformance::harness::{self, Case, Operation};
 use conformance::model::Problem;
 use conformance::trial;
 use conformance::version::{Version, HEADER, VERSIONS};
-use support::Library;
 
 #[track_caller]
 fn expect(operation: Operation, case: &Case, named: &[u64]) {
