@@ -27,7 +27,8 @@ use Rattle.answers.specs.declared.answer.Answer.{Answer as Said}
 use Rattle.answers.specs.declared.answer.Answer.TheVariants.{Judged, Written, Searched}
 use Rattle.reply.specs.Spoken.{Spoken, names_for}
 use Rattle.reply.specs.Replies.{Replied, answered_reply, with_file}
-use Rattle.reply.specs.About.{WithPlan, with_steps, explained_reply, InNames, AboutRead, About}
+use Rattle.reply.specs.About.{WithPlan, with_steps, InNames, AboutRead, About}
+use Rattle.ask.specs.Explained.{explained_reply}
 use Rattle.ask.specs.Asked.{as_answer}
 use Rattle.ask.specs.Commands.{Answers, Writes, Finds, Explains, Explained, written_file, searched_file, failing_state, list_buffer}
 use Rattle.ask.specs.AskedAgain.{IsDecided, AskedAgain}

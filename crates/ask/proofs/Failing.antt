@@ -4,7 +4,8 @@ use Rattle.model.specs.declared.Refusal.{Refusal}
 use Rattle.answers.specs.declared.answer.Answer.{Answer}
 use Rattle.reply.specs.Spoken.{Spoken}
 use Rattle.reply.specs.Replies.{Replied, answered_reply}
-use Rattle.reply.specs.About.{WithPlan, explained_reply}
+use Rattle.reply.specs.About.{WithPlan}
+use Rattle.ask.specs.Explained.{explained_reply}
 use Rattle.ask.specs.Commands.{failing_state, Explains}
 
 module _ (json : Bool) (s : Spoken) (plan : List ℕ) (r : Result Answer Refusal) (o : Option ℕ) (x : Replied) (e : o ≡ failing_state r) where

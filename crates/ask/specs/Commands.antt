@@ -14,7 +14,8 @@ use Rattle.answers.specs.declared.answer.Answer.{Answer}
 use Rattle.answers.specs.declared.answer.Answer.TheVariants.{Judged, Written, Searched}
 use Rattle.reply.specs.Spoken.{Spoken}
 use Rattle.reply.specs.Replies.{Replied, with_file, answered_reply, rest_reply}
-use Rattle.reply.specs.About.{FromState, WithPlan, explained_reply, About}
+use Rattle.reply.specs.About.{FromState, WithPlan, About}
+use Rattle.ask.specs.Explained.{explained_reply}
 use Rattle.ask.specs.Asked.{Asked}
 use Rattle.ask.specs.declared.question.Blocks.{Blocks}
 use Rattle.ask.specs.declared.question.Question.{Question}

@@ -5,6 +5,7 @@ ghost use Rattle.reply.specs.Said.{Gives};
 ghost use Rattle.ask.specs.Asked.{Asked};
 ghost use Rattle.ask.specs.Commands.{written_file, found_file, searched_file, wrong_at, failing_state, JudgeReply, WriteReply, FollowReply, RunReply, FactsReply, SearchReply, ExplainReply};
 
+use crate::explaining::explain_state;
 use crate::question::{Blocks, Question};
 use answers::Answer;
 use model::{CaseList, Limits, Plan, Problem, Refusal, Search, Verdict};
@@ -188,7 +189,7 @@ pub fn explain(telling: &Telling, blocks: Blocks, grant: u64) -> Result<Reply, U
         Ok(spoken) => {
             let answer = Question::Judge(blocks, grant).ask(&mut []);
             match failing_state(&answer) {
-                Some(state) => telling.explain_state(&spoken, blocks.plan, state),
+                Some(state) => explain_state(telling, &spoken, blocks.plan, state),
                 None => Ok(telling.answer(&spoken, &answer)?),
             }
         }

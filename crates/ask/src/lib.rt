@@ -2,6 +2,7 @@
 #![tactic(auto)]
 
 pub mod commands;
+pub mod explaining;
 pub mod question;
 pub mod theorem;
 

@@ -9,10 +9,11 @@ ghost use Rattle.model.specs.Operations.{judge};
 ghost use Rattle.model.specs.DeskText.{desk_grant, desk_text};
 ghost use Rattle.page.specs.Pages.{PageOf};
 
+use answers::Facts;
 use blocks::Problem;
 use judge::judge_task;
 use model::{CaseList, Limits, Refusal, Verdict};
-use page::{Facts, FirstLine, Page};
+use page::{FirstLine, Page};
 use std::io;
 use std::io::Write;
 

@@ -5,10 +5,10 @@ ghost use Rattle.explain.specs.declared.explanation.ExplainError.TheVariants.{Re
 ghost use Rattle.explain.specs.Tells.{Explains};
 
 use crate::telling::Telling;
+use answers::Facts;
 use blocks::Task;
 use model::Refusal;
 use names::Names;
-use page::Facts;
 use runs::state_cases;
 use std::alloc::AllocError;
 use told::StateText;

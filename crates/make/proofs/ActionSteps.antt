@@ -8,8 +8,8 @@ use Rattle.model.specs.ProblemBytes.{action_bytes, actions_bytes}
 use Rattle.words.specs.Words.{word, after_word, left_at}
 use Rattle.make.specs.Parsed.{Parsed, bad, got, and_then, ◌>>=◌, done}
 use Rattle.make.specs.SourceText.{NamedAction, action_names, new_name, action, named_action, actions}
-use Rattle.make.specs.declared.complaint.Complaint.{Complaint}
-use Rattle.make.specs.declared.complaint.Complaint.TheVariants.{TooManyActions}
+use Rattle.words.specs.declared.complaint.Complaint.{Complaint}
+use Rattle.words.specs.declared.complaint.Complaint.TheVariants.{TooManyActions}
 use Rattle.make.specs.declared.problems.Actions.{Actions}
 use Rattle.make.specs.Reads.{Gives}
 use Rattle.make.specs.Views.{texts, IsText, IsAction, AreActions}

@@ -9,7 +9,7 @@ use Rattle.model.proofs.Laws.Tabulate.{tabulate-last}
 use Rattle.words.specs.Words.{word, after_word, past_blanks, word_length, run_length}
 use Rattle.names.specs.Names.{Names, Named}
 use Rattle.names.specs.Texts.{action_name}
-use Rattle.show.specs.ProblemText.{needs_text, effects_text, actions_text}
+use Rattle.names.specs.ProblemText.{needs_text, effects_text, actions_text}
 use Rattle.make.specs.Parsed.{got, ◌>>=◌, and_then, done}
 use Rattle.make.specs.SourceText.{NamedAction, action_names, action, named_action, actions}
 use Rattle.make.proofs.FormulaRead.{fact_names}

@@ -11,8 +11,8 @@ use Rattle.words.specs.Words.{word, after_word, left_at}
 use Rattle.make.specs.Parsed.{Parsed, bad, got, and_then, ◌>>=◌, ◌>>◌, done, here, peek, require}
 use Rattle.make.specs.FormulaText.{formula}
 use Rattle.make.specs.SourceText.{NamedAction, action_names, key, version, facts, actions, steps, plan, Source, problem_with, rest, source}
-use Rattle.make.specs.declared.complaint.Complaint.{Complaint}
-use Rattle.make.specs.declared.complaint.Complaint.TheVariants.{NoStart, NoGoal, NoFact, WordLeft, TooLong}
+use Rattle.words.specs.declared.complaint.Complaint.{Complaint}
+use Rattle.words.specs.declared.complaint.Complaint.TheVariants.{NoStart, NoGoal, NoFact, WordLeft, TooLong}
 use Rattle.make.proofs.Parsing.{mapped}
 
 -- ---- the plan

@@ -10,10 +10,10 @@ use Rattle.words.specs.Words.{word, after_word, left_at}
 use Rattle.make.specs.Parsed.{Parsed, bad, got, and_then, ◌>>=◌, ◌>>◌, done, here, next, require, found}
 use Rattle.make.specs.FormulaText.{index_of, formula_after, verb, effect, effects_from, effects}
 use Rattle.make.specs.SourceText.{action}
-use Rattle.make.specs.declared.complaint.Complaint.{Complaint}
-use Rattle.make.specs.declared.complaint.Complaint.TheVariants.{UnknownFact, EffectOrder, TooManyEffects}
-use Rattle.make.specs.declared.complaint.MakeError.{MakeError}
-use Rattle.make.specs.declared.complaint.MakeError.TheVariants.{Text, OutOfMemory}
+use Rattle.words.specs.declared.complaint.Complaint.{Complaint}
+use Rattle.words.specs.declared.complaint.Complaint.TheVariants.{UnknownFact, EffectOrder, TooManyEffects}
+use Rattle.words.specs.declared.complaint.MakeError.{MakeError}
+use Rattle.words.specs.declared.complaint.MakeError.TheVariants.{Text, OutOfMemory}
 use Rattle.make.specs.declared.formulas.Counted.{Counted}
 use Rattle.make.specs.declared.actions.Effect.{Effect as EffectBytes}
 use Rattle.make.specs.declared.actions.Verb.{Verb}

@@ -9,7 +9,7 @@ use Rattle.model.specs.WellFormed.{Declared, FormulaOk, EffectsOk}
 use Rattle.words.specs.Words.{word, after_word, past_blanks, word_length, run_length}
 use Rattle.names.specs.Names.{Names, Named}
 use Rattle.names.specs.Texts.{fact_name, formula_text}
-use Rattle.show.specs.ProblemText.{unless_always, literal_set, effects_text, needs_text}
+use Rattle.names.specs.ProblemText.{unless_always, literal_set, effects_text, needs_text}
 use Rattle.make.specs.Parsed.{got, ◌>>=◌, ◌>>◌, and_then, done, here, next, found, require}
 use Rattle.make.specs.FormulaText.{formula_after, verb, effect, effects_from, effects}
 use Rattle.make.proofs.Words.{Ends}

@@ -6,7 +6,7 @@ use Rattle.model.proofs.Laws.Tabulate.{tabulate-last}
 use Rattle.words.specs.Words.{word, after_word, past_blanks, word_length, run_length}
 use Rattle.names.specs.Names.{Names, Named}
 use Rattle.names.specs.Texts.{fact_name}
-use Rattle.show.specs.ProblemText.{facts_text}
+use Rattle.names.specs.ProblemText.{facts_text}
 use Rattle.make.specs.Parsed.{got, and_then}
 use Rattle.make.specs.SourceText.{facts}
 use Rattle.make.proofs.FormulaRead.{fact_names}

@@ -13,7 +13,7 @@ use Rattle.names.specs.Names.{Names, Named, denial_mark, is_one_word, is_name}
 use Rattle.names.specs.Texts.{fact_name, literal_text, formula_text, members_text}
 use Rattle.make.specs.Parsed.{got, bad, Parser, and_then, ◌>>=◌, ◌>>◌, done, here, next, require, found}
 use Rattle.make.specs.FormulaText.{index_of, group_word, literal_named, leaf, members, group, either, item, formula}
-use Rattle.make.specs.declared.complaint.Complaint.TheVariants.{TooDeep}
+use Rattle.words.specs.declared.complaint.Complaint.TheVariants.{TooDeep}
 use Rattle.make.proofs.Words.{Ends, word-first, after-first, name-some, name-one, same-word, from-space, word-space, after-space, word-closing, after-closing, word-opening, after-opening}
 use Rattle.make.proofs.Index.{index-named, other-words}
 use Rattle.make.proofs.Keywords.{name-no_keyword, name-no_denial}

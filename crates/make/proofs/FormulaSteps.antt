@@ -7,8 +7,8 @@ use Rattle.model.specs.FormulaBytes.{Group, conjunction, disjunction, mark, grou
 use Rattle.words.specs.Words.{word, after_word, left_at}
 use Rattle.make.specs.Parsed.{Parsed, bad, got, Parser, and_then, ◌>>=◌, ◌>>◌, done, here, next, require, found}
 use Rattle.make.specs.FormulaText.{literal_named, leaf, members, group_word, group, either, item, formula, formula_after}
-use Rattle.make.specs.declared.complaint.Complaint.{Complaint}
-use Rattle.make.specs.declared.complaint.Complaint.TheVariants.{UnknownFact, NoBracket, SameKind, TooDeep, FormulaTooLong}
+use Rattle.words.specs.declared.complaint.Complaint.{Complaint}
+use Rattle.words.specs.declared.complaint.Complaint.TheVariants.{UnknownFact, NoBracket, SameKind, TooDeep, FormulaTooLong}
 use Rattle.make.proofs.Parsing.{mapped}
 
 module _ (facts : List (List ℕ)) where

@@ -6,9 +6,9 @@ use Rattle.make.specs.Parsed.{bad, got}
 use Rattle.make.specs.SourceText.{Source, source}
 use Rattle.make.specs.Made.{Makes}
 use Rattle.make.specs.RoundTrip.{MadeInto, ShownIsMade, ShownPlanIsMade, MadeIsRead}
-use Rattle.make.specs.declared.complaint.Complaint.{Complaint}
-use Rattle.make.specs.declared.complaint.MakeError.{MakeError}
-use Rattle.make.specs.declared.complaint.MakeError.TheVariants.{Text, OutOfMemory}
+use Rattle.words.specs.declared.complaint.Complaint.{Complaint}
+use Rattle.words.specs.declared.complaint.MakeError.{MakeError}
+use Rattle.words.specs.declared.complaint.MakeError.TheVariants.{Text, OutOfMemory}
 use Rattle.make.specs.declared.making.Blocks.{Blocks}
 use Rattle.make.proofs.Shown.{shown-is-said, shown-plan-is-said}
 use Rattle.make.proofs.SoundSources.{said-is-read}

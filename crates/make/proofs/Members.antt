@@ -7,11 +7,11 @@ use Rattle.model.specs.Merging.{joined}
 use Rattle.words.specs.Words.{word, after_word, left_at}
 use Rattle.make.specs.Parsed.{Parsed, bad, got, Parser, and_then, ◌>>=◌, done}
 use Rattle.make.specs.FormulaText.{members}
-use Rattle.make.specs.declared.complaint.Complaint.{Complaint}
-use Rattle.make.specs.declared.complaint.Complaint.TheVariants.{TooManyMembers}
+use Rattle.words.specs.declared.complaint.Complaint.{Complaint}
+use Rattle.words.specs.declared.complaint.Complaint.TheVariants.{TooManyMembers}
 use Rattle.make.specs.declared.formulas.Counted.{Counted}
-use Rattle.make.specs.declared.complaint.MakeError.{MakeError}
-use Rattle.make.specs.declared.complaint.MakeError.TheVariants.{Text, OutOfMemory}
+use Rattle.words.specs.declared.complaint.MakeError.{MakeError}
+use Rattle.words.specs.declared.complaint.MakeError.TheVariants.{Text, OutOfMemory}
 use Rattle.make.specs.Reads.{Gives, Reads}
 use Rattle.make.specs.Views.{AreMembers, IsFormula}
 use Rattle.make.proofs.Parsing.{mapped}

@@ -9,8 +9,8 @@ use Rattle.names.specs.Names.{has_word, is_name}
 use Rattle.make.specs.Parsed.{Parsed, bad, got, and_then, ◌>>=◌, ◌>>◌, done, here, next, require, found}
 use Rattle.make.specs.FormulaText.{one_more, index_of}
 use Rattle.make.specs.SourceText.{new_name, key, limits_named, version, facts}
-use Rattle.make.specs.declared.complaint.Complaint.{Complaint}
-use Rattle.make.specs.declared.complaint.Complaint.TheVariants.{NoVersion, NoName, NameTaken, TooManyFacts}
+use Rattle.words.specs.declared.complaint.Complaint.{Complaint}
+use Rattle.words.specs.declared.complaint.Complaint.TheVariants.{NoVersion, NoName, NameTaken, TooManyFacts}
 use Rattle.make.specs.Reads.{Gives}
 use Rattle.make.specs.Views.{texts, IsText}
 

@@ -4,9 +4,9 @@ use Rattle.std.proofs.lemmas.Result.{err_from_is_err_and}
 use Rattle.std.specs.Str.{bytes_eq}
 use Rattle.std.specs.Result.{IsErrAnd}
 use Rattle.make.specs.Parsed.{Parsed, bad, got}
-use Rattle.make.specs.declared.complaint.Complaint.{Complaint}
-use Rattle.make.specs.declared.complaint.MakeError.{MakeError}
-use Rattle.make.specs.declared.complaint.MakeError.TheVariants.{Text, OutOfMemory}
+use Rattle.words.specs.declared.complaint.Complaint.{Complaint}
+use Rattle.words.specs.declared.complaint.MakeError.{MakeError}
+use Rattle.words.specs.declared.complaint.MakeError.TheVariants.{Text, OutOfMemory}
 use Rattle.make.specs.Reads.{Gives, Reads}
 
 -- what is given, with a function of the value

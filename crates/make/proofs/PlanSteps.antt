@@ -5,7 +5,7 @@ use Rattle.words.specs.Words.{word, after_word, left_at}
 use Rattle.make.specs.Parsed.{Parsed, bad, got, and_then, ◌>>=◌, done, found}
 use Rattle.make.specs.FormulaText.{index_of}
 use Rattle.make.specs.SourceText.{steps}
-use Rattle.make.specs.declared.complaint.Complaint.TheVariants.{UnknownAction, TooManySteps}
+use Rattle.words.specs.declared.complaint.Complaint.TheVariants.{UnknownAction, TooManySteps}
 use Rattle.make.proofs.Parsing.{after, after-none, after-more}
 
 module _ (names : List (List ℕ)) (t : List ℕ) where

@@ -12,7 +12,7 @@ use Rattle.model.proofs.Laws.Tabulate.{length-tabulate}
 use Rattle.words.specs.Words.{word, after_word, past_blanks, word_length, run_length}
 use Rattle.names.specs.Names.{Names, NamesOk}
 use Rattle.names.specs.Texts.{formula_text}
-use Rattle.show.specs.ProblemText.{facts_text, actions_text, problem_text}
+use Rattle.names.specs.ProblemText.{facts_text, actions_text, problem_text}
 use Rattle.make.specs.Parsed.{got, ◌>>=◌, ◌>>◌, and_then, done, here, peek, next, found, require}
 use Rattle.make.specs.SourceText.{source, version, key, limits_named, rest, plan, problem_with}
 use Rattle.make.proofs.FormulaRead.{fact_names, formula-read_spaced}

@@ -5,7 +5,7 @@ use Rattle.model.specs.Answer.{answered}
 use Rattle.model.specs.ProblemBytes.{Problem, problem_of, plan_of, encode_problem, encode_plan}
 use Rattle.model.specs.WellFormed.{Bytes}
 use Rattle.names.specs.Names.{Names, NamesOk}
-use Rattle.show.specs.ProblemText.{problem_text, plan_text}
+use Rattle.names.specs.ProblemText.{problem_text, plan_text}
 use Rattle.make.specs.Parsed.{got}
 use Rattle.make.specs.SourceText.{Source, source}
 

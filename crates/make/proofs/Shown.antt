@@ -4,7 +4,7 @@ use Rattle.model.specs.Limits.{limits_of}
 use Rattle.model.proofs.Guarantees.{guarantees-of}
 use Rattle.words.specs.Words.{word, past_blanks, word_length, run_length}
 use Rattle.names.specs.Names.{Names}
-use Rattle.show.specs.ProblemText.{problem_text, plan_text}
+use Rattle.names.specs.ProblemText.{problem_text, plan_text}
 use Rattle.make.specs.SourceText.{source, plan}
 use Rattle.make.proofs.Said.{ShownIsSaid, ShownPlanIsSaid}
 use Rattle.make.proofs.FormulaRead.{fact_names}

@@ -1,6 +1,6 @@
 -- What a parser that succeeds gives, said of its value alone: of its parts, one after the other. Assumes nothing.
 use Rattle.std.proofs.Common.{◌≡◌, refl, subst, Bool, true, false, cond, List, ℕ, Option, Some, None, arith}
-use Rattle.make.specs.declared.complaint.Complaint.{Complaint}
+use Rattle.words.specs.declared.complaint.Complaint.{Complaint}
 use Rattle.make.specs.Parsed.{Parsed, bad, got, Parser, and_then, require, found}
 
 -- what a parser that succeeds gives

@@ -5,7 +5,7 @@ use Rattle.model.specs.WellFormed.{Each, PlanOk}
 use Rattle.words.specs.Words.{word, after_word, past_blanks, word_length, run_length}
 use Rattle.names.specs.Names.{Names, Named, is_name}
 use Rattle.names.specs.Texts.{action_name}
-use Rattle.show.specs.ProblemText.{steps_text, plan_text}
+use Rattle.names.specs.ProblemText.{steps_text, plan_text}
 use Rattle.make.specs.Parsed.{got, ◌>>=◌, and_then, done, found}
 use Rattle.make.specs.SourceText.{steps, plan}
 use Rattle.make.proofs.Index.{index-named}

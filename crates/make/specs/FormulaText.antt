@@ -8,7 +8,7 @@ use Rattle.model.specs.FormulaBytes.{Group, conjunction, disjunction, mark, grou
 use Rattle.words.specs.Words.{word, after_word, left_at}
 use Rattle.names.specs.Names.{denial_mark}
 use Rattle.make.specs.Parsed.{bad, got, Parser, and_then, ◌>>=◌, ◌>>◌, done, here, next, require, found}
-use Rattle.make.specs.declared.complaint.Complaint.TheVariants.{UnknownFact, SameKind, NoBracket, TooDeep, TooManyMembers, FormulaTooLong, EffectOrder, TooManyEffects}
+use Rattle.words.specs.declared.complaint.Complaint.TheVariants.{UnknownFact, SameKind, NoBracket, TooDeep, TooManyMembers, FormulaTooLong, EffectOrder, TooManyEffects}
 
 -- one more, where there is a number
 abbrev pub one_more : Option ℕ → Option ℕ

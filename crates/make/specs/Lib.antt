@@ -2,7 +2,6 @@
 pub mod Parsed
 pub mod FormulaText
 pub mod SourceText
-pub mod Complaints
 pub mod Reads
 pub mod Views
 pub mod Made

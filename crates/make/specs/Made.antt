@@ -3,8 +3,8 @@ use Rattle.std.specs.Prelude.{◌≡◌, List, ℕ, option_map, Result, Ok, Err}
 use Rattle.model.specs.ProblemBytes.{encode_problem, encode_plan}
 use Rattle.make.specs.Parsed.{bad, got}
 use Rattle.make.specs.SourceText.{Source, source}
-use Rattle.make.specs.declared.complaint.MakeError.{MakeError}
-use Rattle.make.specs.declared.complaint.MakeError.TheVariants.{Text, OutOfMemory}
+use Rattle.words.specs.declared.complaint.MakeError.{MakeError}
+use Rattle.words.specs.declared.complaint.MakeError.TheVariants.{Text, OutOfMemory}
 use Rattle.make.specs.declared.making.Blocks.{Blocks}
 
 -- the blocks of what a text says

@@ -2,7 +2,7 @@
 -- the text after it.
 use Rattle.std.specs.Prelude.{Bool, cond, List, ℕ, Option, Some, None}
 use Rattle.words.specs.Words.{word, after_word, left_at}
-use Rattle.make.specs.declared.complaint.Complaint.{Complaint}
+use Rattle.words.specs.declared.complaint.Complaint.{Complaint}
 
 infixl 20 ◌>>=◌ ◌>>◌
 -- where something is wrong is told by how many bytes of the text are left there

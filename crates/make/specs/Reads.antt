@@ -1,8 +1,8 @@
 -- What the code answers where a parser reads a text.
 use Rattle.std.specs.Prelude.{◌≡◌, List, ℕ, Result, Ok, Err}
 use Rattle.make.specs.Parsed.{Parsed, bad, got}
-use Rattle.make.specs.declared.complaint.MakeError.{MakeError}
-use Rattle.make.specs.declared.complaint.MakeError.TheVariants.{Text, OutOfMemory}
+use Rattle.words.specs.declared.complaint.MakeError.{MakeError}
+use Rattle.words.specs.declared.complaint.MakeError.TheVariants.{Text, OutOfMemory}
 
 -- a value that the parser gives with this text left, of which the code has `v`
 pub record Gives {A V : Type 0} (parsed : Parsed A) (v : V) (left : List ℕ) (Is : A → V → Type 0) : Type 0 where

@@ -5,12 +5,12 @@ use Rattle.model.specs.Answer.{answered}
 use Rattle.model.specs.ProblemBytes.{Problem, problem_of, plan_of}
 use Rattle.model.specs.WellFormed.{Bytes}
 use Rattle.names.specs.Names.{Names, numbers, NamesOk}
-use Rattle.show.specs.ProblemText.{problem_text, plan_text}
+use Rattle.names.specs.ProblemText.{problem_text, plan_text}
 use Rattle.make.specs.Parsed.{got}
 use Rattle.make.specs.SourceText.{Source, source}
 use Rattle.make.specs.Made.{Makes}
-use Rattle.make.specs.declared.complaint.MakeError.{MakeError}
-use Rattle.make.specs.declared.complaint.MakeError.TheVariants.{Text, OutOfMemory}
+use Rattle.words.specs.declared.complaint.MakeError.{MakeError}
+use Rattle.words.specs.declared.complaint.MakeError.TheVariants.{Text, OutOfMemory}
 use Rattle.make.specs.declared.making.Blocks.{Blocks}
 
 -- these blocks were made, byte for byte, or memory ran out: nothing was wrong

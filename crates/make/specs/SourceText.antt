@@ -10,8 +10,8 @@ use Rattle.words.specs.Words.{word, after_word, left_at}
 use Rattle.names.specs.Names.{has_word, is_name}
 use Rattle.make.specs.Parsed.{bad, got, Parser, and_then, ◌>>=◌, ◌>>◌, done, here, peek, next, require, found}
 use Rattle.make.specs.FormulaText.{index_of, formula, formula_after, effects}
-use Rattle.make.specs.declared.complaint.Complaint.{Complaint}
-use Rattle.make.specs.declared.complaint.Complaint.TheVariants.{NoVersion, NoFact, TooManyFacts, NoStart, NoGoal, NoName, NameTaken, TooManyActions, UnknownAction, TooManySteps, WordLeft, TooLong}
+use Rattle.words.specs.declared.complaint.Complaint.{Complaint}
+use Rattle.words.specs.declared.complaint.Complaint.TheVariants.{NoVersion, NoFact, TooManyFacts, NoStart, NoGoal, NoName, NameTaken, TooManyActions, UnknownAction, TooManySteps, WordLeft, TooLong}
 
 -- a name that none has yet
 unfoldable pub new_name : List (List ℕ) → Parser (List ℕ)

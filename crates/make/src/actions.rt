@@ -4,10 +4,9 @@ ghost use Rattle.model.specs.Limits.{max_facts};
 ghost use Rattle.model.specs.FormulaBytes.{literal_byte};
 ghost use Rattle.make.specs.FormulaText.{verb as verb_of};
 
-use crate::complaint::{Complaint, MakeError};
 use crate::formulas::{Counted, FactNames, next_word};
 use model::{Limits, Problem};
-use words::Text;
+use words::{Complaint, MakeError, Text};
 
 // What an effect does to a fact.
 #[derive(Clone, Copy)]

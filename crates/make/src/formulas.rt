@@ -5,11 +5,10 @@ ghost use Rattle.model.specs.Limits.{max_facts};
 ghost use Rattle.model.specs.Marks.{group_of};
 ghost use Rattle.make.specs.FormulaText.{index_of, group_word};
 
-use crate::complaint::{Complaint, MakeError};
 use model::{Group, Problem};
 use numbers::put_number;
 use std::alloc::Global;
-use words::{Text, Word};
+use words::{Complaint, MakeError, Text, Word};
 
 // Takes the next word of a text.
 pub fn next_word<'a>(text: &mut Text<'a>) -> Word<'a>

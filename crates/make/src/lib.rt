@@ -2,11 +2,9 @@
 #![tactic(auto)]
 
 pub mod actions;
-pub mod complaint;
 pub mod formulas;
 pub mod making;
 pub mod problems;
 pub mod theorem;
 
-pub use complaint::{Complaint, MakeError};
 pub use making::{Blocks, make};

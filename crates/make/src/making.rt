@@ -7,13 +7,12 @@ ghost use Rattle.make.specs.SourceText.{plan as plan_of, source as source_of, re
 ghost use Rattle.make.specs.Views.{texts, fact_names, IsPlan};
 ghost use Rattle.make.specs.Made.{BlocksOf, Makes};
 
-use crate::complaint::{Complaint, MakeError};
 use crate::formulas::FactNames;
 use crate::problems::{Actions, expect_key, facts, steps, version};
 use model::{Limits, Problem};
 use numbers::put_number;
 use std::alloc::{AllocError, Global};
-use words::Text;
+use words::{Complaint, MakeError, Text};
 
 // The block of a problem, and that of the plan where the text has one.
 #[derive(Drop)]

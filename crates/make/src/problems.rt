@@ -5,12 +5,11 @@ ghost use Rattle.make.specs.SourceText.{new_name as new_name_of, key as key_of, 
 ghost use Rattle.make.specs.Reads.{Reads};
 ghost use Rattle.make.specs.Views.{texts, IsText, IsNothing, IsVersion, AreNames, AreSteps};
 
-use crate::complaint::{Complaint, MakeError};
 use crate::formulas::{FactNames, index_of, next_word};
 use model::{Limits, Plan, Problem};
 use names::is_name;
 use std::alloc::Global;
-use words::Text;
+use words::{Complaint, MakeError, Text};
 
 // A name that none has yet.
 fn new_name<'a>(taken: &[&[u8]], text: &mut Text<'a>) -> Result<&'a [u8], MakeError>

@@ -4,3 +4,4 @@ pub mod Texts
 pub mod Views
 pub mod Lists
 pub mod Listed
+pub mod ProblemText

@@ -1,3 +1,2 @@
 pub mod Cutting
 pub mod Listing
-pub mod Marking

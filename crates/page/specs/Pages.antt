@@ -9,7 +9,7 @@ use Rattle.model.specs.Answers.{judge_answer}
 use Rattle.model.specs.ListBytes.{lines_from}
 use Rattle.model.specs.Operations.{judge}
 use Rattle.model.specs.DeskText.{lines_text, too_long, judged_line, desk_grant, desk_text}
-use Rattle.page.specs.declared.answers.FirstLine.{FirstLine}
+use Rattle.page.specs.declared.first_line.FirstLine.{FirstLine}
 
 -- what follows the first line, over n facts: only a right plan has lines, and not too many
 abbrev pub following : Limits → ℕ → List ℕ → Answer (Verdict ℕ) → List ℕ

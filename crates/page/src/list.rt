@@ -5,7 +5,7 @@ ghost use Rattle.model.specs.DeskText.{kind_text, line_text, lines_text, too_lon
 ghost use Rattle.model.specs.ListBytes.{line_at, lines_from};
 ghost use Rattle.lines.specs.Lines.{raw_line};
 
-use crate::marks::{Facts, Marks};
+use answers::{Facts, Marks};
 use lines::{ListReader, RawLine};
 use std::fmt;
 

@@ -4,7 +4,7 @@ ghost use Rattle.model.specs.Read.{head_bytes};
 ghost use Rattle.model.specs.Answers.{judge_answer};
 ghost use Rattle.page.specs.Pages.{following};
 
-use crate::answers::FirstLine;
+use crate::first_line::FirstLine;
 use crate::list::{ListLines, TooLong};
 use model::Verdict;
 use std::fmt;

@@ -1,6 +1,4 @@
 -- Laws of the definitions, for the functions' proofs.
 pub mod Stating
 pub mod Numbering
-pub mod Feeds
 pub mod Speaking
-pub mod Failing

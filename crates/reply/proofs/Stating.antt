@@ -5,7 +5,7 @@ use Rattle.model.specs.{declared.Limits.Limits, Case.flag, Relevance.number_of, 
 use Rattle.model.proofs.Laws.Tracing.{OfSize}
 use Rattle.names.specs.Names.{Names}
 use Rattle.told.specs.States.{state_text}
-use Rattle.show.proofs.Pieces.{after-five}
+use Rattle.names.proofs.Pieces.{after-five}
 use Rattle.reply.specs.StateLines.{states_text, numbered_states}
 
 -- a row is read as it was written

@@ -1,21 +1,15 @@
 -- What is replied about a problem, a state of it and a plan beside it, from the bytes of the files and the words of the command line.
-use Rattle.std.specs.Prelude.{◌≡◌, Bool, cond, List, ◌++◌, ℕ, length, Option, None, Some, Result, Ok, Err}
+use Rattle.std.specs.Prelude.{◌≡◌, Bool, List, ℕ, length, Option, None, Some, Result, Ok, Err}
 use Rattle.model.specs.declared.Refusal.{Refusal}
 use Rattle.model.specs.declared.Limits.{Limits}
-use Rattle.model.specs.declared.fault.Fault.TheVariants.{StateNumber}
 use Rattle.model.specs.Limits.{limits_of}
 use Rattle.model.specs.Answers.{plain_answer}
-use Rattle.model.specs.Faults.{refusal_at}
-use Rattle.model.specs.Operations.{task_of, is_state_number}
 use Rattle.model.specs.ProblemBytes.{Problem, problem_of, plan_of}
-use Rattle.show.specs.ProblemText.{problem_text, plan_text}
 use Rattle.names.specs.Names.{Names}
-use Rattle.answers.specs.declared.status.Status.TheVariants.{Yes, No}
-use Rattle.explain.specs.Told.{explanation}
 use Rattle.reply.specs.StateMarks.{marked_state}
 use Rattle.reply.specs.Spoken.{names_for, Spoken}
 use Rattle.reply.specs.Said.{Said}
-use Rattle.reply.specs.Replies.{Replied, text_reply, refused_reply}
+use Rattle.reply.specs.Replies.{Replied, refused_reply}
 use Rattle.reply.specs.declared.unanswered.Unanswered.TheVariants.{Marks, OtherNames}
 
 module _ (json : Bool) where
@@ -36,24 +30,6 @@ module _ (json : Bool) where
   WithPlan s plan K x =
       (steps : Result (List ℕ) Refusal) × (plain_answer steps ≡ plan_of plan (length s.problem.actions)) × (x ≡ Ok (with_steps steps K))
 
-  -- a run that is told step by step, of a number that is a state's
-  abbrev pub explained_reply : Spoken → ℕ → List ℕ → Said
-  explained_reply s n steps =
-      cond (is_state_number (task_of s.limits s.problem steps) n)
-      (text_reply json (explanation s.names s.problem s.limits steps n) No)
-      (refused_reply json (refusal_at StateNumber 0))
-
-  -- a problem as a text, and then a plan, if there is one
-  abbrev pub shown_text : Spoken → List ℕ
-  shown_text s = problem_text s.names s.limits s.problem
-
-  abbrev pub shown_reply : Spoken → List ℕ → Said
-  shown_reply s steps = text_reply json (shown_text s ++ plan_text s.names steps) Yes
-
-  abbrev pub Shown : Option (List ℕ) → Spoken → Replied → Type 0
-  Shown None s x = x ≡ Ok (text_reply json (shown_text s) Yes)
-  Shown (Some plan) s x = WithPlan s plan (shown_reply s) x
-
   module _ (given : Option Names) where
     -- what is replied about a problem that was read so: that it is refused, that the names given are not as many as its facts and
     -- actions, and else what K says of it in its names
@@ -67,7 +43,3 @@ module _ (json : Bool) where
 
     unfoldable pub About : List ℕ → (Spoken → Replied → Type 0) → Replied → Type 0
     About block K x = (p : Result Problem Refusal) × (plain_answer p ≡ problem_of (limits_of block) block) × AboutRead (limits_of block) p K x
-
-    -- the problem as a text, and a plan for it, if there is one
-    abbrev pub ShowReply : List ℕ → Option (List ℕ) → Replied → Type 0
-    ShowReply problem plan = About problem (Shown plan)

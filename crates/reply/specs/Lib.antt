@@ -1,7 +1,6 @@
 -- What commands reply.
 pub mod StateMarks
 pub mod StateLines
-pub mod Texts
 pub mod Unanswered
 pub mod Failures
 pub mod Spoken
@@ -9,5 +8,3 @@ pub mod Views
 pub mod Said
 pub mod Replies
 pub mod About
-pub mod Making
-pub mod Shown

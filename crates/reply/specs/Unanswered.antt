@@ -4,7 +4,7 @@ use Rattle.answers.specs.declared.status.Status.{Status}
 use Rattle.answers.specs.declared.status.Status.TheVariants.{Malformed, Unwritten, Usage}
 use Rattle.names.specs.declared.lists.NamesError.{NamesError}
 use Rattle.names.specs.declared.lists.NamesError.TheVariants.{BadName as IsBadName, OutOfMemory as IsOutOfMemory}
-use Rattle.make.specs.Complaints.{complaint_words}
+use Rattle.words.specs.Complaints.{complaint_words}
 use Rattle.reply.specs.declared.unanswered.Unanswered.{Unanswered}
 use Rattle.reply.specs.declared.unanswered.Unanswered.TheVariants.{Marks, Text, NoPlan, BadName, OtherNames, OutOfMemory}
 

@@ -3,7 +3,7 @@ ghost use Rattle.std.specs.Prelude.{◌≡◌, ◌≤◌, ◌<◌, ◌^◌, leng
 ghost use Rattle.model.specs.Relevance.{number_of};
 ghost use Rattle.reply.specs.StateMarks.{is_mark, are_marks, marked_state};
 
-use page::Facts;
+use answers::Facts;
 
 fn is_mark(byte: u8) -> bool
     ensures { result ≡ is_mark byte }

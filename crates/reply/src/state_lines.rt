@@ -5,8 +5,8 @@ ghost use Rattle.names.specs.Views.{names as names_of};
 ghost use Rattle.reply.specs.StateLines.{states_text};
 
 use crate::marks::state_number;
+use answers::Facts;
 use names::Names;
-use page::Facts;
 use std::alloc::AllocError;
 use told::StateText;
 

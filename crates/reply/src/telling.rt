@@ -6,10 +6,10 @@ ghost use Rattle.reply.specs.Spoken.{names_for};
 ghost use Rattle.reply.specs.Views.{given, Speaks, TellsBy};
 
 use crate::unanswered::Unanswered;
+use answers::Facts;
 use blocks::Problem;
 use model::Refusal;
 use names::{NameList, Names};
-use page::Facts;
 use std::alloc::Global;
 
 // How answers are told: in which names, if any were given, and whether as JSON.

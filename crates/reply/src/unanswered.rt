@@ -3,10 +3,10 @@ ghost use Rattle.std.specs.Prelude.{◌≡◌};
 ghost use Rattle.reply.specs.declared.unanswered.Unanswered.TheVariants.{OutOfMemory};
 
 use answers::Status;
-use make::Complaint;
 use names::NamesError;
 use std::alloc::{AllocError, AllocFailed};
 use std::fmt;
+use words::Complaint;
 
 #[derive(Clone, Copy)]
 pub enum Unanswered {

@@ -29,12 +29,18 @@ fn main(rt: HostRuntime) -> ExitCode {
 
 // Reads the command line, and answers its command.
 fn run<R: Env + Files + Print + Eprint + AllocGlobal>(rt: &R) -> Result<Status, Failure> {
-    let alloc = rt.alloc();
     let Ok(words) = std::env::args(rt) else {
         return Err(Failure::WordNoText);
     };
-    let words: Vec<String> = words.collect(alloc)?;
-    match command_line(alloc)?.try_get_matches_from(words.as_slice()) {
+    let words: Vec<String> = words.collect(rt.alloc())?;
+    answer_words(rt, &words)
+}
+
+fn answer_words<R: Files + Print + Eprint + AllocGlobal>(
+    rt: &R,
+    words: &[String],
+) -> Result<Status, Failure> {
+    match command_line(rt.alloc())?.try_get_matches_from(words) {
         Ok(matches) => match Request::of(&matches) {
             Some(request) => answer(rt, &request),
             None => Err(Failure::NoCommand),

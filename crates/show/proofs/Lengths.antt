@@ -15,7 +15,7 @@ use Rattle.model.proofs.Laws.Reading.{length-bytes_of}
 use Rattle.blocks.proofs.Sizes.{encoded-size}
 use Rattle.names.specs.Names.{Names, Named, NamesOk, is_name, name_of, max_name_bytes}
 use Rattle.names.specs.Texts.{fact_name, action_name, literal_text, formula_text, members_text}
-use Rattle.show.specs.ProblemText.{is_always, unless_always, facts_text, literal_set, effects_text, needs_text, actions_text, problem_text, steps_text, plan_text}
+use Rattle.names.specs.ProblemText.{is_always, unless_always, facts_text, literal_set, effects_text, needs_text, actions_text, problem_text, steps_text, plan_text}
 use Rattle.show.specs.TextLength.{ProblemIsShort, PlanIsShort, max_problem_text}
 
 -- the first n names are that short

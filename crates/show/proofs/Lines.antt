@@ -7,8 +7,8 @@ use Rattle.model.specs.ProblemBytes.{Problem, action_at}
 use Rattle.model.specs.declared.Limits.{Limits}
 use Rattle.names.specs.Names.{Names}
 use Rattle.names.specs.Texts.{fact_name, action_name, formula_text}
-use Rattle.show.specs.ProblemText.{literal_set, unless_always, facts_text, effects_text, needs_text, actions_text, problem_text, steps_text, plan_text}
-use Rattle.show.proofs.Pieces.{joined, after-three, after-five}
+use Rattle.names.specs.ProblemText.{literal_set, unless_always, facts_text, effects_text, needs_text, actions_text, problem_text, steps_text, plan_text}
+use Rattle.names.proofs.Pieces.{joined, after-three, after-five}
 
 module _ (N : Names) where
   -- the line of a fact, and of a step

@@ -1,3 +1,2 @@
 -- The text of a problem and of a plan.
-pub mod ProblemText
 pub mod TextLength

@@ -5,7 +5,7 @@ use Rattle.model.specs.Answer.{answered}
 use Rattle.model.specs.ProblemBytes.{Problem, problem_of, plan_of}
 use Rattle.model.specs.WellFormed.{Bytes}
 use Rattle.names.specs.Names.{Names, NamesOk}
-use Rattle.show.specs.ProblemText.{problem_text, plan_text}
+use Rattle.names.specs.ProblemText.{problem_text, plan_text}
 
 -- so many bytes a problem is shown in at most, and a plan
 abbrev pub max_problem_text : ℕ

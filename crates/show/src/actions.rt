@@ -3,7 +3,7 @@ ghost use Rattle.std.specs.Prelude.{◌≡◌, [], ◌∷◌, ◌++◌, string_b
 ghost use Rattle.blocks.specs.Values.{problem as problem_of};
 ghost use Rattle.fields.specs.Actions.{action as action_of};
 ghost use Rattle.names.specs.Views.{names as names_of};
-ghost use Rattle.show.specs.ProblemText.{actions_text};
+ghost use Rattle.names.specs.ProblemText.{actions_text};
 
 use crate::effects::push_effects;
 use crate::formulas::push_need;

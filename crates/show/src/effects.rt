@@ -3,7 +3,7 @@ ghost use Rattle.std.specs.Prelude.{◌≡◌, [], ◌∷◌, ◌++◌, Some, st
 ghost use Rattle.fields.specs.Actions.{effect as effect_of, effects as effects_of};
 ghost use Rattle.formula.specs.Views.{literal as literal_of};
 ghost use Rattle.names.specs.Views.{names as names_of};
-ghost use Rattle.show.specs.ProblemText.{literal_set, effects_text};
+ghost use Rattle.names.specs.ProblemText.{literal_set, effects_text};
 
 use crate::formulas::push_condition;
 use fields::{Effect, Effects};

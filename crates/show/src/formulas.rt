@@ -2,7 +2,7 @@
 ghost use Rattle.std.specs.Prelude.{◌≡◌, ◌++◌, string_bytes, OnOk, codes};
 ghost use Rattle.formula.specs.Views.{formula as formula_of};
 ghost use Rattle.names.specs.Views.{names as names_of};
-ghost use Rattle.show.specs.ProblemText as text;
+ghost use Rattle.names.specs.ProblemText as text;
 
 use formula::{Formula, Next};
 use model::Group;
@@ -27,7 +27,7 @@ fn is_always(formula: Formula) -> bool
 }
 
 // Appends what an action asks for, on a line of its own.
-#[tactic(auto, unfolding(crate::specs::ProblemText::needs_text))]
+#[tactic(auto, unfolding(names::specs::ProblemText::needs_text))]
 pub fn push_need(out: &mut String, names: Names, formula: Formula) -> Result<(), AllocError>
     ensures { OnOk result (string_bytes out.new ≡ string_bytes out.old ++ text.needs_text (names_of names.entry) (formula_of formula.entry)) }
 {
@@ -40,7 +40,7 @@ pub fn push_need(out: &mut String, names: Names, formula: Formula) -> Result<(),
 }
 
 // Appends the condition of an effect.
-#[tactic(auto, unfolding(crate::specs::ProblemText::unless_always))]
+#[tactic(auto, unfolding(names::specs::ProblemText::unless_always))]
 pub fn push_condition(out: &mut String, names: Names, formula: Formula) -> Result<(), AllocError>
     ensures { OnOk result (string_bytes out.new ≡ string_bytes out.old ++ text.unless_always (names_of names.entry) (codes " if ") (formula_of formula.entry)) }
 {

@@ -1,7 +1,7 @@
 // A plan as text.
 ghost use Rattle.std.specs.Prelude.{◌≡◌, ◌++◌, string_bytes, OnOk};
 ghost use Rattle.names.specs.Views.{names as names_of};
-ghost use Rattle.show.specs.ProblemText.{steps_text, plan_text};
+ghost use Rattle.names.specs.ProblemText.{steps_text, plan_text};
 
 use names::{ActionName, Names};
 use std::alloc::AllocError;

@@ -2,7 +2,7 @@
 ghost use Rattle.std.specs.Prelude.{◌≡◌, ◌++◌, string_bytes, OnOk};
 ghost use Rattle.blocks.specs.Values.{problem as problem_of};
 ghost use Rattle.names.specs.Views.{names as names_of};
-ghost use Rattle.show.specs.ProblemText.{facts_text, problem_text};
+ghost use Rattle.names.specs.ProblemText.{facts_text, problem_text};
 
 use crate::actions::push_actions;
 use blocks::Problem;

@@ -2,10 +2,9 @@
 ghost use Rattle.std.specs.Prelude.{Some};
 
 use crate::states::StateText;
-use answers::{Answer, FaultRow, Unit};
+use answers::{Answer, Facts, FaultRow, Unit};
 use model::{Outcome, Part, Refusal, Search, ShortPlan, Stop, Verdict};
 use names::{ActionName, Names};
-use page::Facts;
 use std::fmt;
 
 // A refusal: that of a line, or of the end of the lines, in words, and all else by number.

@@ -2,8 +2,8 @@
 ghost use Rattle.std.specs.Prelude.{◌≡◌, ◌<◌, Some};
 ghost use Rattle.model.specs.Case.{bit};
 
+use answers::{Facts, Marks};
 use names::{FactName, Names};
-use page::{Facts, Marks};
 use std::fmt;
 
 // A state by its number: a mark for each fact, or the names of the true ones where facts have names.

@@ -1,2 +1,3 @@
--- The words of a text that a person writes.
+-- The words of a text that a person writes, and what is said of it.
 pub mod Words
+pub mod Complaints

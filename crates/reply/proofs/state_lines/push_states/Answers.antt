@@ -1,6 +1,6 @@
 use Rattle.std.proofs.Common.{arith}
 use Rattle.names.specs.Views.{names as names_of}
-use Rattle.show.proofs.Pieces.{one-piece, all-written}
+use Rattle.names.proofs.Pieces.{one-piece, all-written}
 use Rattle.reply.proofs.Stating.{next-state, no-state, rows-fit}
 use Rattle.reply.proofs.state_lines.push_states.Goals as goal
 

@@ -1,6 +1,6 @@
 use Rattle.fields.specs.Actions.{action as action_of}
 use Rattle.names.specs.Views.{names as names_of}
-use Rattle.show.proofs.Pieces.{all-left, next-piece, last-piece}
+use Rattle.names.proofs.Pieces.{all-left, next-piece, last-piece}
 use Rattle.show.proofs.Lines.{action-pieces}
 use Rattle.show.proofs.actions.push_action.Goals as goal
 

@@ -3,7 +3,7 @@ use Rattle.blocks.proofs.Tasks.{action-count}
 use Rattle.blocks.specs.Values.{problem as problem_of}
 use Rattle.fields.specs.Actions.{action as action_of}
 use Rattle.names.specs.Views.{names as names_of}
-use Rattle.show.proofs.Pieces.{one-piece, all-written}
+use Rattle.names.proofs.Pieces.{one-piece, all-written}
 use Rattle.show.proofs.Lines.{first-action, no-action}
 use Rattle.show.proofs.actions.push_actions.Goals as goal
 

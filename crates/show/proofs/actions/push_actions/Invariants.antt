@@ -3,7 +3,7 @@ use Rattle.std.proofs.Common.{◌≡◌, ◌++◌, drop}
 use Rattle.std.specs.String.{string_bytes}
 use Rattle.blocks.specs.Values.{problem as problem_of}
 use Rattle.names.specs.Views.{names as names_of}
-use Rattle.show.specs.ProblemText.{actions_text}
+use Rattle.names.specs.ProblemText.{actions_text}
 use Rattle.show.proofs.actions.push_actions.Given as goal
 
 abbrev pub invariant-loop-action : goal.invariant-loop-action

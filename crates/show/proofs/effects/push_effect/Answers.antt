@@ -1,6 +1,6 @@
 use Rattle.fields.specs.Actions.{effect as effect_of}
 use Rattle.names.specs.Views.{names as names_of}
-use Rattle.show.proofs.Pieces.{all-left, next-piece, last-text}
+use Rattle.names.proofs.Pieces.{all-left, next-piece, last-text}
 use Rattle.show.proofs.Lines.{effect-pieces}
 use Rattle.show.proofs.effects.push_effect.Goals as goal
 

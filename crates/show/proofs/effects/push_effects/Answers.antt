@@ -1,8 +1,8 @@
 use Rattle.std.proofs.Common.{ap, ◌∙◌}
 use Rattle.fields.specs.Actions.{effect as effect_of}
 use Rattle.names.specs.Views.{names as names_of}
-use Rattle.show.specs.ProblemText.{effects_text}
-use Rattle.show.proofs.Pieces.{one-piece, all-written}
+use Rattle.names.specs.ProblemText.{effects_text}
+use Rattle.names.proofs.Pieces.{one-piece, all-written}
 use Rattle.show.proofs.Lines.{first-effect, no-effect}
 use Rattle.show.proofs.effects.push_effects.Goals as goal
 

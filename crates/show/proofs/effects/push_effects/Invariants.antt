@@ -3,7 +3,7 @@ use Rattle.std.proofs.Common.{◌≡◌, ◌++◌}
 use Rattle.std.specs.String.{string_bytes}
 use Rattle.fields.specs.Actions.{effects as effects_of}
 use Rattle.names.specs.Views.{names as names_of}
-use Rattle.show.specs.ProblemText.{effects_text}
+use Rattle.names.specs.ProblemText.{effects_text}
 use Rattle.show.proofs.effects.push_effects.Given as goal
 
 abbrev pub invariant-loop-effect : goal.invariant-loop-effect

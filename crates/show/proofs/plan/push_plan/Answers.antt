@@ -1,5 +1,5 @@
 use Rattle.names.specs.Views.{names as names_of}
-use Rattle.show.proofs.Pieces.{all-left, next-piece, last-piece}
+use Rattle.names.proofs.Pieces.{all-left, next-piece, last-piece}
 use Rattle.show.proofs.Lines.{plan-pieces}
 use Rattle.show.proofs.plan.push_plan.Goals as goal
 

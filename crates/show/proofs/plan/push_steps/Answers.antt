@@ -1,6 +1,6 @@
 use Rattle.std.proofs.Common.{arith}
 use Rattle.names.specs.Views.{names as names_of}
-use Rattle.show.proofs.Pieces.{one-piece, all-written}
+use Rattle.names.proofs.Pieces.{one-piece, all-written}
 use Rattle.show.proofs.Lines.{first-step, no-step}
 use Rattle.show.proofs.plan.push_steps.Goals as goal
 

@@ -2,7 +2,7 @@
 use Rattle.std.proofs.Common.{◌≡◌, ◌++◌, drop}
 use Rattle.std.specs.String.{string_bytes}
 use Rattle.names.specs.Views.{names as names_of}
-use Rattle.show.specs.ProblemText.{steps_text}
+use Rattle.names.specs.ProblemText.{steps_text}
 use Rattle.show.proofs.plan.push_steps.Given as goal
 
 abbrev pub invariant-loop-step : goal.invariant-loop-step

@@ -1,6 +1,6 @@
 use Rattle.std.proofs.Common.{arith}
 use Rattle.names.specs.Views.{names as names_of}
-use Rattle.show.proofs.Pieces.{one-piece, all-written}
+use Rattle.names.proofs.Pieces.{one-piece, all-written}
 use Rattle.show.proofs.Lines.{first-fact, no-fact}
 use Rattle.show.proofs.problem.push_facts.Goals as goal
 

@@ -2,7 +2,7 @@
 use Rattle.std.proofs.Common.{◌≡◌, ◌++◌, ◌-◌}
 use Rattle.std.specs.String.{string_bytes}
 use Rattle.names.specs.Views.{names as names_of}
-use Rattle.show.specs.ProblemText.{facts_text}
+use Rattle.names.specs.ProblemText.{facts_text}
 use Rattle.show.proofs.problem.push_facts.Given as goal
 
 abbrev pub invariant-loop-fact : goal.invariant-loop-fact

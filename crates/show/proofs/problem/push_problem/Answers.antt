@@ -1,6 +1,6 @@
 use Rattle.blocks.specs.Values.{problem as problem_of}
 use Rattle.names.specs.Views.{names as names_of}
-use Rattle.show.proofs.Pieces.{all-left, next-piece, last-piece}
+use Rattle.names.proofs.Pieces.{all-left, next-piece, last-piece}
 use Rattle.show.proofs.Lines.{problem-pieces}
 use Rattle.show.proofs.problem.push_problem.Goals as goal
 

@@ -1,7 +1,7 @@
 use Rattle.std.proofs.Common.{◌≡◌, rules, arith, ap, ap₂, ◌∙◌, ◌++◌, List, ℕ}
 use Rattle.std.proofs.Output.{has_written_of_eq, has_written_append}
 use Rattle.model.specs.{ListBytes.lines_from, DeskText.line_text, DeskText.lines_text, Read.head_bytes, Walk.Line}
-use Rattle.page.specs.declared.marks.Facts.{Facts}
+use Rattle.answers.specs.declared.marks.Facts.{Facts}
 use Rattle.page.proofs.Listing.{lines-more}
 use Rattle.page.proofs.list.ListLinesDisplay.fmt.Goals as goal
 

@@ -1,0 +1,3 @@
+-- Laws of the definitions, for the functions' proofs.
+pub mod Feeds
+pub mod Shown
