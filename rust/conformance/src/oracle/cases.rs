@@ -2,9 +2,10 @@
 
 use super::Task;
 use crate::model::{Action, Formula, Kind, Line};
+use crate::version::VERSION_2;
 
 /// No problem has more facts.
-const MOST_FACTS: usize = 64;
+const MOST_FACTS: usize = VERSION_2.most_facts as usize;
 
 /// A value that may be partly known: which of yes and no it can still be.
 /// Unknown can be both; nothing can be neither.

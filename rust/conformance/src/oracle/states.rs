@@ -2,6 +2,7 @@
 
 use super::{Outcome, Part, Task};
 use crate::model::{Action, Formula, Kind};
+use crate::version::VERSION_2;
 
 pub fn holds(formula: &Formula, state: &[bool]) -> bool {
     match formula {
@@ -36,7 +37,9 @@ fn both(action: &Action, state: &[bool]) -> u64 {
 /// The same in a row, the lowest first.
 pub fn conflicts(action: &Action, state: &[bool]) -> Vec<u8> {
     let both = both(action, state);
-    (0..64).filter(|fact| both >> fact & 1 == 1).collect()
+    (0..VERSION_2.most_facts)
+        .filter(|fact| both >> fact & 1 == 1)
+        .collect()
 }
 
 /// The member that is named of a precondition which does not hold.

@@ -126,18 +126,14 @@ fn the_problem_is_refused_before_the_plan_and_the_list(version: &Version) {
     }
     let problem = trial::problem(version);
     let case = Case { problem, ..case };
-    for operation in [
-        ReadPlan,
-        Run,
-        Judge,
-        WriteList,
-        FollowList,
-        RelevantFacts,
-        RelevantFactsSparse,
-    ] {
-        expect(operation, &case, &[0, 31, 1]);
+    for operation in Operation::ALL {
+        let refused = match operation {
+            ReadProblem => continue,
+            // A search takes no plan, and a merge a second problem instead.
+            SearchPlans => [0, 43, 0],
+            Merge => [0, 11, 0],
+            _ => [0, 31, 1],
+        };
+        expect(operation, &case, &refused);
     }
-    // A search takes no plan, and a merge a second problem instead.
-    expect(SearchPlans, &case, &[0, 43, 0]);
-    expect(Merge, &case, &[0, 11, 0]);
 }
