@@ -1,9 +1,8 @@
 -- The values of some facts copied from one table to another. Assumes nothing.
-use Rattle.std.proofs.Common.{◌≡◌, sym, ap, ◌∙◌, List, ℕ, ◌+◌, ◌*◌, ◌-◌, ◌%◌, ◌≤◌, ◌<◌, arith, length, get_or, take, drop, length-take, length-drop}
-use native.Mathlib.Decide.{dec_lt}
-use borrow.Rule.Slice.PartMut.{put_mid, same_len_mid}
-use lib.ListN.{get_or-append, get_or-eq_default}
-use Rattle.std.proofs.lemmas.List.{get_or-take, get_or-drop, get_or-append_right}
+use Rattle.std.proofs.Common.{◌≡◌, refl, sym, ap, ◌∙◌, List, ℕ, ◌+◌, ◌*◌, ◌-◌, ◌%◌, ◌≤◌, ◌<◌, arith, length, get_or, set}
+use native.Mathlib.Decide.{dec_lt, ℕ_discrete}
+use lib.ListN.{get_or-eq_default}
+use Rattle.std.proofs.lemmas.List.{length-set, get_or-set_same, get_or-set_other}
 use Rattle.model.specs.Kleene.{Kleene, No, denied, three}
 use Rattle.model.specs.Limits.{max_facts}
 use Rattle.model.specs.Formula.{value_of}
@@ -16,76 +15,95 @@ use Rattle.cases.specs.declared.cases.Cases.{Cases}
 use Rattle.cases.specs.Cases.{case_of}
 use Rattle.cases.proofs.Lanes.{length-case_in, sized-in, case-in, cases-hold}
 
--- an element of a list of which a part was written
-module _ (xs ys : List ℕ) (a k : ℕ) (fits : a + k ≤ length xs) (size : length ys ≡ k) where
-  front : length (take a xs) ≡ a
-  front = length-take a xs ∙ omega arith
+-- an element that got the one of another list
+module _ (from xs : List ℕ) (n : ℕ) (inside : n < length xs) where
+  abbrev stored : List ℕ
+  stored = set xs n (get_or from n 0)
 
-  put-below : (i : ℕ) → i < a → get_or (put_mid a k xs ys) i 0 ≡ get_or xs i 0
-  put-below i h = get_or-append (take a xs) _ 0 i (omega (arith, front)) ∙ get_or-take a xs i 0 h
+  stored-at : (k : ℕ) → k ≡ n → get_or stored k 0 ≡ get_or from k 0
+  stored-at k e = rw e (get_or-set_same xs n (get_or from n 0) 0 inside)
 
-  put-inside : (i : ℕ) → a ≤ i → i < a + k → get_or (put_mid a k xs ys) i 0 ≡ get_or ys (i - a) 0
-  put-inside i h l = get_or-append_right (take a xs) _ a i 0 front h ∙ get_or-append ys _ 0 (i - a) (omega (arith, size))
+  stored-past : (k : ℕ) → (k ≡ n → ⊥) → get_or stored k 0 ≡ get_or xs k 0
+  stored-past k m = get_or-set_other xs n k (get_or from n 0) 0 m
 
-  put-above : (i : ℕ) → a + k ≤ i → get_or (put_mid a k xs ys) i 0 ≡ get_or xs i 0
-  put-above i h =
-      get_or-append_right (take a xs) _ a i 0 front (omega arith) ∙
-      get_or-append_right ys _ k (i - a) 0 size (omega arith) ∙
-      get_or-drop k (drop a xs) (i - a - k) 0 ∙
-      get_or-drop a xs (k + (i - a - k)) 0 ∙
-      ap (λ n. get_or xs n 0) (omega arith)
+-- the words of the facts before i, and those of their denials, are another table's, and each other word is as it was
+pub record Copied (i : ℕ) (words from now : List ℕ) : Type 0 where
+  pub size : length now ≡ 256
+  pub new : (k : ℕ) → k < 256 → k % 128 < 2 * i → get_or now k 0 ≡ get_or from k 0
+  pub old : (k : ℕ) → k < 256 → 2 * i ≤ k % 128 → get_or now k 0 ≡ get_or words k 0
 
-  put-size : length (put_mid a k xs ys) ≡ length xs
-  put-size = same_len_mid a k xs ys (size ∙ sym (length-take k (drop a xs) ∙ omega (arith, length-drop a xs)))
+pub copied-none : (words from : List ℕ) → length words ≡ 256 → Copied 0 words from words
+copied-none words from e =
+    record {
+      size = e;
+      new = λ k h m. absurd (omega (arith, m));
+      old = λ k h m. refl;
+    }
 
--- the words of the facts and those of their denials
-module _ (words from low high : List ℕ) (count : ℕ) (few : count ≤ 128) (size : length words ≡ 256) (room : length from ≡ 256)
-    (l : low ≡ take count from) (h : high ≡ take count (drop 128 from)) where
-  abbrev half : List ℕ
-  half = put_mid 0 count words low
+module _ (i : ℕ) (words from now : List ℕ) (few : i < 64) (C : Copied i words from now) where
+  abbrev one : List ℕ
+  one = set now (2 * i) (get_or from (2 * i) 0)
 
-  abbrev copied : List ℕ
-  copied = put_mid 128 count half high
+  abbrev two : List ℕ
+  two = set one (2 * i + 1) (get_or from (2 * i + 1) 0)
 
-  low-size : length low ≡ count
-  low-size = rw l (length-take count from ∙ omega (arith, room))
+  abbrev three-words : List ℕ
+  three-words = set two (128 + 2 * i) (get_or from (128 + 2 * i) 0)
 
-  high-size : length high ≡ count
-  high-size = rw h (length-take count (drop 128 from) ∙ omega (arith, length-drop 128 from, room))
+  abbrev four : List ℕ
+  four = set three-words (128 + 2 * i + 1) (get_or from (128 + 2 * i + 1) 0)
 
-  half-size : length half ≡ 256
-  half-size = put-size words low 0 count (omega (arith, size)) low-size ∙ size
+  one-size : length one ≡ 256
+  one-size = length-set now _ _ ∙ C.size
 
-  copied-size : length copied ≡ 256
-  copied-size = put-size half high 128 count (omega (arith, half-size)) high-size ∙ half-size
+  two-size : length two ≡ 256
+  two-size = length-set one _ _ ∙ one-size
 
-  in-half : (k : ℕ) → count ≤ k → get_or half k 0 ≡ get_or words k 0
-  in-half k i = put-above words low 0 count (omega (arith, size)) low-size k (omega arith)
+  three-size : length three-words ≡ 256
+  three-size = length-set two _ _ ∙ two-size
 
-  -- copied, where it is a word of those facts; else as it was
-  copied-word : (k : ℕ) → k % 128 < count → k < 256 → get_or copied k 0 ≡ get_or from k 0
-  copied-word k i m =
-      elim (dec_lt k 128) [
-        | yes y ↦
-            put-below half high 128 count (omega (arith, half-size)) high-size k y ∙
-            put-inside words low 0 count (omega (arith, size)) low-size k (omega arith) (omega arith) ∙
-            ap (λ x. get_or x (k - 0) 0) l ∙
-            get_or-take count from (k - 0) 0 (omega arith) ∙
-            ap (λ n. get_or from n 0) (omega arith)
-        | no n ↦
-            put-inside half high 128 count (omega (arith, half-size)) high-size k (omega arith) (omega arith) ∙
-            ap (λ x. get_or x (k - 128) 0) h ∙
-            get_or-take count (drop 128 from) (k - 128) 0 (omega arith) ∙
-            get_or-drop 128 from (k - 128) 0 ∙
-            ap (λ n. get_or from n 0) (omega arith)
+  four-size : length four ≡ 256
+  four-size = length-set three-words _ _ ∙ three-size
+
+  copied-now : (k : ℕ) → k < 256 → k % 128 < 2 * (i + 1) → get_or four k 0 ≡ get_or from k 0
+  copied-now k h m =
+      elim (ℕ_discrete k (128 + 2 * i + 1)) [
+        | yes e ↦ stored-at from three-words (128 + 2 * i + 1) (omega (arith, three-size)) k e
+        | no a ↦
+            stored-past from three-words (128 + 2 * i + 1) (omega (arith, three-size)) k a ∙
+            elim (ℕ_discrete k (128 + 2 * i)) [
+              | yes e ↦ stored-at from two (128 + 2 * i) (omega (arith, two-size)) k e
+              | no b ↦
+                  stored-past from two (128 + 2 * i) (omega (arith, two-size)) k b ∙
+                  elim (ℕ_discrete k (2 * i + 1)) [
+                    | yes e ↦ stored-at from one (2 * i + 1) (omega (arith, one-size)) k e
+                    | no c ↦
+                        stored-past from one (2 * i + 1) (omega (arith, one-size)) k c ∙
+                        elim (ℕ_discrete k (2 * i)) [
+                          | yes e ↦ stored-at from now (2 * i) (omega (arith, C.size)) k e
+                          | no d ↦
+                              stored-past from now (2 * i) (omega (arith, C.size)) k d ∙
+                              C.new k h (omega (arith, a, b, c, d))
+                        ]
+                  ]
+            ]
       ]
 
-  kept-word : (k : ℕ) → count ≤ k % 128 → k < 256 → get_or copied k 0 ≡ get_or words k 0
-  kept-word k i m =
-      elim (dec_lt k 128) [
-        | yes y ↦ put-below half high 128 count (omega (arith, half-size)) high-size k y ∙ in-half k (omega arith)
-        | no n ↦ put-above half high 128 count (omega (arith, half-size)) high-size k (omega arith) ∙ in-half k (omega arith)
-      ]
+  kept-now : (k : ℕ) → k < 256 → 2 * (i + 1) ≤ k % 128 → get_or four k 0 ≡ get_or words k 0
+  kept-now k h m =
+      stored-past from three-words (128 + 2 * i + 1) (omega (arith, three-size)) k (λ e. absurd (omega (arith, e))) ∙
+      stored-past from two (128 + 2 * i) (omega (arith, two-size)) k (λ e. absurd (omega (arith, e))) ∙
+      stored-past from one (2 * i + 1) (omega (arith, one-size)) k (λ e. absurd (omega (arith, e))) ∙
+      stored-past from now (2 * i) (omega (arith, C.size)) k (λ e. absurd (omega (arith, e))) ∙
+      C.old k h (omega arith)
+
+  pub copied-next : Copied (i + 1) words from four
+  copied-next =
+      record {
+        size = four-size;
+        new = copied-now;
+        old = kept-now;
+      }
 
 -- the facts from `facts` on have the same value in both cases
 module _ (facts : ℕ) (v w : List Kleene) (same : (g : ℕ) → facts ≤ g → get_or w g No ≡ get_or v g No) where
@@ -96,16 +114,10 @@ module _ (facts : ℕ) (v w : List Kleene) (same : (g : ℕ) → facts ≤ g →
         | no h ↦ let i : b % 64 ≡ b - 64 = omega arith in rw (literal-denial b (omega arith)) (ap denied (same (b - 64) (rw i at p)))
       ]
 
-pub copies-facts :
-    (facts : ℕ) (words from low high : List ℕ) → facts ≤ max_facts → length words ≡ 256 → length from ≡ 256 → low ≡ take (2 * facts) from →
-    high ≡ take (2 * facts) (drop 128 from) → CopiesFacts facts words from (put_mid 128 (2 * facts) (put_mid 0 (2 * facts) words low) high)
-copies-facts facts words from low high few size room l h =
-    let count = 2 * facts in
-    let m : count ≤ 128 = omega arith in
-    let copied-is = copied-word words from low high count m size room l h in
-    let kept-is = kept-word words from low high count m size room l h in
+pub copies-facts : (facts i : ℕ) (words from now : List ℕ) → facts ≤ max_facts → i ≡ facts → Copied i words from now → CopiesFacts facts words from now
+copies-facts facts i words from now few e C =
     record {
-      size = copied-size words from low high count m size room l h;
+      size = C.size;
       is =
           λ case case' old new same.
           record {
@@ -116,11 +128,11 @@ copies-facts facts words from low high few size room l h =
                       λ j i.
                       elim (dec_lt (b % 64) facts) [
                         | yes y ↦
-                            rw (copied-is (2 * b) (omega arith) (omega arith), copied-is (2 * b + 1) (omega arith) (omega arith)) ((new.literal b k).lane j i)
+                            rw (C.new (2 * b) (omega arith) (omega arith), C.new (2 * b + 1) (omega arith) (omega arith)) ((new.literal b k).lane j i)
                         | no n ↦
                             rw (
-                              kept-is (2 * b) (omega arith) (omega arith),
-                              kept-is (2 * b + 1) (omega arith) (omega arith),
+                              C.old (2 * b) (omega arith) (omega arith),
+                              C.old (2 * b + 1) (omega arith) (omega arith),
                               past-same facts (case j) (case' j) (same j) b k (omega arith),
                             ) ((old.literal b k).lane j i)
                       ];

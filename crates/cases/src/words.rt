@@ -62,15 +62,21 @@ pub fn set_literal(words: &mut [u64; TABLE], b: usize, value: Value)
     words[2 * denial + 1] = ONES ^ value.some;
 }
 
-// The first so many facts, and their denials with them, get the values that they have in another table.
+// The first so many facts, and their denials with them, get the values that they have in another table. Each word is stored by itself: a slice's copy
+// may call memmove, which the archive would then need from outside.
 #[inline(always)]
 pub fn copy_facts(words: &mut [u64; TABLE], from: &[u64; TABLE], facts: usize)
     requires { facts ≤ max_facts }
     ensures { CopiesFacts facts words.old from.now words.new }
 {
-    let count = 2 * facts;
-    words[..count].copy_from_slice(&from[..count]);
-    words[LITERALS..LITERALS + count].copy_from_slice(&from[LITERALS..LITERALS + count]);
+    for fact in 0..facts {
+        let affirmed = 2 * fact;
+        words[affirmed] = from[affirmed];
+        words[affirmed + 1] = from[affirmed + 1];
+        let denied = LITERALS + 2 * fact;
+        words[denied] = from[denied];
+        words[denied + 1] = from[denied + 1];
+    }
 }
 
 // Every fact no in every lane, and so every denial yes: what the case reads that has no fact.

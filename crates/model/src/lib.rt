@@ -15,6 +15,7 @@ pub use marks::{Group, Kind, UnknownMark};
 pub use short_plan::ShortPlan;
 
 // A problem block's limits.
+#[derive(Clone, Copy)]
 pub struct Problem;
 
 impl Problem {
@@ -45,6 +46,7 @@ impl Problem {
 }
 
 // A plan block's limits: its steps stand from byte 5 on, one byte each.
+#[derive(Clone, Copy)]
 pub struct Plan;
 
 impl Plan {
@@ -54,6 +56,7 @@ impl Plan {
 }
 
 // A list block's limits: its lines stand from byte 5 on.
+#[derive(Clone, Copy)]
 pub struct CaseList;
 
 impl CaseList {
@@ -71,6 +74,8 @@ impl CaseList {
     pub const WIDTH_V1: u8 = 48;
 
     pub const WIDTH_V2: u8 = 64;
+    // The numbers that all lines of version 1 cover together. Those of version 2 are one more than a word holds.
+    pub const NUMBERS_V1: u64 = 1u64 << CaseList::WIDTH_V1;
 }
 
 // The numbers that one version of the formats has and another may not. The definitions take them as a parameter.

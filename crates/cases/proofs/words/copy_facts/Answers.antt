@@ -1,8 +1,12 @@
-use Rattle.std.proofs.Common.{◌≡◌, ◌+◌, ◌-◌, ◌*◌, arith}
-use Rattle.cases.proofs.Copying.{copies-facts}
+use Rattle.std.proofs.Common.{arith}
+use Rattle.cases.proofs.Copying.{copied-none, copied-next, copies-facts}
 use Rattle.cases.proofs.words.copy_facts.Goals as goal
 
+pub loop-fact-init : goal.loop-fact-init
+loop-fact-init c = copied-none _ _ c.told-words
+
+pub loop-fact-preserved : goal.loop-fact-preserved
+loop-fact-preserved c = copied-next c.loop-fact.fact _ _ _ (omega (arith, c.requires)) c.loop-fact.invariant
+
 pub returns : goal.returns
-returns c =
-    let e : 128 + 2 * c.args.facts - 128 ≡ 2 * c.args.facts = omega arith in
-    rw e (copies-facts _ _ _ _ _ c.requires c.told-words c.told-from c.copy_from_slice.ensures.after (rw e at c.copy_from_slice-2.ensures.after))
+returns c = copies-facts _ _ _ _ _ c.requires (omega arith) c.loop-fact.invariant
