@@ -2,8 +2,9 @@
  * Larkhammock: a checker for conformant plans.
  *
  * Link with liblarkhammock.a, which is for x86-64 Linux; no further flags are
- * needed. No function keeps a pointer, allocates memory or fails other than by
- * its answer. Every call ends, for any bytes of any length.
+ * needed, and of the C library memcpy and memset alone. No function keeps a
+ * pointer, allocates memory or fails other than by its answer. Every call ends,
+ * for any bytes of any length.
  *
  * Of stack, on this build, a call takes at most 8 KiB to read a problem or a
  * plan, 16 KiB to run a state, 24 KiB to follow a list, 32 KiB to judge a plan

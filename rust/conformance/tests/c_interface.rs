@@ -1,5 +1,6 @@
 //! The header and the archive as a C program meets them.
 
+use std::collections::BTreeSet;
 use std::ffi::OsStr;
 use std::fs;
 use std::path::{Path, PathBuf};
@@ -77,6 +78,24 @@ fn no_call_touches_a_byte_outside_its_slices(version: &Version) {
     };
     let said = format!("{answers} answers as they should be\n");
     prints("slices", version, &said);
+}
+
+/// What a caller without a C library has to provide.
+#[test]
+fn the_archive_needs_memcpy_and_memset_alone() {
+    let listed = Command::new("nm")
+        .args(["--undefined-only", "--format=just-symbols"])
+        .arg(larkhammock::raw::ARCHIVE)
+        .output()
+        .expect("nm can be started");
+    assert!(listed.status.success());
+    let listed = String::from_utf8(listed.stdout).expect("names are text");
+    // The name of each object file ends with a colon.
+    let needed: BTreeSet<&str> = listed
+        .lines()
+        .filter(|line| !line.is_empty() && !line.ends_with(':'))
+        .collect();
+    assert_eq!(needed, BTreeSet::from(["memcpy", "memset"]));
 }
 
 /// The header's own functions, which are for C++ too.
