@@ -1,4 +1,4 @@
-use Rattle.std.proofs.Common.{◌<◌, arith}
+use Rattle.std.proofs.Common.{◌<◌, ◌∙◌, arith}
 use Rattle.backward.proofs.Reading.{lanes-one, lanes-other, reading-begins, reading-next, reading-ends}
 use Rattle.cases.proofs.Lanes.{fact-literal, known-put}
 use Rattle.backward.proofs.stretches.row_cases.Goals as goal
