@@ -10,7 +10,7 @@ ghost use Rattle.backward.specs.Rows.{Shows, Makes, Takes, TakesSteps, PutsRun, 
 use crate::changes::Changes;
 use crate::matters::Mark;
 use blocks::Task;
-use cases::{Cases, evaluate};
+use cases::{Cases, Value, evaluate};
 use fields::Action;
 use formula::Literal;
 use model::Problem;
@@ -36,7 +36,7 @@ fn make(changes: Changes, cases: &mut Cases, row: &mut [u8])
     for fact in changes.set | changes.cleared {
         let yes = changes.set.has(fact);
         let lanes = if yes { u64::MAX } else { 0 };
-        cases.fix(fact, lanes);
+        cases.put_declared(Literal::of(fact), Value::known(lanes));
         row[fact as usize] = yes as u8;
     }
 }

@@ -13,7 +13,8 @@ use crate::named::named_facts;
 use crate::rows::{put_row, take_steps};
 use crate::trace::trace_back;
 use blocks::Task;
-use cases::Cases;
+use cases::{Cases, Value};
+use formula::Literal;
 
 // The task of the steps that are numbered from `from` up to `to`.
 fn part<'a>(task: &Task<'a>, from: usize, to: usize) -> Task<'a>
@@ -35,7 +36,7 @@ fn row_cases(facts: u8, row: &[u8]) -> Cases
     let mut cases = Cases::empty_state(facts);
     for f in 0..facts {
         let lanes = if row[f as usize] == 1 { u64::MAX } else { 0 };
-        cases.fix(f, lanes);
+        cases.put_declared(Literal::of(f), Value::known(lanes));
     }
     cases
 }

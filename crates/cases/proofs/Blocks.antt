@@ -121,22 +121,21 @@ module _ (root : List Kleene) (k d e i : ℕ) (few : d ≤ 5) (inner : e < d) (l
 -- ---- from a case to its block
 
 module _ (root : List Kleene) (k : ℕ) where
-  block-inside : (d j g : ℕ) → k + d ≤ length root → k ≤ g → g < k + d → get_or (block_case root k d j) g No ≡ level_value (g - k) j
+  block-inside : (d j g : ℕ) → g < length root → k ≤ g → g < k + d → get_or (block_case root k d j) g No ≡ level_value (g - k) j
   unfolding block_case
-  block-inside zero j g h a b = absurd (omega arith)
-  block-inside (suc d) j g h a b =
+  block-inside zero j g l a b = absurd (omega arith)
+  block-inside (suc d) j g l a b =
       elim (ℕ_discrete g (k + d)) [
         | yes e ↦
             let z : g - k ≡ d = omega arith in
             rw (z, e) (get_or-set_same (block_case root k d j) (k + d) (level_value d j) No (omega (arith, length-block root k d j)))
         | no n ↦
             get_or-set_other (block_case root k d j) (k + d) g (level_value d j) No n ∙
-            block-inside d j g (omega arith) a (omega arith)
+            block-inside d j g l a (omega arith)
       ]
 
-  pub block-levels :
-      (d j : ℕ) → k + d ≤ length root → with_facts k (k + d) (λ f. level_value (f - k) j) root ≡ block_case root k d j
-  block-levels d j h =
+  pub block-levels : (d j : ℕ) → with_facts k (k + d) (λ f. level_value (f - k) j) root ≡ block_case root k d j
+  block-levels d j =
       with_facts-is k (k + d) (λ f. level_value (f - k) j) root (block_case root k d j) (length-block root k d j)
-      (λ g l a b. block-inside d j g h a b)
+      (λ g l a b. block-inside d j g l a b)
       (λ g l out. block-outside root k d j g out)

@@ -81,6 +81,14 @@ with_facts-more from f to t v x a l e i =
     get_or-set_other old f g x No (λ z. out (omega arith) (omega arith)) ∙
     with_facts-outside from f t v g (λ b c. out b (omega arith))))
 
+-- past the end there is no fact to change
+pub with_facts-cut :
+    (from end to : ℕ) (t : ℕ → Kleene) (v : List Kleene) → end ≤ to → (end < to → length v ≤ end) → with_facts from end t v ≡ with_facts from to t v
+with_facts-cut from end to t v few all =
+    with_facts-is from end t v (with_facts from to t v) (length-with_facts from to t v)
+    (λ g l a b. with_facts-inside from to t v g l a (omega arith))
+    (λ g l out. with_facts-outside from to t v g (λ a b. out a (elim (dec_lt end to) [ yes m ↦ omega (arith, all m) | no n ↦ omega arith ])))
+
 with_facts-ends :
     (from f to : ℕ) (t : ℕ → Kleene) (v : List Kleene) → f ≤ max from to → to ≤ f → with_facts from f t v ≡ with_facts from to t v
 with_facts-ends from f to t v hi lo =
@@ -131,7 +139,7 @@ word-bit word f = let e : 64 - suc f ≡ 64 - 1 - f = omega arith in rw e refl
 
 -- ---- from one case to another
 
-module _ (n k v k' v' m : ℕ) (few : k ≤ n) (few' : k' ≤ n) (first : m ≤ k) (alike : (f : ℕ) → f < m → bit 64 v f ≡ bit 64 v' f) where
+module _ (n k v k' v' m : ℕ) (first : m ≤ k) (alike : (f : ℕ) → f < m → bit 64 v f ≡ bit 64 v' f) where
   abbrev old : List Kleene
   old = case_of 64 n k v
 
@@ -141,14 +149,14 @@ module _ (n k v k' v' m : ℕ) (few : k ≤ n) (few' : k' ≤ n) (first : m ≤ 
   abbrev between : List Kleene
   between = with_facts m k' (bits_of v') old
 
-  between-new : (g : ℕ) → g < k' → get_or between g No ≡ get_or new g No
-  between-new g l =
+  between-new : (g : ℕ) → g < n → g < k' → get_or between g No ≡ get_or new g No
+  between-new g b l =
       elim (dec_le m g) [
         | yes a ↦
-            with_facts-inside m k' (bits_of v') old g (omega (arith, length-case 64 n k v)) a l ∙ sym (case-known 64 n k' v' g l (omega arith))
+            with_facts-inside m k' (bits_of v') old g (omega (arith, length-case 64 n k v)) a l ∙ sym (case-known 64 n k' v' g l b)
         | no a ↦
-            with_facts-outside m k' (bits_of v') old g (λ x y. a x) ∙ case-known 64 n k v g (omega arith) (omega arith) ∙
-            ap known (alike g (omega arith)) ∙ sym (case-known 64 n k' v' g l (omega arith))
+            with_facts-outside m k' (bits_of v') old g (λ x y. a x) ∙ case-known 64 n k v g (omega arith) b ∙
+            ap known (alike g (omega arith)) ∙ sym (case-known 64 n k' v' g l b)
       ]
 
   between-old : (g : ℕ) → k' ≤ g → get_or between g No ≡ get_or old g No
@@ -161,7 +169,7 @@ module _ (n k v k' v' m : ℕ) (few : k ≤ n) (few' : k' ≤ n) (first : m ≤ 
       (λ g l a b. case-unknown 64 n k' v' g a (omega (arith, size)))
       (λ g l out.
       elim (dec_lt g k') [
-        | yes b ↦ sym (between-new g b)
+        | yes b ↦ sym (between-new g (omega (arith, size)) b)
         | no b ↦
             let c : k ≤ g = elim (dec_lt g k) [ yes x ↦ absurd (out (omega arith) x) | no x ↦ omega arith ] in
             case-unknown 64 n k' v' g (omega arith) (omega (arith, size)) ∙

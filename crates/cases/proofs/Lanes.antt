@@ -1,15 +1,18 @@
 -- The cases of a table are those that its words hold. Assumes nothing.
 use Rattle.std.proofs.Common.{bit_and, bit_or, bit_xor, ◌≡◌, refl, sym, true, ◌∙◌, ℕ, zero, suc, ◌+◌, ◌≤◌, ◌<◌, List, length, get_or, set, eqb, length-set, get_or-set_other, get_or-set_same, arith, ap, ext_get_or, lt-ltb}
+use native.Mathlib.Decide.{dec_lt}
+use Rattle.std.proofs.lemmas.List.{set_past}
 use Rattle.model.specs.Limits.{max_facts}
 use Rattle.model.specs.Kleene.{Kleene, No, Unknown, Yes, both, either, denied, is_yes, known, three}
 use Rattle.model.specs.Formula.{Literal, fact, denial, value_of}
 use Rattle.model.specs.FormulaBytes.{is_literal, literal_of, literal_byte}
+use Rattle.model.specs.Relevance.{fact_of}
 use Rattle.model.specs.WellFormed.{Declared}
 use Rattle.model.proofs.Laws.Agreement.{by_row}
-use Rattle.model.proofs.Laws.FormulaCodec.{literal-got}
+use Rattle.model.proofs.Laws.FormulaCodec.{literal-got, literal-ok}
 use Rattle.model.specs.Action.{tabulate}
 use Rattle.model.specs.Planes.{lane_bit, some_bit, sure_bit, InLane, InLanes, Table, ones}
-use Rattle.model.proofs.Laws.Planes.{bit-small, bit-zero, bit-ones, all-unknown, lane-both, lane-either, lane-denied, literal-fact, table-fact, table_same}
+use Rattle.model.proofs.Laws.Planes.{bit-small, bit-zero, bit-ones, all-unknown, lane-both, lane-either, lane-denied, literal-fact, literal-denial, table-fact, table_same}
 use Rattle.model.proofs.Laws.Tabulate.{length-tabulate, get_d_tabulate, tabulate-below}
 use Rattle.cases.specs.Words.{SetsLiteral}
 use Rattle.cases.specs.Lanes.{value_in, case_in}
@@ -96,13 +99,28 @@ module _ (facts : ℕ) (few : facts ≤ max_facts) (case : ℕ → List Kleene) 
     pub put-cases : (j : ℕ) → j < 64 → case_in facts words' j ≡ put (literal_of b) t case j
     put-cases = case-in facts words' (put (literal_of b) t case) few (put-sized (literal_of b)) put-table
 
+-- a literal of a fact that the cases have, and one of a fact that they do not have
+by-fact : (facts : ℕ) (m : Literal) → fact_of m < facts → Declared facts m
+by-fact facts (fact f) h = h
+by-fact facts (denial f) h = h
+
+byte-again : (b : ℕ) → literal_byte (literal_of b) ≡ b
+byte-again b = elim (dec_lt b 64) [ yes l ↦ rw (literal-fact b l) refl | no n ↦ rw (literal-denial b (omega arith)) (omega arith) ]
+
+pub literal-by-fact : (facts : ℕ) → facts ≤ 64 → (b : ℕ) → fact_of (literal_of b) < facts → is_literal facts b ≡ true
+literal-by-fact facts few b h = rw byte-again at (literal-ok facts few (literal_of b) (by-fact facts (literal_of b) h)).0
+
+pub put-past : (m : Literal) (t : Kleene) (v : List Kleene) → length v ≤ fact_of m → with_literal m t v ≡ v
+put-past (fact f) t v h = set_past v f t h
+put-past (denial f) t v h = set_past v f (denied t) h
+
 -- and of a fact
 pub fact-literal : (facts : ℕ) → facts ≤ 64 → (f : ℕ) → f < facts → is_literal facts f ≡ true
 unfolding is_literal
 fact-literal facts few f l = rw (lt-ltb f facts l)
 
-pub fact-put : (facts : ℕ) → facts ≤ 64 → (f : ℕ) → f < facts → (t : Kleene) (v : List Kleene) → with_literal (literal_of f) t v ≡ set v f t
-fact-put facts few f l t v = ap (λ m. with_literal m t v) (literal-fact f (omega arith))
+pub fact-put : (f : ℕ) → f < 64 → (t : Kleene) (v : List Kleene) → with_literal (literal_of f) t v ≡ set v f t
+fact-put f l t v = ap (λ m. with_literal m t v) (literal-fact f l)
 
 pub fact-value : (f : ℕ) (v : List Kleene) → f < 64 → value_of three v (literal_of f) ≡ get_or v f No
 fact-value f v l = ap (value_of three v) (literal-fact f l)
@@ -112,6 +130,11 @@ pub known-bits : (b : ℕ) → b < 2 → value_in b b ≡ known (eqb b 1)
 known-bits zero h = refl
 known-bits (suc zero) h = refl
 known-bits (suc (suc b)) h = absurd (omega arith)
+
+pub known-put :
+    (f word j : ℕ) → f < 64 → (t : Kleene) → t ≡ known (eqb (lane_bit j word) 1) → (v : List Kleene) →
+    with_literal (literal_of f) t v ≡ set v f (value_in (lane_bit j word) (lane_bit j word))
+known-put f word j l t e v = fact-put f l t v ∙ ap (set v f) (e ∙ sym (known-bits _ (bit-small j word)))
 
 -- ---- the words of a value
 

@@ -80,9 +80,20 @@ impl Cases {
         }
     }
 
-    // In each lane the literal becomes the lane's value.
+    // In each lane the literal becomes the lane's value. That of a fact which the cases do not have stays no, and its denial yes.
     #[inline(always)]
     pub fn put(&mut self, literal: Literal, value: Value)
+        ensures facts { self.new.facts ≡ self.old.facts }
+        ensures cases { (j : ℕ) → j < 64 → case_of self.new j ≡ with_literal (literal_of literal) (value_at value j) (case_of self.old j) }
+    {
+        if literal.fact() < self.facts {
+            self.put_declared(literal, value);
+        }
+    }
+
+    // The same of a literal that is known to be of their facts: on the hot path nothing is tested.
+    #[inline(always)]
+    pub fn put_declared(&mut self, literal: Literal, value: Value)
         requires { IsTrue (is_literal self.old.facts literal.byte) }
         ensures facts { self.new.facts ≡ self.old.facts }
         ensures cases { (j : ℕ) → j < 64 → case_of self.new j ≡ with_literal (literal_of literal) (value_at value j) (case_of self.old j) }
@@ -90,10 +101,10 @@ impl Cases {
         words::set_literal(&mut self.words, literal.byte() as usize, value);
     }
 
-    // In each lane fact f becomes what its bit of `yes` says.
+    // In each lane fact f becomes what its bit of `yes` says, if the cases have it.
     #[inline(always)]
     pub fn fix(&mut self, f: u8, yes: u64)
-        requires { f < self.old.facts }
+        requires { f < max_facts }
         ensures facts { self.new.facts ≡ self.old.facts }
         ensures cases { (j : ℕ) → j < 64 → case_of self.new j ≡ set (case_of self.old j) f (value_in (lane_bit j yes) (lane_bit j yes)) }
     {
@@ -110,25 +121,24 @@ impl Cases {
         words::copy_facts(&mut self.words, &other.words, self.facts as usize);
     }
 
-    // Each fact from .. to - 1 becomes what `change` makes of its number and of the value that it has.
+    // Each fact from .. to - 1 that the cases have becomes what `change` makes of its number and of the value that it has.
     #[inline(always)]
     fn change_facts<F: Fn(usize, Value) -> Value>(&mut self, from: usize, to: usize, change: F)
-        requires inside { to ≤ self.old.facts }
-        requires callable { (f : ℕ) (v : Value) → from ≤ f → f < to → F.pre change f v }
+        requires { (f : ℕ) (v : Value) → from ≤ f → f < to → F.pre change f v }
         ensures facts { self.new.facts ≡ self.old.facts }
         ensures cases { (t : ℕ → ℕ → Kleene) → Makes (F.post change) from to (case_of self.old) t
             → (j : ℕ) → j < 64 → case_of self.new j ≡ with_facts from to (t j) (case_of self.old j) }
     {
-        for f in from..to {
+        for f in from..to.min(self.facts as usize) {
             let fact = Literal::of(f as u8);
             let value = change(f, self.value(fact));
-            self.put(fact, value);
+            self.put_declared(fact, value);
         }
     }
 
     // The facts from .. to - 1 become, in every lane, the bits of `word`.
     pub fn fix_bits(&mut self, from: usize, to: usize, word: u64)
-        requires { to ≤ self.old.facts }
+        requires { to ≤ max_facts }
         ensures facts { self.new.facts ≡ self.old.facts }
         ensures cases { (j : ℕ) → j < 64 → case_of self.new j ≡ with_facts from to (bits_of word) (case_of self.old j) }
     {
@@ -137,7 +147,7 @@ impl Cases {
 
     // The facts from .. to - 1 become unknown in every lane.
     pub fn free_facts(&mut self, from: usize, to: usize)
-        requires { to ≤ self.old.facts }
+        requires { to ≤ max_facts }
         ensures facts { self.new.facts ≡ self.old.facts }
         ensures cases { (j : ℕ) → j < 64 → case_of self.new j ≡ with_facts from to unfixed (case_of self.old j) }
     {
@@ -147,8 +157,8 @@ impl Cases {
     // The case `from` of every lane gives way to `to`, which fixes so many first facts alike: only those after them are touched.
     #[inline(always)]
     pub fn set_case(&mut self, common: usize, from: Case, to: Case)
-        requires from { from.fixed ≤ self.old.facts }
-        requires to { to.fixed ≤ self.old.facts }
+        requires from { from.fixed ≤ max_facts }
+        requires to { to.fixed ≤ max_facts }
         requires common { Common from to common }
         ensures facts { self.new.facts ≡ self.old.facts }
         ensures cases { (j : ℕ) → j < 64 → case_of self.old j ≡ values_of self.old.facts from
@@ -161,7 +171,7 @@ impl Cases {
     // From a case to its block: the facts k .. k + levels - 1 get the values that they have in each lane of a block.
     pub fn fix_levels(&mut self, k: usize, levels: usize)
         requires few { levels ≤ max_levels }
-        requires inside { k + levels ≤ self.old.facts }
+        requires inside { k + levels ≤ max_facts }
         ensures facts { self.new.facts ≡ self.old.facts }
         ensures cases { (j : ℕ) → j < 64 → case_of self.new j ≡ block_case (case_of self.old j) k levels j }
     {

@@ -13,4 +13,4 @@ pub use case::Case;
 pub use cases::Cases;
 pub use evaluator::{evaluate, evaluate_first};
 pub use value::Value;
-pub use words::{ONES, lane_bit, word_of};
+pub use words::{ONES, lane_bit, set_literal, spread, word_of};

@@ -9,7 +9,7 @@ use Rattle.model.specs.{Action.Effect, Action.Action, Action.condition_of, Actio
 use Rattle.model.specs.Planes.{lane_bit, sure_bit}
 use Rattle.fields.specs.ActionBytes.{Rising}
 use Rattle.model.proofs.Laws.Agreement.{by_row}
-use Rattle.model.proofs.Laws.Conflicts.{every-at, every-last, every-same, every-all, lowest-is}
+use Rattle.model.proofs.Laws.Conflicts.{every-at, every-last, every-same, every-all, lowest-is, lowest-false}
 use Rattle.model.proofs.Laws.Planes.{low_bit, bit-small, bit-and, bit-zero}
 use Rattle.model.proofs.Laws.FormulaCodec.{literal-ok}
 use Rattle.cases.specs.{declared.value.Value.Value, Cases.value_at}
@@ -70,6 +70,19 @@ module _ (a : Action) (v : List Kleene) (f : ℕ) where
       let k = literal-by facts (f + 64) (entry_at es e).literal h (declared-at facts 0 es e ok y).0 d in
       let z : f + 64 - 64 ≡ f = omega arith in
       rw (← condition-at facts 0 es i (any none) ok x, ← condition-at facts 0 es e (any none) ok y, j, k, lt-ltb f 64 m, le-ltb (f + 64) 64 (omega arith), z)
+
+-- ---- facts that no entry names are in no conflict
+
+module _ (m n : ℕ) (l : m ≤ n) (a : Action) (ok : Rising m 0 a.effects) (v : List Kleene) where
+  pub every-wider : every n (exclusive three a v) ≡ every m (exclusive three a v)
+  every-wider =
+      every-same m n (exclusive three a v) l λ f u w.
+      not-cleared a v f λ k d y. omega (arith, byte-declared m (entry_at a.effects k).literal (declared-at m 0 a.effects k ok d).0)
+
+  pub lowest-wider : every m (exclusive three a v) ≡ false → lowest_false m (exclusive three a v) ≡ lowest_false n (exclusive three a v)
+  lowest-wider e =
+      let L = lowest-false m (exclusive three a v) e in
+      sym (lowest-is n (exclusive three a v) (lowest_false m (exclusive three a v)) (record { below = omega (arith, L.below); here = L.here; before = L.before })).1
 
 -- ---- all entries
 

@@ -2,7 +2,7 @@
 use Rattle.std.proofs.Common.{◌≡◌, refl, sym, ap, true, false, List, [], ◌∷◌, ℕ, zero, suc, ◌+◌, ◌≤◌, ◌<◌, suc-le-suc, arith, length}
 use native.Mathlib.Decide.{ℕ_discrete}
 use Rattle.std.proofs.lemmas.Bool.Decides.{nat_tests}
-use Rattle.model.specs.{Formula.Literal, Formula.Formula, Action.Effect, Action.same_literal, Action.condition_in, FormulaBytes.literal_byte, WellFormed.Declared}
+use Rattle.model.specs.{Formula.Literal, Formula.Formula, Action.Effect, Action.same_literal, Action.condition_in, FormulaBytes.is_literal, FormulaBytes.literal_byte, WellFormed.Declared}
 use Rattle.fields.specs.ActionBytes.{Rising}
 use Rattle.step.specs.Conditions.{entry_at}
 
@@ -25,6 +25,18 @@ rises facts least (e ∷ es) (suc i) (suc k) ok l h = rises facts (literal_byte 
 pub rises-from : (facts : ℕ) (es : List Effect) (i k : ℕ) → Rising facts 0 es → i ≤ k → k < length es → byte_at es i ≤ byte_at es k
 rises-from facts es i k ok l h =
     elim (ℕ_discrete i k) [ yes e ↦ omega (arith, ap (byte_at es) e) | no n ↦ omega (arith, rises facts 0 es i k ok (omega arith) h) ]
+
+-- what is declared of some facts is declared of more
+declared-wider : (m n : ℕ) (l : Literal) → m ≤ n → Declared m l → Declared n l
+declared-wider m n l h d = grind arith
+
+pub rising-wider : (m n least : ℕ) (es : List Effect) → m ≤ n → Rising m least es → Rising n least es
+rising-wider m n least [] h ok = tt
+rising-wider m n least (e ∷ es) h ok = (declared-wider m n e.literal h ok.0, ok.1, rising-wider m n (literal_byte e.literal + 1) es h ok.2)
+
+pub literal-wider : (m n b : ℕ) → m ≤ n → is_literal m b ≡ true → is_literal n b ≡ true
+unfolding is_literal
+literal-wider m n b h i = grind (arith, nat_tests)
 
 -- literals that are declared and rise, entry by entry
 pub rising-by :

@@ -16,20 +16,20 @@ clear-byte l e = grind arith
 set-byte : (facts : ℕ) (l : Literal) → facts ≤ max_facts → false ≡ is_denial l → Declared facts l → literal_byte l < 64
 set-byte facts l h e d = grind arith
 
-module _ (cs : Cases) (a : Action) (alive : ℕ) where
-  -- all entries but the rest are held and passed, and some lanes are left
+module _ (facts : ℕ) (cs : Cases) (a : Action) (alive : ℕ) where
+  -- all entries but the rest are held and passed, and some lanes are left, if there were any
   pub record Searching (c : Conditions) (rest : List Effect) (i lanes : ℕ) : Type 0 where
-    pub held : Finding cs.facts a.effects (case_of cs) c rest
-    pub passed : Passed cs.facts a (case_of cs) alive i c.count lanes
-    pub some : lanes ≡ 0 → ⊥
+    pub held : Finding facts a.effects (case_of cs) c rest
+    pub passed : Passed facts a (case_of cs) alive i c.count lanes
+    pub some : 0 < alive → lanes ≡ 0 → ⊥
 
-  pub searching-ends : (c : Conditions) (rest : List Effect) (i lanes : ℕ) → Searching c rest i lanes → rest ≡ [] → LeftOut cs a alive c lanes
+  pub searching-ends : (c : Conditions) (rest : List Effect) (i lanes : ℕ) → Searching c rest i lanes → rest ≡ [] → LeftOut facts cs a alive c lanes
   searching-ends c rest i lanes S e =
       let H = finding-ends _ _ _ _ _ S.held e in
       record { hold = H; among = S.passed.among; some = S.some; bits = passed-all _ _ _ _ _ _ _ S.passed (omega (arith, H.count)) }
 
   -- the next one, whose condition has the value v
-  module _ (c : Conditions) (rest : List Effect) (F : Finding cs.facts a.effects (case_of cs) c rest) (r : View) (rest' : List Effect) (x : rest ≡ effect r ∷ rest')
+  module _ (few : facts ≤ max_facts) (c : Conditions) (rest : List Effect) (F : Finding facts a.effects (case_of cs) c rest) (r : View) (rest' : List Effect) (x : rest ≡ effect r ∷ rest')
       (v : Value) (y : (j : ℕ) → j < 64 → value_at v j ≡ eval three (case_of cs j) (effect r).condition) where
     more : c.count < length a.effects
     more = next-below _ _ _ _ _ F r rest' x
@@ -39,16 +39,16 @@ module _ (cs : Cases) (a : Action) (alive : ℕ) where
 
     -- it is passed too, and then pushed
     abbrev Left : ℕ → ℕ → Type 0
-    Left i lanes = Passed cs.facts a (case_of cs) alive i (c.count + 1) lanes × (lanes ≡ 0 → ⊥)
+    Left i lanes = Passed facts a (case_of cs) alive i (c.count + 1) lanes × (0 < alive → lanes ≡ 0 → ⊥)
 
     pub turn-ends : (d : Conditions) → Pushed c r.literal.byte v d → (i lanes : ℕ) → Left i lanes → Searching d rest' i lanes
     turn-ends d D i lanes (P, some) = record { held = finding-next _ _ _ _ _ F r rest' x v y d D; passed = rw D.count P; some = some }
 
-    module _ (i lanes : ℕ) (P : Passed cs.facts a (case_of cs) alive i c.count lanes) (some : lanes ≡ 0 → ⊥) where
+    module _ (i lanes : ℕ) (P : Passed facts a (case_of cs) alive i c.count lanes) (some : 0 < alive → lanes ≡ 0 → ⊥) where
       -- it sets a fact
       pub turn-sets : false ≡ is_denial (literal r.literal) → Left i lanes
       turn-sets h =
-          let l = set-byte cs.facts (literal r.literal) cs.few h (rw is (declared-at cs.facts 0 a.effects c.count F.ok more).0) in
+          let l = set-byte facts (literal r.literal) few h (rw is (declared-at facts 0 a.effects c.count F.ok more).0) in
           (passed-other _ _ _ _ _ _ _ P F.ok more (λ m e. omega (arith, l, ap literal_byte is)) (λ m e. omega (arith, l, ap literal_byte is)), some)
 
       -- it clears fact f
@@ -59,7 +59,7 @@ module _ (cs : Cases) (a : Action) (alive : ℕ) where
         sets : i < c.count → get_or c.literals i 0 ≡ byte_at a.effects i
         sets l = held-byte c a.effects i l (F.each i l).0
 
-        pub turn-set : i < c.count → get_or c.literals i 0 < f → Passed cs.facts a (case_of cs) alive (i + 1) c.count lanes
+        pub turn-set : i < c.count → get_or c.literals i 0 < f → Passed facts a (case_of cs) alive (i + 1) c.count lanes
         turn-set l s = passed-set _ _ _ _ _ _ _ P F.ok more (omega (arith, clears, sets l))
 
         -- no entry sets it
@@ -81,11 +81,11 @@ module _ (cs : Cases) (a : Action) (alive : ℕ) where
               u-is j m ∙ rw (t-is j m, w-is j m, (F.each i l).1 j m, y j m, n) refl
 
           pub turn-pair : (bit_and lanes u.sure ≡ 0 → ⊥) → Left i (bit_and lanes u.sure)
-          turn-pair left = (passed-pair _ _ _ _ _ _ _ P F.ok more cs.few both-at u u-says _ refl, left)
+          turn-pair left = (passed-pair _ _ _ _ _ _ _ P F.ok more few both-at u u-says _ refl, λ any. left)
 
-          pub turn-stops : bit_and lanes u.sure ≡ 0 → AllLeftOut cs a alive f
+          pub turn-stops : bit_and lanes u.sure ≡ 0 → AllLeftOut facts cs a alive f
           turn-stops gone =
               record {
-                bits = none-left _ _ _ _ _ _ _ P F.ok more cs.few both-at u u-says _ refl gone;
-                lowest = λ one. sym same ∙ sets l ∙ lowest _ _ _ _ _ _ _ P F.ok more cs.few both-at u u-says _ refl gone some one;
+                bits = none-left _ _ _ _ _ _ _ P F.ok more few both-at u u-says _ refl gone;
+                lowest = λ one. sym same ∙ sets l ∙ lowest _ _ _ _ _ _ _ P F.ok more few both-at u u-says _ refl gone (some (omega arith)) one;
               }

@@ -6,8 +6,9 @@ use Rattle.model.specs.{Case.flag, Planes.lane_bit}
 use Rattle.model.proofs.Laws.Planes.{low_bit, bit-and, bit-zero, bit-small}
 use Rattle.cases.specs.{declared.value.Value.Value, declared.cases.Cases.Cases, Cases.case_of, Cases.value_at}
 use Rattle.step.specs.{declared.conditions.Conditions.Conditions, declared.action.Hindrance.Hindrance, declared.action.Hindrance.TheVariants.Precondition, declared.action.Hindrance.TheVariants.Conflict}
-use Rattle.step.specs.{Conditions.Hold, Conditions.no_conflict, Conditions.LeftOut, Conditions.AllLeftOut, Conditions.LeavesNone, Actions.applicable_bit, Actions.GoesOn, Actions.IsHindered}
-use Rattle.step.proofs.Conflicts.{sure-yes, flag-and, flag_true, flag-false}
+use Rattle.step.specs.{Conditions.Hold, Conditions.no_conflict, Conditions.LeftOut, Conditions.AllLeftOut, Conditions.LeavesNone, Actions.applicable_bit, Actions.Hinders, Actions.GoesOn, Actions.IsHindered}
+use Rattle.fields.specs.ActionBytes.{Rising}
+use Rattle.step.proofs.Conflicts.{sure-yes, flag-and, flag_true, flag-false, every-wider, lowest-wider}
 
 -- lane 0 alone
 pub lane-0 : (alive x : ℕ) → alive ≡ 1 → lane_bit 0 (bit_and alive x) ≡ lane_bit 0 x
@@ -23,48 +24,63 @@ module _ (c : Cases) (a : Action) (alive : ℕ) (v : Value) (x : (j : ℕ) → j
   met-bit : (j : ℕ) → j < 64 → lane_bit j met ≡ min (lane_bit j alive) (flag (holds_in three (case_of c j) a.precondition))
   met-bit j l = bit-and j alive v.sure ∙ ap (min (lane_bit j alive)) (holds-bit j l)
 
-  applicable-bit : (j : ℕ) → j < 64 → applicable_bit c a alive j ≡ min (lane_bit j met) (no_conflict c a j)
+  applicable-bit : (j : ℕ) → j < 64 → applicable_bit c a alive j ≡ min (lane_bit j met) (no_conflict c.facts c a j)
   unfolding applicable
   applicable-bit j l =
       rw (flag-and (holds_in three (case_of c j) a.precondition) (every c.facts (exclusive three a (case_of c j))), met-bit j l) (omega arith)
 
   -- no lane meets the precondition
+  pub unmet-hinders : (facts : ℕ) → met ≡ 0 → alive ≡ 1 → Hinders facts a (case_of c 0) Precondition
+  unmet-hinders facts e one =
+      flag-false _ (sym (holds-bit 0 (omega arith)) ∙ sym (lane-0 alive v.sure one) ∙ ap (lane_bit 0) e ∙ bit-zero 0)
+
   pub obeys-none : met ≡ 0 → IsHindered c a alive c Precondition
-  obeys-none e =
-      record {
-        kept = refl;
-        none = λ j l. applicable-bit j l ∙ rw (e, bit-zero j) (omega arith);
-        hinders =
-            λ one.
-            flag-false _ (sym (holds-bit 0 (omega arith)) ∙ sym (lane-0 alive v.sure one) ∙ ap (lane_bit 0) e ∙ bit-zero 0);
-      }
+  obeys-none e = record { kept = refl; none = λ j l. applicable-bit j l ∙ rw (e, bit-zero j) (omega arith); hinders = unmet-hinders c.facts e }
 
-  -- some do, and all of them are in conflict
-  obeys-conflict : 0 < met → (f : ℕ) → AllLeftOut c a met f → IsHindered c a alive c (Conflict f)
-  obeys-conflict some f W =
-      record {
-        kept = refl;
-        none = λ j l. applicable-bit j l ∙ W.bits j l;
-        hinders =
-            λ one.
-            let most : met ≤ alive = and_le_l alive v.sure in
-            let only : met ≡ 1 = omega arith in
-            let bit : lane_bit 0 v.sure ≡ 1 = sym (lane-0 alive v.sure one) ∙ ap (lane_bit 0) only ∙ low_bit 1 in
-            (flag_true _ (λ z. omega (arith, bit, z, holds-bit 0 (omega arith))), W.lowest only);
-      }
+  -- some do; the action is over so many facts
+  module _ (some : 0 < met) (facts : ℕ) where
+    met-alone : alive ≡ 1 → met ≡ 1
+    met-alone one = omega (arith, and_le_l alive v.sure)
 
-  pub obeys-left : 0 < met → (h : Hindrance) → LeavesNone c a met h → IsHindered c a alive c h
-  obeys-left some Precondition W = absurd W
-  obeys-left some (Conflict f) W = obeys-conflict some f W
+    met-first : alive ≡ 1 → lane_bit 0 met ≡ 1
+    met-first one = ap (lane_bit 0) (met-alone one) ∙ low_bit 1
 
-  -- some go on
-  pub obeys-some :
-      (lanes : ℕ) (k : Conditions) (d : Cases) → LeftOut c a met k lanes →
-      ((b : Action) → Hold k b.effects (case_of c) → (j : ℕ) → j < 64 → case_of d j ≡ step three c.facts b (case_of c j)) → GoesOn c a alive d lanes
-  obeys-some lanes k d W S =
-      record {
-        among = omega (arith, W.among, and_le_l alive v.sure);
-        some = W.some;
-        bits = λ j l. W.bits j l ∙ sym (applicable-bit j l);
-        cases = S a W.hold;
-      }
+    -- all of them are in conflict
+    pub left-hinders : (h : Hindrance) → LeavesNone facts c a met h → alive ≡ 1 → Hinders facts a (case_of c 0) h
+    left-hinders Precondition W one = absurd W
+    left-hinders (Conflict f) W one =
+        let bit : lane_bit 0 v.sure ≡ 1 = sym (lane-0 alive v.sure one) ∙ met-first one in
+        (flag_true _ (λ z. omega (arith, bit, z, holds-bit 0 (omega arith))), W.lowest (met-alone one))
+
+    -- and the cases have these facts
+    module _ (few : facts ≤ c.facts) (ok : Rising facts 0 a.effects) where
+      left-bit : (j : ℕ) → j < 64 → applicable_bit c a alive j ≡ min (lane_bit j met) (no_conflict facts c a j)
+      left-bit j l = applicable-bit j l ∙ ap (λ b. min (lane_bit j met) (flag b)) (every-wider facts c.facts few a ok (case_of c j))
+
+      obeys-conflict : (f : ℕ) → AllLeftOut facts c a met f → IsHindered c a alive c (Conflict f)
+      obeys-conflict f W =
+          record {
+            kept = refl;
+            none = λ j l. left-bit j l ∙ W.bits j l;
+            hinders =
+                λ one.
+                let h = left-hinders (Conflict f) W one in
+                let found : no_conflict facts c a 0 ≡ 0 = omega (arith, W.bits 0 (omega arith), met-first one) in
+                (h.0, h.1 ∙ lowest-wider facts c.facts few a ok (case_of c 0) (flag-false _ found));
+          }
+
+      pub obeys-left : (h : Hindrance) → LeavesNone facts c a met h → IsHindered c a alive c h
+      obeys-left Precondition W = absurd W
+      obeys-left (Conflict f) W = obeys-conflict f W
+
+      -- some go on
+      pub obeys-some :
+          (lanes : ℕ) (k : Conditions) (d : Cases) → LeftOut facts c a met k lanes →
+          ((b : Action) → Hold k b.effects (case_of c) → (j : ℕ) → j < 64 → case_of d j ≡ step three c.facts b (case_of c j)) → GoesOn c a alive d lanes
+      obeys-some lanes k d W S =
+          record {
+            among = omega (arith, W.among, and_le_l alive v.sure);
+            some = W.some some;
+            bits = λ j l. W.bits j l ∙ sym (left-bit j l);
+            cases = S a W.hold;
+          }

@@ -5,7 +5,7 @@ use Rattle.model.specs.{Kleene.either, Kleene.three, Formula.value_of, Action.Ef
 use Rattle.cases.specs.{declared.value.Value.Value, declared.cases.Cases.Cases, Cases.case_of, Cases.value_at, Cases.with_literal}
 use Rattle.cases.proofs.Lanes.{length-case_in}
 use Rattle.step.specs.{declared.conditions.Conditions.Conditions, Conditions.entry_at, Conditions.literal_at, Conditions.condition_at, Conditions.Hold}
-use Rattle.step.proofs.{Settling.settled, Settling.settled-is, Settling.settles-literal, Holding.held-rise}
+use Rattle.step.proofs.{Settling.settled, Settling.settled-is, Settling.settles-literal, Entries.rising-wider, Holding.held-rise}
 
 -- ---- the entries from number e on are settled
 
@@ -20,10 +20,11 @@ settling-begins c before = record { facts = refl; few = omega arith; is = λ es 
 
 module _ (c : Conditions) (before now' : Cases) (e : ℕ) (S : Settling c before e now') where
   pub settling-ends :
-      e ≤ 0 → c.facts ≡ before.facts → (a : Action) → Hold c a.effects (case_of before) → (j : ℕ) → j < 64 → case_of now' j ≡ step three before.facts a (case_of before j)
-  settling-ends h same a H j l =
+      e ≤ 0 → c.facts ≤ before.facts → (a : Action) → Hold c a.effects (case_of before) → (j : ℕ) → j < 64 → case_of now' j ≡ step three before.facts a (case_of before j)
+  settling-ends h few a H j l =
       let z : e ≡ 0 = omega arith in
-      (rw z at (S.is a.effects H j l)) ∙ settled-is before.facts a (case_of before j) (rw same at (held-rise c a.effects (case_of before) H)) (length-case_in before.facts _ j)
+      let ok = rising-wider c.facts before.facts 0 a.effects few (held-rise c a.effects (case_of before) H) in
+      (rw z at (S.is a.effects H j l)) ∙ settled-is before.facts a (case_of before j) ok (length-case_in before.facts _ j)
 
   -- the entry before, whose literal becomes v
   pub settling-next :

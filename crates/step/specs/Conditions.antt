@@ -40,26 +40,27 @@ pub record Pushed (c : Conditions) (l : ℕ) (v : Value) (d : Conditions) : Type
   pub literals : (i : ℕ) → i < c.count → get_or d.literals i 0 ≡ get_or c.literals i 0
   pub values : (i : ℕ) → i < c.count → (j : ℕ) → j < 64 → value_at (condition_at d i) j ≡ value_at (condition_at c i) j
 
--- whether no fact of the action is in conflict in lane j, as a bit
-abbrev pub no_conflict : Cases → Action → ℕ → ℕ
-no_conflict cs a j = flag (every cs.facts (exclusive three a (case_of cs j)))
+-- whether none of so many facts is in conflict in lane j, as a bit
+abbrev pub no_conflict : ℕ → Cases → Action → ℕ → ℕ
+no_conflict facts cs a j = flag (every facts (exclusive three a (case_of cs j)))
 
--- the action's entries are there; and some lanes of `alive` are left, those in which no fact is in conflict
-pub record LeftOut (cs : Cases) (a : Action) (alive : ℕ) (c : Conditions) (lanes : ℕ) : Type 0 where
+-- the action's entries are there; and some lanes of `alive` are left, if there are any: those in which no fact is in conflict
+pub record LeftOut (facts : ℕ) (cs : Cases) (a : Action) (alive : ℕ) (c : Conditions) (lanes : ℕ) : Type 0 where
   pub hold : Hold c a.effects (case_of cs)
   pub among : lanes ≤ alive
-  pub some : lanes ≡ 0 → ⊥
-  pub bits : (j : ℕ) → j < 64 → lane_bit j lanes ≡ min (lane_bit j alive) (no_conflict cs a j)
+  pub some : 0 < alive → lanes ≡ 0 → ⊥
+  pub bits : (j : ℕ) → j < 64 → lane_bit j lanes ≡ min (lane_bit j alive) (no_conflict facts cs a j)
 
 -- none is left; and where lane 0 alone is asked, f is the lowest fact in conflict
-pub record AllLeftOut (cs : Cases) (a : Action) (alive f : ℕ) : Type 0 where
-  pub bits : (j : ℕ) → j < 64 → min (lane_bit j alive) (no_conflict cs a j) ≡ 0
-  pub lowest : alive ≡ 1 → f ≡ lowest_false cs.facts (exclusive three a (case_of cs 0))
+pub record AllLeftOut (facts : ℕ) (cs : Cases) (a : Action) (alive f : ℕ) : Type 0 where
+  pub bits : (j : ℕ) → j < 64 → min (lane_bit j alive) (no_conflict facts cs a j) ≡ 0
+  pub lowest : alive ≡ 1 → f ≡ lowest_false facts (exclusive three a (case_of cs 0))
 
-abbrev pub LeavesNone : Cases → Action → ℕ → Hindrance → Type 0
-LeavesNone cs a alive Precondition = ⊥
-LeavesNone cs a alive (Conflict f) = AllLeftOut cs a alive f
+abbrev pub LeavesNone : ℕ → Cases → Action → ℕ → Hindrance → Type 0
+LeavesNone facts cs a alive Precondition = ⊥
+LeavesNone facts cs a alive (Conflict f) = AllLeftOut facts cs a alive f
 
-abbrev pub Finds : Cases → Action → ℕ → Conditions → Result ℕ Hindrance → Type 0
-Finds cs a alive c (Ok lanes) = LeftOut cs a alive c lanes
-Finds cs a alive c (Err h) = LeavesNone cs a alive h
+-- what is found of an action over so many facts, in cases of any number of them
+abbrev pub Finds : ℕ → Cases → Action → ℕ → Conditions → Result ℕ Hindrance → Type 0
+Finds facts cs a alive c (Ok lanes) = LeftOut facts cs a alive c lanes
+Finds facts cs a alive c (Err h) = LeavesNone facts cs a alive h

@@ -1,7 +1,8 @@
 // One action in 64 cases at once.
-ghost use Rattle.std.specs.Prelude.{◌≡◌};
+ghost use Rattle.std.specs.Prelude.{◌≡◌, ◌≤◌, ◌<◌, IfOk, IfErr, OnErr};
 ghost use Rattle.fields.specs.Actions as fields;
-ghost use Rattle.step.specs.Actions.{Obeys};
+ghost use Rattle.cases.specs.Cases.{case_of};
+ghost use Rattle.step.specs.Actions.{Hinders, Obeys};
 
 use crate::conditions::Conditions;
 use cases::{Cases, evaluate};
@@ -23,9 +24,12 @@ pub fn obey(
     conditions: &mut Conditions,
     alive: u64,
 ) -> Result<u64, Hindrance>
-    requires { action.effects.facts ≡ cases.old.facts }
     ensures facts { cases.new.facts ≡ cases.old.facts }
-    ensures obeys { Obeys cases.old (fields.action action.entry) alive cases.new result }
+    ensures some { IfOk result (λ lanes. 0 < lanes) }
+    ensures among { IfOk result (λ lanes. lanes ≤ alive) }
+    ensures kept { OnErr result (cases.new ≡ cases.old) }
+    ensures hinders { IfErr result (λ hindrance. alive ≡ 1 → Hinders action.entry.effects.facts (fields.action action.entry) (case_of cases.old 0) hindrance) }
+    ensures obeys { action.entry.effects.facts ≤ cases.old.facts → Obeys cases.old (fields.action action.entry) alive cases.new result }
 {
     let met = alive & evaluate(action.precondition, cases).sure;
     if met == 0 {

@@ -68,10 +68,8 @@ impl Conditions {
     // each has a condition that reads no. Where none is left, the conflict at which the last one fell out; for one lane its fact is the lowest.
     #[inline(always)]
     pub fn find(&mut self, action: Action, cases: &Cases, alive: u64) -> Result<u64, Hindrance>
-        requires same { action.effects.facts ≡ cases.now.facts }
-        requires some { 0 < alive }
-        ensures facts { self.new.facts ≡ cases.now.facts }
-        ensures finds { Finds cases.now (fields.action action.entry) alive self.new result }
+        ensures facts { self.new.facts ≡ action.entry.effects.facts }
+        ensures finds { Finds action.entry.effects.facts cases.now (fields.action action.entry) alive self.new result }
     {
         self.facts = action.effects.facts;
         self.count = 0;
@@ -114,18 +112,21 @@ impl Conditions {
     }
 
     // The cases after the action: a fact is true if its set condition held, or if it was true and its clear condition did not hold. The entries
-    // are settled from the last to the first: literals rise, so that what clears a fact comes before what sets it.
+    // are settled from the last to the first: literals rise, so that what clears a fact comes before what sets it. Cases of fewer facts than
+    // the entries may name stay as they are: that is tested once, and not at each entry.
     #[inline(always)]
     pub fn settle(&self, cases: &mut Cases)
-        requires { self.now.facts ≡ cases.old.facts }
         ensures facts { cases.new.facts ≡ cases.old.facts }
-        ensures steps { (a : model.Action) → Hold self.now a.effects (case_of cases.old) → (j : ℕ) → j < 64 → case_of cases.new j ≡ model.step three cases.old.facts a (case_of cases.old j) }
+        ensures steps { self.now.facts ≤ cases.old.facts → (a : model.Action) → Hold self.now a.effects (case_of cases.old) → (j : ℕ) → j < 64 → case_of cases.new j ≡ model.step three cases.old.facts a (case_of cases.old j) }
     {
+        if cases.facts < self.facts {
+            return;
+        }
         for e in (0..self.count).rev() {
             let literal = Literal::of(self.literals[e]);
             // It holds where it did, or where its condition does.
             let value = self.condition(e) | cases.value(literal);
-            cases.put(literal, value);
+            cases.put_declared(literal, value);
         }
     }
 }

@@ -10,14 +10,12 @@ use Rattle.runs.proofs.outcome.run_of_case.Goals as goal
 pub loop-i-init : goal.loop-i-init
 loop-i-init c = (c.requires ∙ sym (task-facts c.args.task.now), following-begins _ _)
 
-pub obey-requires : goal.obey-requires
-obey-requires c = c.action-action.ensures.facts ∙ sym (task-facts c.args.task.now) ∙ sym c.loop-i.invariant.0
-
 pub returns-in-Err : goal.returns-in-Err
 returns-in-Err c =
     let t = c.args.task.now in
     let l : c.loop-i.i < length (task t).plan = omega (arith, c.loop-i-test.true, plan-length t) in
-    following-stops (task t) _ c.loop-i.i _ c.loop-i.invariant.1 l c.loop-i.invariant.0 _ c.action-action.ensures.is _ _ c.in-Err.ensures.obeys _
+    following-stops (task t) _ c.loop-i.i _ c.loop-i.invariant.1 l c.loop-i.invariant.0 _ c.action-action.ensures.is _ _
+    (c.in-Err.ensures.obeys (omega (arith, c.action-action.ensures.facts, task-facts t, c.loop-i.invariant.0))) _
     c.hindering_part-part.ensures
 
 pub loop-i-preserved : goal.loop-i-preserved
@@ -25,7 +23,8 @@ loop-i-preserved c =
     let t = c.args.task.now in
     let l : c.loop-i.i < length (task t).plan = omega (arith, c.loop-i-test.true, plan-length t) in (
       c.obey.ensures.facts ∙ c.loop-i.invariant.0,
-      following-next (task t) _ c.loop-i.i _ c.loop-i.invariant.1 l c.loop-i.invariant.0 _ c.action-action.ensures.is _ _ c.in_default.ensures.obeys,
+      following-next (task t) _ c.loop-i.i _ c.loop-i.invariant.1 l c.loop-i.invariant.0 _ c.action-action.ensures.is _ _
+          (c.in_default.ensures.obeys (omega (arith, c.action-action.ensures.facts, task-facts t, c.loop-i.invariant.0))),
     )
 
 pub returns-then-is_yes : goal.returns-then-is_yes

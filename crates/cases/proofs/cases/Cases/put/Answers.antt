@@ -1,19 +1,11 @@
-use Rattle.formula.proofs.Leaves.{literal-byte}
-use Rattle.cases.proofs.Lanes.{sized-in, lanes-of, put-hold, put-cases}
+use Rattle.std.proofs.Common.{sym, arith}
+use Rattle.cases.proofs.Lanes.{length-case_in, literal-by-fact, put-past}
 use Rattle.cases.proofs.cases.Cases.put.Goals as goal
 
-pub set_literal-requires : goal.set_literal-requires
-set_literal-requires c = rw c.byte.ensures (literal-byte _ c.args.self.now.few c.args.literal.byte c.requires)
+pub put_declared-requires : goal.put_declared-requires
+put_declared-requires c = let s = c.args.self.now in literal-by-fact s.facts s.few c.args.literal.byte (omega (arith, c.fact.ensures.is))
 
-pub invariant_of-self : goal.invariant_of-self
-invariant_of-self c =
+pub returns-else-fact-self-clause-cases : goal.returns-else-fact-self-clause-cases
+returns-else-fact-self-clause-cases c =
     let s = c.args.self.now in
-    record {
-      few = s.few;
-      hold = put-hold s.facts s.few _ (sized-in s.facts s.words) _ s.words _ c.args.literal.byte c.requires c.args.value.some c.args.value.sure s.hold (lanes-of _ _ c.args.value.consistent) (rw c.byte.ensures at c.set_literal.ensures);
-    }
-
-pub returns-clause-cases : goal.returns-clause-cases
-returns-clause-cases c =
-    let s = c.args.self.now in
-    put-cases s.facts s.few _ (sized-in s.facts s.words) _ s.words _ c.args.literal.byte c.requires c.args.value.some c.args.value.sure s.hold (lanes-of _ _ c.args.value.consistent) (rw c.byte.ensures at c.set_literal.ensures)
+    λ j l. sym (put-past _ _ _ (omega (arith, length-case_in s.facts s.words j, c.fact.ensures.is)))

@@ -10,4 +10,4 @@ returns-clause-cases c =
     λ j l e.
     c.free_facts.ensures.cases j l ∙ ap (with_facts a.to.fixed a.from.fixed unfixed) (c.fix_bits.ensures.cases j l) ∙
     ap (λ v. with_facts a.to.fixed a.from.fixed unfixed (with_facts a.common a.to.fixed (bits_of a.to.word) v)) e ∙
-    case-changed a.self.now.facts a.from.fixed a.from.word a.to.fixed a.to.word a.common c.requires.from c.requires.to s.first s.alike
+    case-changed a.self.now.facts a.from.fixed a.from.word a.to.fixed a.to.word a.common s.first s.alike

@@ -1,4 +1,4 @@
-use Rattle.std.proofs.Common.{◌∙◌, [], ◌∷◌, ◌++◌, ◌+◌, drop, get_or}
+use Rattle.std.proofs.Common.{◌∙◌, [], ◌∷◌, ◌++◌, ◌+◌, ◌≤◌, drop, get_or, arith}
 use Rattle.std.specs.String.{string_bytes}
 use Rattle.names.specs.Views.{names}
 use Rattle.blocks.specs.Values.{problem}
@@ -20,7 +20,8 @@ returns-in-Err c =
     let before = c.loop-i.current in
     let a = action c.action-action.result in
     let is = c.action-action.ensures.is ∙ plan-action c.args.self.task.now i c.loop-i-test.true in
-    let stop = run-stops N p steps i before c.loop-i.invariant.1 c.loop-i.invariant.0 c.loop-i-test.true a is c.obey.new.cases c.in-Err.hindrance c.in-Err.ensures.obeys in
+    let few : c.action-action.result.effects.facts ≤ before.facts = omega (arith, c.action-action.ensures.facts, c.loop-i.invariant.0) in
+    let stop = run-stops N p steps i before c.loop-i.invariant.1 c.loop-i.invariant.0 c.loop-i-test.true a is c.obey.new.cases c.in-Err.hindrance (c.in-Err.ensures.obeys few) in
     last-text _ (string_bytes c.loop-i.out) (step_head N i (get_or steps i 0)) (block_text N p a (state_in before)) _ c.in_ok-write.ensures.bytes
     (rw stop at c.loop-i.invariant.2) c.push_block.ensures
 
@@ -34,12 +35,13 @@ loop-i-preserved c =
     let after = c.obey.new.cases in
     let a = action c.action-action.result in
     let is = c.action-action.ensures.is ∙ plan-action c.args.self.task.now i c.loop-i-test.true in
+    let few : c.action-action.result.effects.facts ≤ before.facts = omega (arith, c.action-action.ensures.facts, c.loop-i.invariant.0) in
     let changes = changes_text N (state_in before) (state_in after) 0 before.facts in
     let rest = told_from N p (drop (i + 1) steps) (i + 1) (state_in after) in
-    let next = run-next N p steps i before c.loop-i.invariant.1 c.loop-i.invariant.0 c.loop-i-test.true a is after _ c.in_default.ensures.obeys in
+    let next = run-next N p steps i before c.loop-i.invariant.1 c.loop-i.invariant.0 c.loop-i-test.true a is after _ (c.in_default.ensures.obeys few) in
     let head = text-next (string_bytes c.loop-i.out) (step_head N i (get_or steps i 0)) (changes ++ (10 ∷ rest)) c.in_ok-write.ensures.bytes (rw next at c.loop-i.invariant.2) in (
       c.obey.ensures.facts ∙ c.loop-i.invariant.0,
-      state-next N p steps i before c.loop-i.invariant.1 c.loop-i.invariant.0 c.loop-i-test.true a is after _ c.in_default.ensures.obeys,
+      state-next N p steps i before c.loop-i.invariant.1 c.loop-i.invariant.0 c.loop-i-test.true a is after _ (c.in_default.ensures.obeys few),
       text-next (string_bytes c.push_changes.new.out) (10 ∷ []) rest c.in_ok-push_str.ensures.bytes
           (text-next (string_bytes c.write.new.self) changes (10 ∷ rest) c.in_ok-push_changes.ensures head),
     )

@@ -1,4 +1,4 @@
-use Rattle.std.proofs.Common.{◌≡◌, arith}
+use Rattle.std.proofs.Common.{◌≡◌, ◌≤◌, arith}
 use Rattle.search.proofs.Beginning.{begun-next}
 use Rattle.search.proofs.Alike.{tried-none, tried-ended, tried-one, tried-all, leaf-tried}
 use Rattle.formula.proofs.Readers.{returned}
@@ -26,8 +26,9 @@ try_below-returns-clause-comes t c = tried-all _ _ _ _ _ _ _ c.loop-step.invaria
 pub try_obeyed-invariant_of-next : goal.try_obeyed-invariant_of-next
 try_obeyed-invariant_of-next t c =
     let b = c.args.self.now in
+    let few : c.get-action.result.effects.facts ≤ b.cases.now.facts = omega (arith, c.get-action.ensures.facts, b.begun.facts) in
     record {
       begun =
-          begun-next b.root.now b.plan b.alive b.cases.now b.begun c.args.step c.requires.action (λ (z : b.alive ≡ 0). omega arith) _ c.get-action.ensures.is _ c.obey.ensures.facts _ c.obey.ensures.obeys
+          begun-next b.root.now b.plan b.alive b.cases.now b.begun c.args.step c.requires.action (λ (z : b.alive ≡ 0). omega arith) _ c.get-action.ensures.is _ c.obey.ensures.facts _ (c.obey.ensures.obeys few)
           _ c.extended.ensures _ c.unwrap_or-going.ensures;
     }
