@@ -30,7 +30,7 @@ fn fixed_alike(from: Case, to: Case) -> usize
 
 // The case of the last line stands in every lane of `cases`: from one line to the next only the facts in which their cases differ are
 // touched. The plan is run on a copy of them.
-#[derive(Drop)]
+#[derive(Clone, Copy)]
 pub struct Follower<'a> {
     task: &'a Task<'a>,
     cases: Cases,
