@@ -1,6 +1,7 @@
 // A follower of case lists: it goes from line to line, and knows what the lines so far cover together.
 ghost use Rattle.std.proofs.Props.{props};
 ghost use Rattle.std.specs.Prelude.{ℕ, ◌≡◌, ◌<◌, ◌≤◌};
+ghost use Rattle.model.specs.WellFormed.{Sensible};
 ghost use Rattle.cases.specs.Cases.{Common, case_of, values_of};
 
 use crate::covered::Covered;
@@ -29,7 +30,7 @@ fn fixed_alike(from: Case, to: Case) -> usize
 
 // The case of the last line stands in every lane of `cases`: from one line to the next only the facts in which their cases differ are
 // touched. The plan is run on a copy of them.
-#[derive(Drop)]
+#[derive(Clone, Copy)]
 pub struct Follower<'a> {
     task: &'a Task<'a>,
     cases: Cases,
@@ -65,13 +66,15 @@ impl<'a> Follower<'a> {
     }
 
     // Goes on to the line at which the reader stands: refused if its form is wrong, if it does not begin where the lines so far end, or if
-    // what it claims is not so.
+    // what it claims is not so. That holds for a reader whose lines are those of the task's version.
     #[inline(always)]
     pub fn follow(&mut self, reader: ListReader) -> Result<(), Refusal>
-        requires limits { reader.limits ≡ self.old.task.now.problem.now.limits }
+        requires sensible { Sensible reader.limits }
+        requires few { self.old.task.now.problem.now.facts ≤ reader.limits.facts }
         requires stands { LineStands reader }
         ensures task { self.new.task.now ≡ self.old.task.now }
-        ensures line { followed result self.new.covered ≡ line_answer (task_of self.old.task.now) (line_here reader.entry) reader.entry.line self.old.covered }
+        ensures line { reader.entry.limits.width ≡ self.old.task.now.problem.now.limits.width
+            → followed result self.new.covered ≡ line_answer (task_of self.old.task.now) (line_here reader.entry) reader.entry.line self.old.covered }
     {
         let line = reader.check_here(self.cases.facts)?;
         let place = reader.line as u64;

@@ -2,8 +2,9 @@
 #![tactic(auto)]
 
 mod covered;
-mod follower;
+pub mod follower;
 pub mod operations;
 
 pub use covered::Covered;
+pub use follower::Follower;
 pub use operations::{cover_after, cover_after_task, follow_list, follow_list_task};

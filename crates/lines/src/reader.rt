@@ -23,25 +23,21 @@ pub fn check_line(list: &[u8], line: usize, facts: u8, limits: &Limits) -> Resul
     RawLine::read(list, line, limits).check_form(line, facts, limits)
 }
 
-// A list, by the numbers of a version, and the number of the line that the reader stands at: the lines before it are whole.
+// A list, by the numbers of a version, and the number of the line that the reader stands at, whether or not the list has one of that number.
 #[derive(Clone, Copy)]
 pub struct ListReader<'a> {
     pub list: &'a [u8],
     pub line: usize,
     pub limits: Limits,
-    pub ghost sensible: { Sensible limits },
-    pub ghost inside: { head_bytes + limits.line * line ≤ length list.now },
 }
 
 impl<'a> ListReader<'a> {
     ghost use Rattle.lines.specs.Lines.{raw_line};
     ghost use Rattle.lines.specs.Readers.{LineStands, line_here};
 
-    // The reader that stands at line 0, whether or not the list has one.
+    // The reader that stands at line 0.
     #[inline(always)]
     pub fn new(list: &'a [u8], limits: Limits) -> ListReader<'a>
-        requires sensible { Sensible limits }
-        requires headed { head_bytes ≤ length list.now }
         ensures list { result.list ≡ list.entry }
         ensures line { result.line ≡ 0 }
         ensures limits { result.limits ≡ limits }
@@ -53,15 +49,13 @@ impl<'a> ListReader<'a> {
         }
     }
 
-    // The reader that stands at a line of the list.
+    // The reader that stands at the line of this number: it can be read there, where the list has it.
     #[inline(always)]
     pub fn at(list: &'a [u8], line: usize, limits: Limits) -> ListReader<'a>
-        requires sensible { Sensible limits }
-        requires inside { head_bytes + limits.line * line + limits.line ≤ length list.now }
         ensures list { result.list ≡ list.entry }
         ensures line { result.line ≡ line }
         ensures limits { result.limits ≡ limits }
-        ensures stands { LineStands result }
+        ensures stands { head_bytes + limits.line * line + limits.line ≤ length list.now → LineStands result }
     {
         ListReader { list, line, limits }
     }
@@ -69,7 +63,7 @@ impl<'a> ListReader<'a> {
     // It goes on past the line that it stands at.
     #[inline(always)]
     pub fn next_line(self) -> ListReader<'a>
-        requires { LineStands self }
+        requires { self.line + 1 < 2 ^ 64 }
         ensures list { result.list ≡ self.entry.list }
         ensures line { result.line ≡ self.entry.line + 1 }
         ensures limits { result.limits ≡ self.entry.limits }
@@ -84,7 +78,8 @@ impl<'a> ListReader<'a> {
     // The line that it stands at, as it stands.
     #[inline(always)]
     pub fn read(&self) -> RawLine
-        requires { LineStands self.now }
+        requires sensible { Sensible self.now.limits }
+        requires stands { LineStands self.now }
         ensures line { raw_line result ≡ line_here self.now }
         ensures fits { result.value < 2 ^ self.now.limits.width }
     {
@@ -94,6 +89,7 @@ impl<'a> ListReader<'a> {
     // The line that it stands at, over so many facts, once `check_line` has checked its form.
     #[inline(always)]
     pub fn check_here(&self, facts: u8) -> Result<Line, Refusal>
+        requires sensible { Sensible self.now.limits }
         requires stands { LineStands self.now }
         requires few { facts ≤ self.now.limits.facts }
         ensures line { line_read result ≡ checked self.now.limits.width facts self.now.line (line_here self.now) }

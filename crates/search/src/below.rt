@@ -30,7 +30,7 @@ impl Begun<'_> {
     ghost use Rattle.search.specs.Trying.{longer, Comes};
 
     // The plan with no more steps, judged with the visits that are left: those that are left after it, where it is wrong.
-    fn try_plan(&self, left: u64, tables: &mut Tables) -> Result<u64, Ended>
+    pub fn try_plan(&self, left: u64, tables: &mut Tables) -> Result<u64, Ended>
         requires { AtFirst tables.old self.now.root.now.problem.now.facts }
         ensures stands { AtFirst tables.new self.now.root.now.problem.now.facts }
         ensures comes { Comes self.now.root.now.problem.now (self.now.plan ∷ []) left result }

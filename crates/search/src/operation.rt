@@ -35,7 +35,7 @@ fn search_problem(problem: &Problem, longest: usize, grant: u64) -> Search
     ensures { search_end result ≡ search (task_with problem.now) grant (plans_in (problem_of problem.now) longest) 0 }
 {
     let mut lanes = Cases::first_case(problem.facts);
-    lanes.fix_levels(0, first_levels(problem.facts));
+    lanes.fix_levels(0, first_levels(problem.facts as usize));
     let root = Root {
         problem,
         lanes: &lanes,

@@ -14,7 +14,7 @@ use formula::Literal;
 // Room for the entries of an action over so many facts: each one's literal, by its byte, and the value of its condition, by its two words.
 // Literals rise. (The words stand apart, since each is stored singly: side by side they would be loaded as one, and such a load has to wait for
 // its stores.)
-#[derive(Drop)]
+#[derive(Clone, Copy)]
 pub struct Conditions {
     facts: u8,
     count: usize,

@@ -46,7 +46,7 @@ impl<'a> Block<'a> {
         Block {
             task,
             own: Case { k: 0, number: 0 },
-            levels: first_levels(task.problem.facts),
+            levels: first_levels(task.problem.facts as usize),
             looks,
         }
     }
@@ -89,11 +89,14 @@ pub fn lane_after(lane: usize) -> usize
     next >> next.trailing_zeros()
 }
 
-// The levels of the first block: the odd ones, so that all blocks below it are full.
-pub fn first_levels(facts: u8) -> usize
-    requires { 1 ≤ facts }
-    ensures is { result ≡ first_levels facts }
+// The levels of the first block: the odd ones, so that all blocks below it are full. Over no fact there is none.
+pub fn first_levels(facts: usize) -> usize
+    ensures is { 1 ≤ facts → result ≡ first_levels facts }
     ensures levels { LevelsOf facts result }
 {
-    (facts - 1) as usize % LEVELS + 1
+    if facts == 0 {
+        0
+    } else {
+        (facts - 1) % LEVELS + 1
+    }
 }

@@ -135,6 +135,6 @@ pub fn walk_task<L: Lines>(task: &Task, grant: u64, lines: &mut L) -> Result<Clo
 {
     let facts = task.problem.facts;
     let mut tables = Tables::first(facts);
-    let looks = tables.look(task, 0, first_levels(facts));
+    let looks = tables.look(task, 0, first_levels(facts as usize));
     walk_block(&Block::first(task, looks), grant, lines, &mut tables)
 }

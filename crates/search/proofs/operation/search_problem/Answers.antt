@@ -6,7 +6,7 @@ pub invariant_of-root : goal.invariant_of-root
 invariant_of-root c =
     record {
       facts = c.fix_levels.ensures.facts ∙ c.first_case-lanes.ensures.facts;
-      first = λ j l. c.fix_levels.ensures.cases j l ∙ rw (c.first_levels.ensures.is, c.first_case-lanes.ensures.cases j l) refl;
+      first = λ j l. c.fix_levels.ensures.cases j l ∙ rw (c.first_levels.ensures.is c.args.problem.now.some_facts, c.first_case-lanes.ensures.cases j l) refl;
       not_empty = c.start_lanes.ensures;
     }
 
