@@ -2,7 +2,7 @@
 use Rattle.backward.proofs.Words.{◌≡◌, refl, sym, ap, subst, ◌∙◌, Bool, true, false, List, [], ◌∷◌, ◌++◌, map, append-nil, ℕ, suc, ◌+◌, ◌≤◌, ◌<◌, add-one, arith, length, take, drop, length-take, length-drop, length-append, drop_of_length-le, Option, Some, None, is_some, min, get_or, take-suc, take_at, ◌*◌, false≢true, max_facts, two, Formula, flag, Task, at_end, goes_on, reached, run, Action, applicable, action_at, states, rows, OfSize, rows-size, rows-append, states-size, states-count, sets-append, Cases, Mark, holds_now, IsMark, state_at, Shows, Taken, Takes, is_reached, Stops, TellsReached}
 use Rattle.std.proofs.Common.{get_or-take}
 use lib.Seq.{sets}
-use Rattle.backward.proofs.{Making.holds-now, States.drop-action, States.state-first, States.state-next}
+use Rattle.backward.proofs.{Making.holds-now, States.drop-action, States.state-first, States.state-next, States.shown-length}
 
 -- ---- the rows of the first states
 
@@ -122,6 +122,10 @@ module _ (T : Task) (st : List Bool) where
 -- the steps cannot all be taken from any state that lane 0 has
 abbrev pub AllStop : Task → Cases → Type 0
 AllStop T c = (st : List Bool) → length st ≡ T.facts → Shows c st → Stops T st
+
+-- cases of another number of facts have no state of the task
+pub others-stop : (T : Task) (c : Cases) → (c.facts ≡ T.facts → ⊥) → AllStop T c
+others-stop T c other st z begin = absurd (other (sym (shown-length c st begin) ∙ z))
 
 module _ (T : Task) (c : Cases) (X : AllStop T c) where
   pub stops-tells : TellsReached T c false

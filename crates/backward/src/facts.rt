@@ -1,5 +1,5 @@
 // Sets of facts.
-ghost use Rattle.std.specs.Prelude.{ℕ, ◌≡◌, ◌≤◌, ◌<◌, List, Bool, length, eqb, not, ◌&&◌};
+ghost use Rattle.std.specs.Prelude.{ℕ, ◌≡◌, ◌-◌, ◌/◌, ◌^◌, ◌≤◌, ◌<◌, List, Bool, length, eqb, not, ◌&&◌};
 ghost use Rattle.std.specs.Iterator.{at_most};
 ghost use Rattle.model.specs.Limits.{max_facts};
 ghost use Rattle.model.specs.Relevance.{some, number_of};
@@ -50,11 +50,14 @@ impl FactSet {
         if so { self } else { FactSet::EMPTY }
     }
 
-    // The set as a state's number of so many bits.
+    // The set as a state's number of so many bits: the top ones of its word. Where it has no fact past them, it is the number of the state that has its
+    // facts.
     pub fn number_of(self, width: u8) -> u64
         requires some { 0 < width }
         requires word { width ≤ 64 }
-        ensures { (m : List Bool) → length m ≤ width → HasFacts self m → result ≡ number_of width m }
+        ensures value { result ≡ self.word / 2 ^ (64 - width) }
+        ensures small { result < 2 ^ width }
+        ensures number { (m : List Bool) → length m ≤ width → HasFacts self m → result ≡ number_of width m }
     {
         self.word >> (64 - width)
     }

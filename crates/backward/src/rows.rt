@@ -92,20 +92,25 @@ pub fn take_steps(task: &Task, cases: &mut Cases, rows: &mut [u8], marks: &mut [
     true
 }
 
-// Whether the run of the state that the cases have reaches the goal: then its states have become rows.
-pub fn put_run(task: &Task, cases: &mut Cases, rows: &mut [u8], marks: &mut [Mark]) -> bool
-    requires facts { cases.old.facts ≡ task.now.problem.now.facts }
-    requires room { suc (length task.now.steps.now) * cases.old.facts ≤ length rows.old }
+// Whether the run of the state that the cases have reaches the goal: then its states have become rows. The cases stay as they are: the run is
+// taken in a copy of them.
+pub fn put_run(task: &Task, cases: &Cases, rows: &mut [u8], marks: &mut [Mark]) -> bool
+    requires room { suc (length task.now.steps.now) * cases.now.facts ≤ length rows.old }
     requires marks { length task.now.steps.now ≤ length marks.old }
-    ensures facts { cases.new.facts ≡ cases.old.facts }
-    ensures puts { PutsRun (task_of task.now) cases.old rows.old rows.new marks.new }
-    ensures tells { TellsReached (task_of task.now) cases.old result }
+    ensures puts { PutsRun (task_of task.now) cases.now rows.old rows.new marks.new }
+    ensures tells { TellsReached (task_of task.now) cases.now result }
 {
-    if !take_steps(task, cases, rows, marks) {
+    // Whoever lends cases of another number of facts is answered too: they have no state of the task, and so no run of it.
+    let same = cases.facts == task.problem.facts;
+    if !same {
         return false;
     }
-    let facts = cases.facts as usize;
+    let mut current = *cases;
+    if !take_steps(task, &mut current, rows, marks) {
+        return false;
+    }
+    let facts = current.facts as usize;
     let last = task.steps.len() * facts;
-    put_row(cases, &mut rows[last..last + facts]);
-    evaluate(task.problem.goal, cases).is_yes(0)
+    put_row(&current, &mut rows[last..last + facts]);
+    evaluate(task.problem.goal, &current).is_yes(0)
 }

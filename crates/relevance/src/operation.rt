@@ -32,18 +32,11 @@ pub(crate) fn check_reached(reached: bool) -> Result<(), Refusal>
 }
 
 // Refuses the run of the state that the cases have, unless it reaches the goal: then the rows have its states, and the marks its steps.
-fn check_run(
-    task: &Task,
-    cases: &mut Cases,
-    rows: &mut [u8],
-    marks: &mut [Mark],
-) -> Result<(), Refusal>
-    requires facts { cases.old.facts ≡ task.now.problem.now.facts }
-    requires room { suc (length task.now.steps.now) * cases.old.facts ≤ length rows.old }
+fn check_run(task: &Task, cases: &Cases, rows: &mut [u8], marks: &mut [Mark]) -> Result<(), Refusal>
+    requires room { suc (length task.now.steps.now) * cases.now.facts ≤ length rows.old }
     requires marks { length task.now.steps.now ≤ length marks.old }
-    ensures facts { cases.new.facts ≡ cases.old.facts }
-    ensures puts { PutsRun (task_of task.now) cases.old rows.old rows.new marks.new }
-    ensures checks { ChecksRun (task_of task.now) cases.old result }
+    ensures puts { PutsRun (task_of task.now) cases.now rows.old rows.new marks.new }
+    ensures checks { ChecksRun (task_of task.now) cases.now result }
 {
     check_reached(put_run(task, cases, rows, marks))
 }
@@ -75,11 +68,11 @@ fn relevant_facts_task(task: &Task, state: u64, work: &mut [u8]) -> Result<u64, 
     requires short { length task.now.steps.now ≤ max_steps }
     ensures { Leaves (relevant_read every_row (answered (task_of task.now)) state work.old) result work.new }
 {
-    let mut cases = state_cases(task, state)?;
+    let cases = state_cases(task, state)?;
     // The work area may not change before the last refusal is ruled out, so the run is written down apart.
     let mut rows = [0u8; MOST_ROWS];
     let mut marks = [Mark::NONE; Plan::MAX_STEPS];
-    check_run(task, &mut cases, &mut rows, &mut marks)?;
+    check_run(task, &cases, &mut rows, &mut marks)?;
     let need = (task.steps.len() + 1) * task.problem.facts as usize;
     check_room(need, work.len())?;
     work[..need].copy_from_slice(&rows[..need]);

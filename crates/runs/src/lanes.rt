@@ -85,10 +85,15 @@ fn run_lanes(task: &Task, cases: &mut Cases, conditions: &mut Conditions, lanes:
 
 // What a visit finds of 64 cases, which are used up: the plan is run on them. The conditions are lent, so that no look has to make room for them.
 pub fn look(task: &Task, cases: &mut Cases, conditions: &mut Conditions) -> Looks
-    requires { cases.old.facts ≡ task.now.problem.now.facts }
     ensures facts { cases.new.facts ≡ cases.old.facts }
-    ensures looks { LooksAt (task_of task.now) (case_of cases.old) result }
+    ensures looks { cases.old.facts ≡ task.now.problem.now.facts → LooksAt (task_of task.now) (case_of cases.old) result }
 {
+    // Whoever lends cases of another number of facts is answered too. The plan is not run on them, since it may name facts that they do not have:
+    // all of them are left open.
+    let same = cases.facts == task.problem.facts;
+    if !same {
+        return Looks::of(ONES, 0);
+    }
     let starts = start_lanes(task.problem, cases);
     Looks::of(starts, run_lanes(task, cases, conditions, starts))
 }

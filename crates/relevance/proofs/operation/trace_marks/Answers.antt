@@ -10,4 +10,4 @@ unfolding task_of
 returns c =
     let t = c.args.task.now in
     traces-marks (task t) (facts-fit t) c.args.marks.now _ _ (λ f l. c.named_facts.ensures f l ∙ ap (λ (φ : Formula). names φ f) (sym (task-goal t)))
-    c.trace_back-relevant.ensures _ c.number_of.ensures
+    c.trace_back-relevant.ensures _ c.number_of.ensures.number

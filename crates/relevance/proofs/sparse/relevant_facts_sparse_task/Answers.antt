@@ -80,7 +80,7 @@ returns c =
     relevant-found fewer_rows (task t) c.args.state c.args.work.now (facts-fit t) _ c.in_ok-cases.ensures.state _ c.in_ok-check_kept.ensures.checks _
     (sparse-need-is t _ refl) _ c.in_ok-check_room.ensures _ _
     (traces-sparse (task t) (facts-fit t) c.requires.within c.in_ok-cases.cases _ c.check_kept.new.kept (rw (← count-is t _ refl) (small d)) c.check_kept.ensures.keeps c.trace_stretches-relevant.result
-    c.fill.new.self c.trace_stretches-relevant.new.stretch zeros c.trace_stretches-relevant.ensures c.number_of.result (λ m l h. rw width-is (c.number_of.ensures m (omega (arith, l, width-is)) h)) c.args.work.now c.copy_from_slice.new.self _
+    c.fill.new.self c.trace_stretches-relevant.new.stretch zeros c.trace_stretches-relevant.ensures c.number_of.result (λ m l h. rw width-is (c.number_of.ensures.number m (omega (arith, l, width-is)) h)) c.args.work.now c.copy_from_slice.new.self _
     count (count-is t _ refl) copied
     (laid c.args.work.now c.copy_from_slice.new.self c.trace_stretches-relevant.new.stretch count _ (count + 16 * facts) size (omega arith) refl ∙
     ap (λ (n : ℕ). c.copy_from_slice.new.self ++ (c.trace_stretches-relevant.new.stretch ++ drop n c.args.work.now)) (sparse-need-is t _ refl)))
