@@ -37,7 +37,7 @@ impl Marks {
     }
 
     // One mark per fact, and then bytes that are none.
-    fn bytes(&self) -> [u8; Problem::SLOTS]
+    pub fn bytes(&self) -> [u8; Problem::SLOTS]
         ensures { take self.now.facts.count result ≡ marks self.now.facts.limits.width self.now.facts.count self.now.k self.now.value }
     {
         let mut bytes = [b'?'; Problem::SLOTS];

@@ -6,14 +6,16 @@ ghost use Rattle.model.specs.Limits.{limits_of};
 ghost use Rattle.model.specs.WellFormed.{Sensible};
 ghost use Rattle.model.specs.Answers.{judge_answer};
 ghost use Rattle.model.specs.Operations.{judge};
-ghost use Rattle.model.specs.DeskText.{desk_grant, desk_text};
+ghost use Rattle.model.specs.ListBytes.{lines_from};
+ghost use Rattle.model.specs.DeskText.{lines_text, desk_grant, desk_text};
 ghost use Rattle.page.specs.Pages.{PageOf};
+ghost use Rattle.page.specs.Rest.{page_text};
 
 use answers::Facts;
 use blocks::Problem;
 use judge::judge_task;
 use model::{CaseList, Limits, Refusal, Verdict};
-use page::{FirstLine, Page};
+use page::{FirstLine, ListLines, Page, Rest, TooLong};
 use std::io;
 use std::io::Write;
 
@@ -59,6 +61,28 @@ fn judge_blocks(problem: &[u8], plan: &[u8], list: &mut [u8]) -> FirstLine
     }
 }
 
+// Writes the lines of a list, each by one write of its whole text.
+fn write_list<W: Write>(writer: &mut W, lines: &ListLines) -> io::Result<()>
+    ensures { let F = lines.now.facts.limits in OnOk result (Appends (W.contents writer.old) (W.contents writer.new) (lines_text F lines.now.facts.count (lines_from F lines.now.list.now lines.now.count head_bytes))) }
+{
+    for number in 0..lines.count {
+        writer.write_all(lines.line(number).text().as_bytes())?;
+    }
+    Ok(())
+}
+
+// Writes the lines of a page, each by one write of its whole text.
+fn write_lines<W: Write>(writer: &mut W, page: &Page) -> io::Result<()>
+    ensures { OnOk result (Appends (W.contents writer.old) (W.contents writer.new) (page_text page.now)) }
+{
+    writer.write_all(page.first.text().as_bytes())?;
+    match page.rest() {
+        Rest::Nothing => Ok(()),
+        Rest::TooLong => writer.write_all(TooLong.text().as_bytes()),
+        Rest::Lines(lines) => write_list(writer, &lines),
+    }
+}
+
 // Writes the page for the bytes of a problem and of a plan: the judge's answer, which it shows.
 pub fn write_page<W: Write>(
     writer: &mut W,
@@ -71,6 +95,6 @@ pub fn write_page<W: Write>(
     let mut list = [0u8; CaseList::MAX_BYTES];
     let first = judge_blocks(problem, plan, &mut list);
     let page = Page { first, list: &list };
-    write!(writer, "{page}")?;
+    write_lines(writer, &page)?;
     Ok(first.answer)
 }

@@ -66,13 +66,15 @@ fn has_more<R: Env>(rt: &R) -> bool {
     }
 }
 
-// Prints the page, and gives the judge's answer.
+// Prints the page, and gives the judge's answer. Where there is no memory for a buffer, each line is a write of its own.
 fn print_page<R: Print + AllocGlobal>(
     rt: &R,
     problem: &[u8],
     plan: &[u8],
 ) -> io::Result<Result<Verdict, Refusal>> {
-    let mut output = BufWriter::new(rt.alloc(), io::writer(rt))?;
+    let Ok(mut output) = BufWriter::new(rt.alloc(), io::writer(rt)) else {
+        return write_page(&mut io::writer(rt), problem, plan);
+    };
     let answer = write_page(&mut output, problem, plan)?;
     output.flush()?;
     Ok(answer)

@@ -43,7 +43,7 @@ impl<'a> Page<'a> {
     ghost use Rattle.page.specs.Rest.{rest_text};
 
     // What follows the first line: only a right plan has lines.
-    fn rest(&self) -> Rest<'a>
+    pub fn rest(&self) -> Rest<'a>
         ensures { rest_text result ≡ following self.now.first.facts.limits self.now.first.facts.count self.now.list.now (judge_answer self.now.first.answer) }
     {
         let Ok(verdict) = self.first.answer else {
