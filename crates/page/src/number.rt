@@ -1,5 +1,5 @@
 // Numbers.
-ghost use Rattle.std.specs.Prelude.{◌≡◌, ◌≤◌, ◌+◌, ◌*◌, ◌++◌, length, Some, decimal};
+ghost use Rattle.std.specs.Prelude.{◌≡◌, ◌≤◌, ◌<◌, ◌+◌, ◌*◌, [], ◌∷◌, ◌++◌, length, Some, decimal};
 ghost use Rattle.arrayvec.specs.ArrayString.{array_string_len};
 
 use crate::text::{LINE_ROOM, LineText};
@@ -7,6 +7,14 @@ use std::fmt;
 
 // A number below 2^64 has at most so many digits.
 pub const MAX_DIGITS: usize = 20;
+
+fn push_digit(text: &mut LineText, digit: u8)
+    requires digit { digit < 10 }
+    requires room { array_string_len text.old < LINE_ROOM }
+    ensures { text.new.bytes ≡ text.old.bytes ++ (48 + digit) ∷ [] }
+{
+    text.push((b'0' + digit) as char);
+}
 
 // A number, in decimal.
 #[derive(Clone, Copy)]
@@ -22,11 +30,11 @@ impl Decimal {
         let n = self.0;
         let is_digit = n < 10;
         if is_digit {
-            text.push((b'0' + n as u8) as char);
+            push_digit(text, n as u8);
             return;
         }
         Decimal(n / 10).push_to(text);
-        text.push((b'0' + (n % 10) as u8) as char);
+        push_digit(text, (n % 10) as u8);
     }
 }
 
