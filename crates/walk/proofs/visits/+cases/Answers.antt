@@ -72,7 +72,7 @@ walk_block-lanes-preserved g t c =
 -- ---- walk_lane
 
 pub walk_lane-kind-requires : goal.walk_lane-kind-requires
-walk_lane-kind-requires g t c = lane-small _ _ c.args.block.now.few c.requires.inside
+walk_lane-kind-requires g t c = omega (arith, lane-small _ _ c.args.block.now.few c.requires.inside)
 
 pub walk_lane-line-requires : goal.walk_lane-line-requires
 walk_lane-line-requires g t c =
