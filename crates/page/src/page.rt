@@ -40,11 +40,12 @@ pub struct Page<'a> {
 }
 
 impl<'a> Page<'a> {
-    ghost use Rattle.page.specs.Rest.{rest_text};
+    ghost use Rattle.page.specs.Rest.{rest_text, rest_kind, kind_after};
 
     // What follows the first line: only a right plan has lines.
     pub fn rest(&self) -> Rest<'a>
-        ensures { rest_text result ≡ following self.now.first.facts.limits self.now.first.facts.count self.now.list.now (judge_answer self.now.first.answer) }
+        ensures kind { rest_kind result ≡ kind_after self.now.first.facts.limits (judge_answer self.now.first.answer) }
+        ensures text { rest_text result ≡ following self.now.first.facts.limits self.now.first.facts.count self.now.list.now (judge_answer self.now.first.answer) }
     {
         let Ok(verdict) = self.first.answer else {
             return Rest::Nothing;
