@@ -1,4 +1,4 @@
-use Rattle.std.proofs.Common.{◌∙◌, arith}
+use Rattle.std.proofs.Common.{arith}
 use Rattle.blocks.specs.Values.{task}
 use Rattle.blocks.proofs.Tasks.{task-initial, task-goal, plan-length}
 use Rattle.runs.proofs.Running.{looks-at, looks-same, running-begins, running-ends}
@@ -15,4 +15,4 @@ returns-then-task-eq0-clause-looks c =
 pub returns-clause-looks : goal.returns-clause-looks
 returns-clause-looks c =
     let s = c.args.self.now in
-    looks-same (task s.task.now) _ _ _ (λ j l. c.copy_from.ensures.cases j l) (c.look.ensures.looks (c.copy_from.ensures.facts ∙ s.same ∙ s.facts))
+    looks-same (task s.task.now) _ _ _ (λ j l. c.copy_from.ensures.cases j l) (c.look.ensures.looks (omega (arith, c.copy_from.ensures.facts, s.same, s.facts)))
