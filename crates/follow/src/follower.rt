@@ -7,7 +7,7 @@ ghost use Rattle.cases.specs.Cases.{Common, case_of, values_of};
 use crate::covered::Covered;
 use blocks::Task;
 use cases::{Case, Cases, word_of};
-use lines::ListReader;
+use lines::ListCursor;
 use model::{Fault, Refusal};
 use runs::{Looks, look, reached_lanes, start_lanes};
 use step::Conditions;
@@ -46,7 +46,7 @@ pub struct Follower<'a> {
 
 impl<'a> Follower<'a> {
     ghost use Rattle.blocks.specs.Values.{task as task_of};
-    ghost use Rattle.lines.specs.Readers.{LineStands, line_here};
+    ghost use Rattle.lines.specs.Readers.{CursorStands, line_under};
     ghost use Rattle.runs.specs.Looks.{LooksAt};
     ghost use Rattle.follow.specs.Follows.{followed, line_answer};
 
@@ -68,13 +68,13 @@ impl<'a> Follower<'a> {
     // Goes on to the line at which the reader stands: refused if its form is wrong, if it does not begin where the lines so far end, or if
     // what it claims is not so. That holds for a reader whose lines are those of the task's version.
     #[inline(always)]
-    pub fn follow(&mut self, reader: ListReader) -> Result<(), Refusal>
+    pub fn follow(&mut self, reader: ListCursor) -> Result<(), Refusal>
         requires sensible { Sensible reader.limits }
         requires few { self.old.task.now.problem.now.facts ≤ reader.limits.facts }
-        requires stands { LineStands reader }
+        requires stands { CursorStands reader }
         ensures task { self.new.task.now ≡ self.old.task.now }
         ensures line { reader.entry.limits.width ≡ self.old.task.now.problem.now.limits.width
-            → followed result self.new.covered ≡ line_answer (task_of self.old.task.now) (line_here reader.entry) reader.entry.line self.old.covered }
+            → followed result self.new.covered ≡ line_answer (task_of self.old.task.now) (line_under reader.entry) reader.entry.line self.old.covered }
     {
         let line = reader.check_here(self.cases.facts)?;
         let place = reader.line as u64;

@@ -60,7 +60,7 @@ fn follow_lines_by(
     let mut follower = Follower::new(task);
     let mut reader = ListReader::new(list, limits);
     while reader.line < count {
-        follower.follow(reader)?;
+        follower.follow(reader.cursor())?;
         reader = reader.next_line();
     }
     Ok(follower.covered)

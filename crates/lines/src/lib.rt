@@ -7,4 +7,4 @@ pub mod reader;
 
 pub use line::Line;
 pub use raw::RawLine;
-pub use reader::{ListReader, check_line};
+pub use reader::{ListCursor, ListReader, check_line};
