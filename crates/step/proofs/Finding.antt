@@ -4,7 +4,7 @@ use Rattle.model.specs.{Limits.max_facts, Kleene.both, Kleene.denied, Kleene.thr
 use Rattle.formula.specs.Views.{literal, is_denial}
 use Rattle.fields.specs.{Actions.effect, declared.actions.Effect.Effect as View}
 use Rattle.cases.specs.{declared.value.Value.Value, declared.cases.Cases.Cases, Cases.case_of, Cases.value_at}
-use Rattle.step.specs.{declared.conditions.Conditions.Conditions, Conditions.entry_at, Conditions.condition_at, Conditions.Pushed, Conditions.LeftOut, Conditions.AllLeftOut}
+use Rattle.step.specs.{declared.conditions.Conditions.Conditions, Conditions.entry_at, Conditions.condition_at, Conditions.Pushed, Conditions.LeftOfAny, Conditions.AllLeftOut, Conditions.LeftOut}
 use Rattle.step.proofs.Entries.{byte_at, declared-at}
 use Rattle.step.proofs.Holding.{Finding, held-byte, finding-next, finding-ends, next-below, next-literal, next-is}
 use Rattle.step.proofs.Conflicts.{Passed, passed-all, passed-set, passed-other, passed-pair, none-left, lowest}
@@ -16,6 +16,15 @@ clear-byte l e = grind arith
 set-byte : (facts : ℕ) (l : Literal) → facts ≤ max_facts → false ≡ is_denial l → Declared facts l → literal_byte l < 64
 set-byte facts l h e d = grind arith
 
+-- what is left of any lanes says, over the facts of the cases, what is left of some
+pub some-left :
+    (facts : ℕ) (cs : Cases) (a : Action) (alive : ℕ) (c : Conditions) (lanes : ℕ) →
+    LeftOfAny facts cs a alive c lanes → facts ≡ cs.facts → 0 < alive → LeftOut cs a alive c lanes
+some-left facts cs a alive c lanes W e any = record { hold = W.hold; among = W.among; some = W.some any; bits = rw e at W.bits }
+
+pub all-left-out : (facts : ℕ) (cs : Cases) (a : Action) (alive f : ℕ) → AllLeftOut facts cs a alive f → facts ≡ cs.facts → AllLeftOut cs.facts cs a alive f
+all-left-out facts cs a alive f W e = rw e at W
+
 module _ (facts : ℕ) (cs : Cases) (a : Action) (alive : ℕ) where
   -- all entries but the rest are held and passed, and some lanes are left, if there were any
   pub record Searching (c : Conditions) (rest : List Effect) (i lanes : ℕ) : Type 0 where
@@ -23,7 +32,7 @@ module _ (facts : ℕ) (cs : Cases) (a : Action) (alive : ℕ) where
     pub passed : Passed facts a (case_of cs) alive i c.count lanes
     pub some : 0 < alive → lanes ≡ 0 → ⊥
 
-  pub searching-ends : (c : Conditions) (rest : List Effect) (i lanes : ℕ) → Searching c rest i lanes → rest ≡ [] → LeftOut facts cs a alive c lanes
+  pub searching-ends : (c : Conditions) (rest : List Effect) (i lanes : ℕ) → Searching c rest i lanes → rest ≡ [] → LeftOfAny facts cs a alive c lanes
   searching-ends c rest i lanes S e =
       let H = finding-ends _ _ _ _ _ S.held e in
       record { hold = H; among = S.passed.among; some = S.some; bits = passed-all _ _ _ _ _ _ _ S.passed (omega (arith, H.count)) }

@@ -6,7 +6,7 @@ use Rattle.model.specs.{Case.flag, Planes.lane_bit}
 use Rattle.model.proofs.Laws.Planes.{low_bit, bit-and, bit-zero, bit-small}
 use Rattle.cases.specs.{declared.value.Value.Value, declared.cases.Cases.Cases, Cases.case_of, Cases.value_at}
 use Rattle.step.specs.{declared.conditions.Conditions.Conditions, declared.action.Hindrance.Hindrance, declared.action.Hindrance.TheVariants.Precondition, declared.action.Hindrance.TheVariants.Conflict}
-use Rattle.step.specs.{Conditions.Hold, Conditions.no_conflict, Conditions.LeftOut, Conditions.AllLeftOut, Conditions.LeavesNone, Actions.applicable_bit, Actions.Hinders, Actions.GoesOn, Actions.IsHindered}
+use Rattle.step.specs.{Conditions.Hold, Conditions.no_conflict, Conditions.LeftOfAny, Conditions.AllLeftOut, Conditions.LeavesNone, Actions.applicable_bit, Actions.Hinders, Actions.GoesOn, Actions.IsHindered}
 use Rattle.fields.specs.ActionBytes.{Rising}
 use Rattle.step.proofs.Conflicts.{sure-yes, flag-and, flag_true, flag-false, every-wider, lowest-wider}
 
@@ -75,7 +75,7 @@ module _ (c : Cases) (a : Action) (alive : ℕ) (v : Value) (x : (j : ℕ) → j
 
       -- some go on
       pub obeys-some :
-          (lanes : ℕ) (k : Conditions) (d : Cases) → LeftOut facts c a met k lanes →
+          (lanes : ℕ) (k : Conditions) (d : Cases) → LeftOfAny facts c a met k lanes →
           ((b : Action) → Hold k b.effects (case_of c) → (j : ℕ) → j < 64 → case_of d j ≡ step three c.facts b (case_of c j)) → GoesOn c a alive d lanes
       obeys-some lanes k d W S =
           record {

@@ -44,8 +44,8 @@ pub record Pushed (c : Conditions) (l : ℕ) (v : Value) (d : Conditions) : Type
 abbrev pub no_conflict : ℕ → Cases → Action → ℕ → ℕ
 no_conflict facts cs a j = flag (every facts (exclusive three a (case_of cs j)))
 
--- the action's entries are there; and some lanes of `alive` are left, if there are any: those in which no fact is in conflict
-pub record LeftOut (facts : ℕ) (cs : Cases) (a : Action) (alive : ℕ) (c : Conditions) (lanes : ℕ) : Type 0 where
+-- the action's entries are there; and the lanes that are left are those of `alive` in which no fact is in conflict: some, if there were any
+pub record LeftOfAny (facts : ℕ) (cs : Cases) (a : Action) (alive : ℕ) (c : Conditions) (lanes : ℕ) : Type 0 where
   pub hold : Hold c a.effects (case_of cs)
   pub among : lanes ≤ alive
   pub some : 0 < alive → lanes ≡ 0 → ⊥
@@ -60,7 +60,19 @@ abbrev pub LeavesNone : ℕ → Cases → Action → ℕ → Hindrance → Type 
 LeavesNone facts cs a alive Precondition = ⊥
 LeavesNone facts cs a alive (Conflict f) = AllLeftOut facts cs a alive f
 
--- what is found of an action over so many facts, in cases of any number of them
-abbrev pub Finds : ℕ → Cases → Action → ℕ → Conditions → Result ℕ Hindrance → Type 0
-Finds facts cs a alive c (Ok lanes) = LeftOut facts cs a alive c lanes
-Finds facts cs a alive c (Err h) = LeavesNone facts cs a alive h
+-- what is found of an action over so many facts, in cases of any number of them and of any lanes, none too
+abbrev pub FindsOfAny : ℕ → Cases → Action → ℕ → Conditions → Result ℕ Hindrance → Type 0
+FindsOfAny facts cs a alive c (Ok lanes) = LeftOfAny facts cs a alive c lanes
+FindsOfAny facts cs a alive c (Err h) = LeavesNone facts cs a alive h
+
+-- the action's entries are there; and some lanes of `alive` are left, those in which no fact is in conflict
+pub record LeftOut (cs : Cases) (a : Action) (alive : ℕ) (c : Conditions) (lanes : ℕ) : Type 0 where
+  pub hold : Hold c a.effects (case_of cs)
+  pub among : lanes ≤ alive
+  pub some : lanes ≡ 0 → ⊥
+  pub bits : (j : ℕ) → j < 64 → lane_bit j lanes ≡ min (lane_bit j alive) (no_conflict cs.facts cs a j)
+
+-- what is found of an action over the facts of the cases, of some lanes
+abbrev pub Finds : Cases → Action → ℕ → Conditions → Result ℕ Hindrance → Type 0
+Finds cs a alive c (Ok lanes) = LeftOut cs a alive c lanes
+Finds cs a alive c (Err h) = LeavesNone cs.facts cs a alive h

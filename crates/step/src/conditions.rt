@@ -34,7 +34,7 @@ impl Conditions {
     ghost use Rattle.model.specs.Kleene.{Kleene, three};
     ghost use Rattle.fields.specs.Actions as fields;
     ghost use Rattle.cases.specs.Cases.{case_of, value_at};
-    ghost use Rattle.step.specs.Conditions.{condition_at, Hold, Pushed, Finds};
+    ghost use Rattle.step.specs.Conditions.{condition_at, Hold, Pushed, FindsOfAny, Finds};
 
     // The entries of an action, in any version: two a fact.
     const MOST: usize = 128;
@@ -69,7 +69,8 @@ impl Conditions {
     #[inline(always)]
     pub fn find(&mut self, action: Action, cases: &Cases, alive: u64) -> Result<u64, Hindrance>
         ensures facts { self.new.facts ≡ action.entry.effects.facts }
-        ensures finds { Finds action.entry.effects.facts cases.now (fields.action action.entry) alive self.new result }
+        ensures finds { FindsOfAny action.entry.effects.facts cases.now (fields.action action.entry) alive self.new result }
+        ensures some { action.entry.effects.facts ≡ cases.now.facts → 0 < alive → Finds cases.now (fields.action action.entry) alive self.new result }
     {
         self.facts = action.effects.facts;
         self.count = 0;

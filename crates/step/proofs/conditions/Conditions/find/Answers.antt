@@ -3,7 +3,7 @@ use Rattle.fields.specs.{Actions.effects, declared.actions.Effects.Effects as Vi
 use Rattle.fields.proofs.FirstEffect.{effects-rise, length-effects}
 use Rattle.step.proofs.Holding.{next-declared, next-rises, next-below}
 use Rattle.step.proofs.Conflicts.{passed-none}
-use Rattle.step.proofs.Finding.{searching-ends, turn-ends, turn-sets, turn-set, turn-clears, turn-pair, turn-stops}
+use Rattle.step.proofs.Finding.{some-left, all-left-out, searching-ends, turn-ends, turn-sets, turn-set, turn-clears, turn-pair, turn-stops}
 use Rattle.step.proofs.conditions.Conditions.find.Goals.{then-is_denial+then-i-self+then-self-i-2+else-lanes-eq0, then-is_denial+else-i-self, else-is_denial, then-loop-i-test+else-self-i, else-loop-i-test, else-i-self-via-then-i-self+else-self-i-2, else-i-self-via-else-i-self}
 use Rattle.step.proofs.conditions.Conditions.find.Goals as goal
 
@@ -43,6 +43,9 @@ returns-then-lanes-eq0-clause-finds c =
     turn-stops _ c.args.cases.now _ _ few _ _ S.held c.in-Some.effect _ c.in-Some.ensures.steps c.evaluate-value.result c.evaluate-value.ensures _ _ c.loop-i.invariant S.some c.if-is_denial.ensures _
     c.fact-fact.ensures.is c.if-i-self.true c.if-self-i-2.true c.condition.result c.bitand.result c.not-exclusive.result c.condition.ensures c.bitand.ensures c.not-exclusive.ensures c.if-lanes-eq0.true
 
+pub returns-then-lanes-eq0-clause-some : goal.returns-then-lanes-eq0-clause-some
+returns-then-lanes-eq0-clause-some c = λ same any. all-left-out _ c.args.cases.now _ _ _ (returns-then-lanes-eq0-clause-finds c) same
+
 pub loop-effect-preserved : goal.loop-effect-preserved
 loop-effect-preserved c =
     let few = c.args.action.effects.few_facts in
@@ -67,3 +70,6 @@ loop-effect-preserved c =
 
 pub returns-clause-finds : goal.returns-clause-finds
 returns-clause-finds c = searching-ends _ _ _ _ _ _ _ _ c.loop-effect.invariant c.in-None.ensures.steps.0
+
+pub returns-clause-some : goal.returns-clause-some
+returns-clause-some c = some-left _ c.args.cases.now _ _ _ _ (returns-clause-finds c)
