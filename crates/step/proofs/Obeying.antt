@@ -6,7 +6,7 @@ use Rattle.model.specs.{Case.flag, Planes.lane_bit}
 use Rattle.model.proofs.Laws.Planes.{low_bit, bit-and, bit-zero, bit-small}
 use Rattle.cases.specs.{declared.value.Value.Value, declared.cases.Cases.Cases, Cases.case_of, Cases.value_at}
 use Rattle.step.specs.{declared.conditions.Conditions.Conditions, declared.action.Hindrance.Hindrance, declared.action.Hindrance.TheVariants.Precondition, declared.action.Hindrance.TheVariants.Conflict}
-use Rattle.step.specs.{Conditions.Hold, Conditions.no_conflict, Conditions.LeftOfAny, Conditions.AllLeftOut, Conditions.LeavesNone, Actions.applicable_bit, Actions.Hinders, Actions.GoesOn, Actions.IsHindered}
+use Rattle.step.specs.{Conditions.Hold, Conditions.no_conflict, Conditions.LeftOfAny, Conditions.LeftOut, Conditions.AllLeftOut, Conditions.LeavesNone, Actions.applicable_bit, Actions.Hinders, Actions.GoesOn, Actions.IsHindered}
 use Rattle.fields.specs.ActionBytes.{Rising}
 use Rattle.step.proofs.Conflicts.{sure-yes, flag-and, flag_true, flag-false, every-wider, lowest-wider}
 
@@ -69,18 +69,35 @@ module _ (c : Cases) (a : Action) (alive : ℕ) (v : Value) (x : (j : ℕ) → j
                 (h.0, h.1 ∙ lowest-wider facts c.facts few a ok (case_of c 0) (flag-false _ found));
           }
 
-      pub obeys-left : (h : Hindrance) → LeavesNone facts c a met h → IsHindered c a alive c h
-      obeys-left Precondition W = absurd W
-      obeys-left (Conflict f) W = obeys-conflict f W
+      pub obeys-left-over : (h : Hindrance) → LeavesNone facts c a met h → IsHindered c a alive c h
+      obeys-left-over Precondition W = absurd W
+      obeys-left-over (Conflict f) W = obeys-conflict f W
 
       -- some go on
-      pub obeys-some :
+      pub obeys-some-over :
           (lanes : ℕ) (k : Conditions) (d : Cases) → LeftOfAny facts c a met k lanes →
           ((b : Action) → Hold k b.effects (case_of c) → (j : ℕ) → j < 64 → case_of d j ≡ step three c.facts b (case_of c j)) → GoesOn c a alive d lanes
-      obeys-some lanes k d W S =
+      obeys-some-over lanes k d W S =
           record {
             among = omega (arith, W.among, and_le_l alive v.sure);
             some = W.some some;
             bits = λ j l. W.bits j l ∙ sym (left-bit j l);
             cases = S a W.hold;
           }
+
+  -- over the facts of the cases, of any action
+  pub obeys-left : 0 < met → (h : Hindrance) → LeavesNone c.facts c a met h → IsHindered c a alive c h
+  obeys-left some Precondition W = absurd W
+  obeys-left some (Conflict f) W =
+      record { kept = refl; none = λ j l. applicable-bit j l ∙ W.bits j l; hinders = left-hinders some c.facts (Conflict f) W }
+
+  pub obeys-some :
+      (lanes : ℕ) (k : Conditions) (d : Cases) → LeftOut c a met k lanes →
+      ((b : Action) → Hold k b.effects (case_of c) → (j : ℕ) → j < 64 → case_of d j ≡ step three c.facts b (case_of c j)) → GoesOn c a alive d lanes
+  obeys-some lanes k d W S =
+      record {
+        among = omega (arith, W.among, and_le_l alive v.sure);
+        some = W.some;
+        bits = λ j l. W.bits j l ∙ sym (applicable-bit j l);
+        cases = S a W.hold;
+      }
