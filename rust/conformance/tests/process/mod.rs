@@ -3,7 +3,9 @@
 use std::fs::{self, File};
 use std::io;
 use std::path::{Path, PathBuf};
-use std::process::{Command, Stdio};
+use std::process::{Child, Command, Stdio};
+use std::thread;
+use std::time::Duration;
 
 /// The folder of the whole project.
 pub fn project() -> PathBuf {
@@ -59,7 +61,7 @@ pub fn ran_into(output: Stdio, command: &mut Command) -> Ran {
         .stdin(Stdio::null())
         .stdout(output)
         .stderr(Stdio::piped());
-    let run = command.spawn().and_then(|child| child.wait_with_output());
+    let run = started(command).and_then(|child| child.wait_with_output());
     let run = run.unwrap_or_else(|error| panic!("{command:?} can't be run: {error}"));
     let error = String::from_utf8(run.stderr).expect("errors are told in UTF-8");
     let Some(status) = run.status.code() else {
@@ -70,6 +72,21 @@ pub fn ran_into(output: Stdio, command: &mut Command) -> Ran {
         output: run.stdout,
         error,
     }
+}
+
+/// Starts a command. A program that a test has just written is busy for a moment where
+/// another test, in a thread beside it, is starting one too: the other's child has the file
+/// open until its own program begins. So a busy one is tried again, for five seconds.
+pub fn started(command: &mut Command) -> io::Result<Child> {
+    for _ in 0..500 {
+        match command.spawn() {
+            Err(error) if error.kind() == io::ErrorKind::ExecutableFileBusy => {
+                thread::sleep(Duration::from_millis(10));
+            }
+            started => return started,
+        }
+    }
+    command.spawn()
 }
 
 /// A file on a disk that has no room.

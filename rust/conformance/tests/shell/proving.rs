@@ -8,7 +8,7 @@ use std::path::{Path, PathBuf};
 use std::process::{self, Command, Stdio};
 
 use super::desk::{of_project, one_line, said};
-use crate::process::{file, ran, Ran};
+use crate::process::{file, ran, started, Ran};
 
 /// Notes the crate, fails where it is the one that is to fail, and makes what is asked for.
 const RATTLE: &str = "#!/bin/sh
@@ -189,7 +189,7 @@ fn two_at_once() {
     let start = || {
         let mut command = project.command(&["top"]);
         let quiet = command.stdout(Stdio::null()).stderr(Stdio::null());
-        quiet.spawn().expect("it can be run")
+        started(quiet).expect("it can be run")
     };
     for mut child in [start(), start(), start()] {
         assert!(child.wait().expect("it ends").success());
