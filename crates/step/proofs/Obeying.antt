@@ -52,40 +52,7 @@ module _ (c : Cases) (a : Action) (alive : ℕ) (v : Value) (x : (j : ℕ) → j
         let bit : lane_bit 0 v.sure ≡ 1 = sym (lane-0 alive v.sure one) ∙ met-first one in
         (flag_true _ (λ z. omega (arith, bit, z, holds-bit 0 (omega arith))), W.lowest (met-alone one))
 
-    -- and the cases have these facts
-    module _ (few : facts ≤ c.facts) (ok : Rising facts 0 a.effects) where
-      left-bit : (j : ℕ) → j < 64 → applicable_bit c a alive j ≡ min (lane_bit j met) (no_conflict facts c a j)
-      left-bit j l = applicable-bit j l ∙ ap (λ b. min (lane_bit j met) (flag b)) (every-wider facts c.facts few a ok (case_of c j))
-
-      obeys-conflict : (f : ℕ) → AllLeftOut facts c a met f → IsHindered c a alive c (Conflict f)
-      obeys-conflict f W =
-          record {
-            kept = refl;
-            none = λ j l. left-bit j l ∙ W.bits j l;
-            hinders =
-                λ one.
-                let h = left-hinders (Conflict f) W one in
-                let found : no_conflict facts c a 0 ≡ 0 = omega (arith, W.bits 0 (omega arith), met-first one) in
-                (h.0, h.1 ∙ lowest-wider facts c.facts few a ok (case_of c 0) (flag-false _ found));
-          }
-
-      pub obeys-left-over : (h : Hindrance) → LeavesNone facts c a met h → IsHindered c a alive c h
-      obeys-left-over Precondition W = absurd W
-      obeys-left-over (Conflict f) W = obeys-conflict f W
-
-      -- some go on
-      pub obeys-some-over :
-          (lanes : ℕ) (k : Conditions) (d : Cases) → LeftOfAny facts c a met k lanes →
-          ((b : Action) → Hold k b.effects (case_of c) → (j : ℕ) → j < 64 → case_of d j ≡ step three c.facts b (case_of c j)) → GoesOn c a alive d lanes
-      obeys-some-over lanes k d W S =
-          record {
-            among = omega (arith, W.among, and_le_l alive v.sure);
-            some = W.some some;
-            bits = λ j l. W.bits j l ∙ sym (left-bit j l);
-            cases = S a W.hold;
-          }
-
-  -- over the facts of the cases, of any action
+  -- over the facts of the cases
   pub obeys-left : 0 < met → (h : Hindrance) → LeavesNone c.facts c a met h → IsHindered c a alive c h
   obeys-left some Precondition W = absurd W
   obeys-left some (Conflict f) W =
@@ -101,3 +68,28 @@ module _ (c : Cases) (a : Action) (alive : ℕ) (v : Value) (x : (j : ℕ) → j
         bits = λ j l. W.bits j l ∙ sym (applicable-bit j l);
         cases = S a W.hold;
       }
+
+  -- over no more facts than the cases have: the others, which no entry names, are in no conflict
+  module _ (some : 0 < met) (facts : ℕ) (few : facts ≤ c.facts) (ok : Rising facts 0 a.effects) where
+    same-lanes : (j : ℕ) → min (lane_bit j met) (no_conflict facts c a j) ≡ min (lane_bit j met) (no_conflict c.facts c a j)
+    same-lanes j = ap (λ b. min (lane_bit j met) (flag b)) (sym (every-wider facts c.facts few a ok (case_of c j)))
+
+    same-conflict : (f : ℕ) → AllLeftOut facts c a met f → AllLeftOut c.facts c a met f
+    same-conflict f W =
+        record {
+          bits = λ j l. sym (same-lanes j) ∙ W.bits j l;
+          lowest =
+              λ one.
+              let found : no_conflict facts c a 0 ≡ 0 = omega (arith, W.bits 0 (omega arith), ap (lane_bit 0) one ∙ low_bit 1) in
+              W.lowest one ∙ lowest-wider facts c.facts few a ok (case_of c 0) (flag-false _ found);
+        }
+
+    pub obeys-left-of-fewer : (h : Hindrance) → LeavesNone facts c a met h → IsHindered c a alive c h
+    obeys-left-of-fewer Precondition W = absurd W
+    obeys-left-of-fewer (Conflict f) W = obeys-left some (Conflict f) (same-conflict f W)
+
+    pub obeys-some-of-fewer :
+        (lanes : ℕ) (k : Conditions) (d : Cases) → LeftOfAny facts c a met k lanes →
+        ((b : Action) → Hold k b.effects (case_of c) → (j : ℕ) → j < 64 → case_of d j ≡ step three c.facts b (case_of c j)) → GoesOn c a alive d lanes
+    obeys-some-of-fewer lanes k d W =
+        obeys-some lanes k d (record { hold = W.hold; among = W.among; some = W.some some; bits = λ j l. W.bits j l ∙ same-lanes j })

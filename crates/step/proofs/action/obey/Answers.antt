@@ -3,7 +3,7 @@ use Rattle.std.proofs.lemmas.Nat.{and_le_l}
 use Rattle.std.proofs.lemmas.Result.{err_from_is_err_and}
 use Rattle.fields.specs.Actions.{action}
 use Rattle.fields.proofs.FirstEffect.{effects-rise}
-use Rattle.step.proofs.Obeying.{unmet-hinders, obeys-none, left-hinders, obeys-left-over, obeys-some-over}
+use Rattle.step.proofs.Obeying.{unmet-hinders, obeys-none, left-hinders, obeys-left-of-fewer, obeys-some-of-fewer}
 use Rattle.step.proofs.action.obey.Goals as goal
 
 -- ---- no lane meets the precondition
@@ -29,7 +29,7 @@ returns-in_err-lanes-clause-obeys c =
     let es = c.args.action.effects in
     let ok = effects-rise es.facts es.few_facts 0 es.count es.bytes.now es.sound in
     let p = err_from_is_err_and c.from_residual.result c.from_residual.ensures.1 in
-    λ few. rw (p.1, p.2) (obeys-left-over _ _ _ c.evaluate.result c.evaluate.ensures (omega arith) es.facts few ok _ c.in_err-lanes.ensures.finds)
+    λ few. rw (p.1, p.2) (obeys-left-of-fewer _ _ _ c.evaluate.result c.evaluate.ensures (omega arith) es.facts few ok _ c.in_err-lanes.ensures.finds)
 
 -- ---- some go on
 
@@ -41,5 +41,5 @@ returns-clause-obeys c =
     let es = c.args.action.effects in
     let ok = effects-rise es.facts es.few_facts 0 es.count es.bytes.now es.sound in
     λ few.
-    obeys-some-over _ _ _ c.evaluate.result c.evaluate.ensures (omega arith) es.facts few ok _ _ _ c.in_ok-lanes.ensures.finds
+    obeys-some-of-fewer _ _ _ c.evaluate.result c.evaluate.ensures (omega arith) es.facts few ok _ _ _ c.in_ok-lanes.ensures.finds
     (c.settle.ensures.steps (omega (arith, c.in_ok-lanes.ensures.facts)))
